@@ -14,13 +14,12 @@ use Rattle.lane_ends.specs.declared.packet.DllpKind.{DllpKind}
 use Rattle.dllp_core.specs.declared.packet.Dllp.{Dllp}
 use Rattle.lane_ends.specs.Steps.{LaneEndsView, ReceiverEndView, SenderEndView, all_but_first, transmitted, delivered, after_deliver, after_transmission, wire_after_transmit, dllp_of, after_send, wire_after_send, dllp_seen, sender_after, after_timer, after_retraining}
 use Rattle.fabric_laws.specs.Fabric.{Fabric}
-use Rattle.fabric_events.specs.declared.event.Event.{Event}
-use Rattle.fabric_events.specs.declared.event.Event.TheVariants as events
+use Rattle.fabric_events.specs.Events.{Event, Seen}
+use Rattle.fabric_events.specs.declared.event.EventOf.TheVariants as events
 use Rattle.fabric_events.specs.declared.event.LaneName.{LaneName}
 use Rattle.fabric_events.specs.declared.event.LinkEvent.{LinkEvent}
 use Rattle.fabric_events.specs.declared.event.LinkEvent.TheVariants as links
-use Rattle.fabric_events.specs.declared.event.Seen.{Seen}
-use Rattle.fabric_events.specs.declared.event.Seen.TheVariants as seen
+use Rattle.fabric_events.specs.declared.event.SeenOf.TheVariants as seen
 use Rattle.fabric_core.specs.declared.fault.Refusal.TheVariants as refusals
 use Rattle.fabric_core.specs.Answers.{and_then, map_ok, map_err, some_or, transmit_on, deliver_on, deliver_dllp_on, with_lane, link_on, link_at, answer}
 use Rattle.fabric_core.specs.Answers as parts

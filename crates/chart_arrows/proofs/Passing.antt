@@ -19,11 +19,11 @@ use Rattle.lane_ends.specs.Content.{cargo_of, item_spelled}
 use Rattle.lane_ends.specs.Steps.{LaneEndsView, ReceiverEndView, SenderEndView, entered as entered_at, after_take}
 use Rattle.fabric_laws.specs.Fabric.{Fabric}
 use Rattle.fabric_laws.specs.Routed.{IsRouted}
-use Rattle.fabric_events.specs.declared.event.Event.TheVariants as events
+use Rattle.fabric_events.specs.declared.event.EventOf.TheVariants as events
 use Rattle.fabric_events.specs.declared.event.LaneName.{LaneName}
 use Rattle.fabric_events.specs.declared.event.LaneName.TheVariants as lanes
-use Rattle.fabric_events.specs.declared.event.Seen.{Seen}
-use Rattle.fabric_events.specs.declared.event.Seen.TheVariants as seen
+use Rattle.fabric_events.specs.Events.{Seen}
+use Rattle.fabric_events.specs.declared.event.SeenOf.TheVariants as seen
 use Rattle.fabric_core.specs.declared.fault.Refusal.{Refusal}
 use Rattle.fabric_core.specs.declared.fault.Refusal.TheVariants as refusals
 use Rattle.fabric_core.specs.Answers.{map_err, some_or, enter_on, item_at, submit_on, forward_on, collect_on, part_at, with_lane, with_requester, or_no_port, port_from, forward_to, destination_on, answer, SubmitFits, ForwardFits}

@@ -2,8 +2,7 @@
 ghost use Rattle.std.specs.Prelude.{ℕ, List, Option};
 ghost use Rattle.fabric_laws.specs.Fabric.{Fabric};
 ghost use Rattle.fabric_core.specs.declared.config.Config.{Config};
-ghost use Rattle.fabric_events.specs.declared.event.Event.{Event};
-ghost use Rattle.fabric_events.specs.declared.event.Seen.{Seen};
+ghost use Rattle.fabric_events.specs.Events.{Event, Seen};
 ghost use Rattle.fabric_core.specs.Answers.{Happens};
 ghost use Rattle.fabric_core.specs.Config.{IsNewWith};
 ghost use Rattle.fabric_core.specs.Kept.{IsSoundFabric};

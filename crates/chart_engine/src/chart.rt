@@ -6,12 +6,9 @@ ghost use Rattle.fabric_core.specs.Answers.{answer};
 ghost use Rattle.fabric_answers.specs.Told.{IsTold};
 ghost use Rattle.fabric_core.specs.Config.{fault_name};
 ghost use Rattle.script_text.specs.Names.{refusal_text};
-ghost use Rattle.line_loop.specs.Run.{IsAnswer, IsWhole, IsPart};
+ghost use Rattle.line_loop.specs.Run.{IsAnswer};
 ghost use Rattle.chart_engine.specs.Chart as spec;
-ghost use Rattle.chart_engine.specs.Chart.{WritesDocument, out_chart};
-ghost use Rattle.chart_engine.specs.Events.{WritesEvents};
 
-use crate::laws::{charts_are_well_formed, charts_show_what_happened};
 use crate::making::{is_no_memory, make};
 use crate::witness::ChartWitness;
 use arrayvec::ArrayString;
@@ -19,11 +16,10 @@ use chart_links::ChartWindow;
 use chart_page::put_title_chart;
 use fabric_core::{Config, ConfigFault, Event, Fabric, Refusal};
 use fabric_settle::{happen, settle};
-use line_loop::{EngineFault, Responder, Verdict, run};
+use line_loop::{Responder, Verdict};
 use operation_text::write_decimal;
 use script_text::{Line, read_line, write_config_fault, write_refusal};
 use std::alloc::{AllocError, Global};
-use std::io::{Read, Write};
 use std::marker::Model;
 use std::mem;
 use text_lines::is_skipped;
@@ -37,7 +33,7 @@ pub(crate) struct Session {
 
 /// A script that is run line by line, and then charted.
 #[derive(Drop)]
-struct Charter {
+pub(crate) struct Charter {
     alloc: Global,
     window: ChartWindow,
     session: Option<Session>,
@@ -96,7 +92,7 @@ fn happen_charted(
     ensures chart { OnOk result (chart.new ≡ (spec.left_by line (spec.session fabric.old chart.old) event (answer fabric.old event)).chart) }
     ensures refusal { IfOk result (λ r. r ≡ spec.refusal_in (answer fabric.old event)) }
 {
-    match happen(fabric, chart, line, event.lent()) {
+    match happen(fabric, chart, line, &event.lend()) {
         Ok(()) => Ok(None),
         Err(refusal) => {
             tell_refused(chart, line, event, refusal, fabric)?;
@@ -106,7 +102,7 @@ fn happen_charted(
 }
 
 impl Charter {
-    fn new(alloc: Global, window: ChartWindow) -> Charter
+    pub(crate) fn new(alloc: Global, window: ChartWindow) -> Charter
         ensures { result ≡ spec.new_script window }
     {
         Charter {
@@ -115,6 +111,24 @@ impl Charter {
             session: None,
             lines: 0,
             ending: None,
+        }
+    }
+
+    /// How many lines were read until the end of the run.
+    pub(crate) fn lines(&self) -> u64 {
+        self.lines
+    }
+
+    /// Whether there is a fabric.
+    pub(crate) fn has_fabric(&self) -> bool {
+        self.session.is_some()
+    }
+
+    /// The line that tells what ended the run, nothing before that.
+    pub(crate) fn ending(&self) -> &str {
+        match &self.ending {
+            Some(line) => line.as_str(),
+            None => "",
         }
     }
 
@@ -288,31 +302,4 @@ impl Responder for Charter {
         put_text(self.alloc, session, &self.ending, out)?;
         Ok(Verdict::Fine)
     }
-}
-
-/// Reads a script as `step` does, and writes a chart of what happened on the links of its fabric in SVG: the events of
-/// the window, 1,000 at most, with step lines if it has levels. Above it stands the line of the fault or the refusal
-/// that ended the run, in red, or that the script ran to its end. `Ok` is the exit status, 1 where a fault or a refusal
-/// ended the run. After an `Err` what was written is a beginning of the whole output.
-pub fn run_chart<R: Read, W: Write>(
-    alloc: Global,
-    window: ChartWindow,
-    reader: &mut R,
-    writer: &mut W,
-) -> Result<u8, EngineFault>
-    ensures ok { IfOk result (IsWhole (out_chart window) (R.remaining reader.old) (R.remaining reader.new) (W.contents writer.old) (W.contents writer.new)) }
-    ensures err { OnErr result (IsPart (out_chart window) (R.remaining reader.old) (R.remaining reader.new) (W.contents writer.old) (W.contents writer.new)) }
-
-    // Whatever the input is, what is written is a well-formed document of XML.
-    ensures document { OnOk result (WritesDocument (W.contents writer.old) (W.contents writer.new)) }
-
-    // It is the chart of events that happened one after the other to a new fabric, and perhaps of one refused last. Its
-    // step lines have the levels of the fabric after the event of each row.
-    ensures events { OnOk result (WritesEvents window (W.contents writer.old) (W.contents writer.new)) }
-{
-    let charter = Charter::new(alloc, window);
-    let status = run(alloc, charter, reader, writer)?;
-    charts_are_well_formed();
-    charts_show_what_happened();
-    Ok(status)
 }

@@ -1,11 +1,10 @@
 //! The chart as a witness of a fabric's events.
 ghost use Rattle.std.specs.Prelude.{◌≡◌, ◌++◌, IfOk, OnOk, OnErr};
-ghost use Rattle.fabric_events.specs.Lent.{owned_event, owned_seen};
 ghost use Rattle.chart_engine.specs.Chart as spec;
 
 use chart_levels::{StepLine, show_all};
 use chart_links::{Chart, ChartWindow, new_lines};
-use fabric_core::{Event, EventForm, Fabric, Refusal, SeenForm};
+use fabric_core::{Event, EventRef, Fabric, Refusal, SeenRef};
 use fabric_settle::Witness;
 use std::alloc::{AllocError, Global};
 use std::marker::Model;
@@ -53,11 +52,11 @@ impl ChartWitness {
     fn event(
         &mut self,
         line: u64,
-        event: EventForm<'_>,
-        seen: &SeenForm<'_>,
+        event: &EventRef<'_>,
+        seen: &SeenRef<'_>,
         fabric: &Fabric,
     ) -> Result<(), AllocError>
-        ensures { OnOk result (self.new ≡ spec.witnessed self.old line (owned_event event.entry) (owned_seen seen.now) fabric.now) }
+        ensures { OnOk result (self.new ≡ spec.witnessed self.old line event.now seen.now fabric.now) }
     {
         let row = self.chart.event(line, event.to_owned(), seen.to_owned())?;
         show_row(row, fabric, &mut self.lines)
@@ -103,15 +102,15 @@ impl Witness for ChartWitness {
 
     ghost may_lose = { Always };
 
-    fn make_room(&mut self, _event: EventForm<'_>) -> Result<(), AllocError> {
+    fn make_room(&mut self, _event: &EventRef<'_>) -> Result<(), AllocError> {
         Ok(())
     }
 
     fn saw(
         &mut self,
         line: u64,
-        event: EventForm<'_>,
-        seen: &SeenForm<'_>,
+        event: &EventRef<'_>,
+        seen: &SeenRef<'_>,
         fabric: &Fabric,
     ) -> Result<(), AllocError> {
         self.event(line, event, seen, fabric)

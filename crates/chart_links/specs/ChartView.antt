@@ -1,7 +1,6 @@
 -- What happened on the links of a fabric so far, as a chart.
 use Rattle.std.specs.Prelude.{ℕ, ◌+◌, ◌-◌, ◌^◌, min, List, [], ◌∷◌, ◌++◌, length, replicate, Option, Some, None, Result, Ok, Err}
-use Rattle.fabric_events.specs.declared.event.Event.{Event}
-use Rattle.fabric_events.specs.declared.event.Seen.{Seen}
+use Rattle.fabric_events.specs.Events.{Event, Seen}
 use Rattle.fabric_events.specs.declared.event.LaneName.{LaneName}
 use Rattle.fabric_core.specs.declared.fault.Refusal.{Refusal}
 use Rattle.chart_rows.specs.declared.row.Row.{Row}

@@ -5,12 +5,11 @@ use Rattle.lane_ends.specs.declared.packet.Fate.{Fate}
 use Rattle.lane_ends.specs.declared.packet.Arrival.{Arrival}
 use Rattle.lane_ends.specs.declared.packet.Arrival.TheVariants as arrivals
 use Rattle.link_receiver.specs.declared.receiver.Reception.TheVariants as receptions
-use Rattle.fabric_events.specs.declared.event.Event.{Event}
-use Rattle.fabric_events.specs.declared.event.Event.TheVariants as events
+use Rattle.fabric_events.specs.Events.{Event, Seen}
+use Rattle.fabric_events.specs.declared.event.EventOf.TheVariants as events
 use Rattle.fabric_events.specs.declared.event.LaneName.{LaneName}
 use Rattle.fabric_events.specs.declared.event.LaneName.TheVariants as lanes
-use Rattle.fabric_events.specs.declared.event.Seen.{Seen}
-use Rattle.fabric_events.specs.declared.event.Seen.TheVariants as seen
+use Rattle.fabric_events.specs.declared.event.SeenOf.TheVariants as seen
 use Rattle.chart_rows.specs.declared.row.Kind.{Kind}
 use Rattle.chart_rows.specs.declared.row.Kind.TheVariants as requests
 use Rattle.chart_rows.specs.declared.row.Carried.{Carried}

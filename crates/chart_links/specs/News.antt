@@ -4,11 +4,10 @@ use Rattle.dllp_core.specs.declared.packet.Dllp.{Dllp}
 use Rattle.dllp_core.specs.declared.packet.Dllp.TheVariants as dllps
 use Rattle.lane_ends.specs.declared.packet.DllpSeen.{DllpSeen}
 use Rattle.lane_ends.specs.declared.packet.DllpSeen.TheVariants as dllps_seen
-use Rattle.fabric_events.specs.declared.event.Event.{Event}
-use Rattle.fabric_events.specs.declared.event.Event.TheVariants as events
+use Rattle.fabric_events.specs.Events.{Event, Seen}
+use Rattle.fabric_events.specs.declared.event.EventOf.TheVariants as events
 use Rattle.fabric_events.specs.declared.event.LaneName.{LaneName}
-use Rattle.fabric_events.specs.declared.event.Seen.{Seen}
-use Rattle.fabric_events.specs.declared.event.Seen.TheVariants as seen
+use Rattle.fabric_events.specs.declared.event.SeenOf.TheVariants as seen
 use Rattle.chart_rows.specs.declared.row.DllpSent.{DllpSent}
 use Rattle.chart_links.specs.declared.limits.Limit.{Limit}
 use Rattle.chart_links.specs.CourseView.{CourseView, limit, limit_of, oldest_back}

@@ -261,7 +261,7 @@ fn write_outcome(event: &Event, outcome: &Result<Seen, Refusal>, text: &mut Arra
     ensures { text.new.bytes ≡ said.outcome_words event.now outcome.now }
 {
     match outcome {
-        Ok(seen) => write_seen(event, seen, text),
+        Ok(seen) => write_seen(&event.lend(), &seen.lend(), text),
         Err(refusal) => {
             text.push_str("refused ");
             write_refusal(refusal, text);

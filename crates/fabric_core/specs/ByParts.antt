@@ -17,14 +17,13 @@ use Rattle.switch_core.specs.Forwarding.{Forwards}
 use Rattle.lane_ends.specs.Steps.{LaneEndsView, ReceiverEndView, SenderEndView, may_enter, entered, transmitted, delivered, dllp_of, dllp_seen, after_take}
 use Rattle.lane_core.specs.Calls.{Call, Transmit, Deliver, SendDllp, DeliverDllp, Timer, Retrained, after_call}
 use Rattle.fabric_laws.specs.Fabric.{Fabric}
-use Rattle.fabric_events.specs.declared.event.Event.{Event}
-use Rattle.fabric_events.specs.declared.event.Event.TheVariants as events
+use Rattle.fabric_events.specs.Events.{Event, Seen}
+use Rattle.fabric_events.specs.declared.event.EventOf.TheVariants as events
 use Rattle.fabric_events.specs.declared.event.LaneName.{LaneName}
 use Rattle.fabric_events.specs.declared.event.LaneName.TheVariants as lanes
 use Rattle.fabric_events.specs.declared.event.LinkEvent.{LinkEvent}
 use Rattle.fabric_events.specs.declared.event.LinkEvent.TheVariants as links
-use Rattle.fabric_events.specs.declared.event.Seen.{Seen}
-use Rattle.fabric_events.specs.declared.event.Seen.TheVariants as seen
+use Rattle.fabric_events.specs.declared.event.SeenOf.TheVariants as seen
 use Rattle.fabric_core.specs.Steps.{HasPart}
 
 -- ---- a packet enters a lane

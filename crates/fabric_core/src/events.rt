@@ -9,13 +9,12 @@ ghost use Rattle.completer_core.specs.Serving.{completion_to, after_serving};
 ghost use Rattle.lane_ends.specs.Steps.{may_enter, with_room, after_timer, after_retraining, transmitted, after_transmission, wire_after_transmit, all_but_first, delivered, after_deliver, dllp_of, after_send, wire_after_send, dllp_seen, sender_after};
 ghost use Rattle.lane_ends.specs.Refusals.{LacksRoom};
 ghost use Rattle.switch_core.specs.Forwarding.{Forwards};
-ghost use Rattle.fabric_events.specs.Lent.{owned_seen};
 ghost use Rattle.fabric_core.specs.Answers.{Refuses, lane_grows, arrival_grows, serving_grows, enter_on, transmit_on, deliver_on, send_dllp_on, deliver_dllp_on, timer_on, retrained_on, submit_on, destination_on, forward_on, act_on, serve_on, collect_on, link_on, link_grows, SubmitFits, ForwardFits, ServeFits, ActFits};
 
 use crate::fault::Refusal;
 use completer_core::{need_for, serve_op};
 use dllp_core::Dllp;
-use fabric_events::{LinkEvent, SeenForm};
+use fabric_events::{LinkEvent, SeenRef};
 use fc_credit::Need;
 use lane_core::{
     Arrival, BackWire, DllpKind, DllpSeen, Fate, ForwardWire, LaneEnds, LaneRefusal, ReceiverEnd,
@@ -163,26 +162,26 @@ pub fn retrained(sender: &mut SenderEnd) -> Result<(), Refusal>
 }
 
 /// A call of the link, and what is seen of it.
-pub(crate) fn link(lane: &mut LaneEnds, event: LinkEvent) -> Result<SeenForm<'static>, Refusal>
-    ensures answers { IfOk result (λ what. link_on lane.old event ≡ Ok (owned_seen what, lane.new)) }
+pub(crate) fn link(lane: &mut LaneEnds, event: LinkEvent) -> Result<SeenRef<'static>, Refusal>
+    ensures answers { IfOk result (λ what. link_on lane.old event ≡ Ok (what, lane.new)) }
     ensures refuses { IfErr result (λ r. Refuses (λ x. link_grows x.0) (link_on lane.old event) r) }
     ensures err { OnErr result (lane.new ≡ lane.old) }
 {
     match event {
-        LinkEvent::Transmit => Ok(SeenForm::Sent(transmit(&mut lane.sender, &mut lane.forward)?)),
+        LinkEvent::Transmit => Ok(SeenRef::Sent(transmit(&mut lane.sender, &mut lane.forward)?)),
         LinkEvent::Deliver(fate) => {
-            Ok(SeenForm::Delivered(deliver(&mut lane.forward, &mut lane.receiver, fate)?))
+            Ok(SeenRef::Delivered(deliver(&mut lane.forward, &mut lane.receiver, fate)?))
         }
         LinkEvent::SendDllp(kind) => {
-            Ok(SeenForm::SentDllp(send_dllp(&mut lane.receiver, &mut lane.back, kind)?))
+            Ok(SeenRef::SentDllp(send_dllp(&mut lane.receiver, &mut lane.back, kind)?))
         }
         LinkEvent::DeliverDllp(fate) => {
-            Ok(SeenForm::SeenDllp(deliver_dllp(&mut lane.back, &mut lane.sender, fate)?))
+            Ok(SeenRef::SeenDllp(deliver_dllp(&mut lane.back, &mut lane.sender, fate)?))
         }
-        LinkEvent::Timer => Ok(SeenForm::Back(timer(&mut lane.sender)?)),
+        LinkEvent::Timer => Ok(SeenRef::Back(timer(&mut lane.sender)?)),
         LinkEvent::Retrained => {
             retrained(&mut lane.sender)?;
-            Ok(SeenForm::Retrained)
+            Ok(SeenRef::Retrained)
         }
     }
 }

@@ -5,7 +5,7 @@ ghost use Rattle.std.specs.Result.{result_ok};
 use crate::config::Config;
 use crate::events;
 use crate::fault::Refusal;
-use fabric_events::{EventForm, LaneName, LinkEvent, SeenForm};
+use fabric_events::{AnswerLent, EventRef, LaneName, LinkEvent, SeenRef};
 use fc_credit::LaneCredits;
 use lane_core::LaneEnds;
 use requester_core::{Answer, Requester};
@@ -42,9 +42,8 @@ impl Model for Parts {
 
 ghost use Rattle.requester_core.specs.RequesterView.{RequesterView};
 ghost use Rattle.lane_ends.specs.Steps.{LaneEndsView, IsShort};
-ghost use Rattle.fabric_events.specs.declared.event.Event.TheVariants as Event;
-ghost use Rattle.fabric_events.specs.declared.event.Seen.TheVariants as Seen;
-ghost use Rattle.fabric_events.specs.Lent.{owned_event, owned_seen};
+ghost use Rattle.fabric_events.specs.declared.event.EventOf.TheVariants as Event;
+ghost use Rattle.fabric_events.specs.declared.event.SeenOf.TheVariants as Seen;
 ghost use Rattle.fabric_core.specs.Answers.{Refuses, link_grows, part_at, lane_at, link_at, submit_at, forward_at, serve_at, collect_at, SubmitFits, ForwardFits, ServeFits, Happens, Refused};
 ghost use Rattle.fabric_core.specs.Steps.{IsNoPort, HasLanes};
 ghost use Rattle.fabric_core.specs.Config.{config_of};
@@ -149,8 +148,8 @@ impl Parts {
     }
 
     /// A call of the link of a lane.
-    fn link(&mut self, name: LaneName, event: LinkEvent) -> Result<SeenForm<'static>, Refusal>
-        ensures answers { IfOk result (λ what. link_at self.old name event ≡ Ok (owned_seen what, self.new)) }
+    fn link(&mut self, name: LaneName, event: LinkEvent) -> Result<SeenRef<'static>, Refusal>
+        ensures answers { IfOk result (λ what. link_at self.old name event ≡ Ok (what, self.new)) }
         ensures refuses { IfErr result (λ r. Refuses (λ x. link_grows x.0) (link_at self.old name event) r) }
         ensures err { OnErr result (self.new ≡ self.old) }
     {
@@ -247,14 +246,14 @@ impl Parts {
     }
 
     /// The oldest completion's answer is put into the room.
-    fn collect_into<'a>(&mut self, port: u8, room: &'a mut Answer) -> Result<SeenForm<'a>, Refusal>
+    fn collect_into<'a>(&mut self, port: u8, room: &'a mut Answer) -> Result<SeenRef<'a>, Refusal>
         requires { length self.old.down ≡ length self.old.requesters }
-        ensures answers { IfOk result (λ what. collect_at self.old port ≡ Ok (owned_seen what, self.new)) }
+        ensures answers { IfOk result (λ what. collect_at self.old port ≡ Ok (what, self.new)) }
         ensures refuses { IfErr result (λ r. collect_at self.old port ≡ Err r) }
         ensures err { OnErr result (self.new ≡ self.old) }
     {
         *room = self.collect(port)?;
-        Ok(SeenForm::Collected(room))
+        Ok(SeenRef::Collected(AnswerLent::new(room)))
     }
 
     fn forward(&mut self, name: LaneName, place: usize) -> Result<u8, Refusal>
@@ -274,25 +273,25 @@ impl Parts {
     /// An event, and what is seen of it. An answer is put into the room. After a refusal all is as it was.
     pub(crate) fn step<'a>(
         &mut self,
-        event: EventForm<'_>,
+        event: &EventRef<'_>,
         room: &'a mut Answer,
-    ) -> Result<SeenForm<'a>, Refusal>
+    ) -> Result<SeenRef<'a>, Refusal>
         requires { HasLanes self.old }
-        ensures ok { IfOk result (λ what. Happens self.old (owned_event event.entry) (owned_seen what) self.new) }
-        ensures refused { IfErr result (λ r. Refused self.old (owned_event event.entry) r) }
+        ensures ok { IfOk result (λ what. Happens self.old event.now what self.new) }
+        ensures refused { IfErr result (λ r. Refused self.old event.now r) }
         ensures err { OnErr result (self.new ≡ self.old) }
     {
         match event {
-            EventForm::Submit(port, op) => Ok(SeenForm::Submitted(self.submit(port, op)?)),
-            EventForm::Transmit(lane) => self.link(lane, LinkEvent::Transmit),
-            EventForm::Deliver(lane, fate) => self.link(lane, LinkEvent::Deliver(fate)),
-            EventForm::SendDllp(lane, kind) => self.link(lane, LinkEvent::SendDllp(kind)),
-            EventForm::DeliverDllp(lane, fate) => self.link(lane, LinkEvent::DeliverDllp(fate)),
-            EventForm::Timer(lane) => self.link(lane, LinkEvent::Timer),
-            EventForm::Retrained(lane) => self.link(lane, LinkEvent::Retrained),
-            EventForm::Forward(lane, place) => Ok(SeenForm::To(self.forward(lane, place)?)),
-            EventForm::Serve(place) => Ok(SeenForm::At(self.serve(place)?)),
-            EventForm::Collect(port) => self.collect_into(port, room),
+            EventRef::Submit(port, op) => Ok(SeenRef::Submitted(self.submit(*port, op.get())?)),
+            EventRef::Transmit(lane) => self.link(*lane, LinkEvent::Transmit),
+            EventRef::Deliver(lane, fate) => self.link(*lane, LinkEvent::Deliver(*fate)),
+            EventRef::SendDllp(lane, kind) => self.link(*lane, LinkEvent::SendDllp(*kind)),
+            EventRef::DeliverDllp(lane, fate) => self.link(*lane, LinkEvent::DeliverDllp(*fate)),
+            EventRef::Timer(lane) => self.link(*lane, LinkEvent::Timer),
+            EventRef::Retrained(lane) => self.link(*lane, LinkEvent::Retrained),
+            EventRef::Forward(lane, place) => Ok(SeenRef::To(self.forward(*lane, *place)?)),
+            EventRef::Serve(place) => Ok(SeenRef::At(self.serve(*place)?)),
+            EventRef::Collect(port) => self.collect_into(*port, room),
         }
     }
 }

@@ -1,9 +1,9 @@
-//! What can happen to a fabric, and what is seen of it: [`Event`] and [`Seen`], each with a form that lends what it has
-//! of an operation or an answer.
+//! What can happen to a fabric, and what is seen of it: [`EventOf`] and [`SeenOf`]. An [`Event`] and a [`Seen`] have an
+//! operation or an answer of their own, an [`EventRef`] and a [`SeenRef`] have it lent. The value of both is the same.
 #![tactic(auto)]
 
 mod event;
 mod lent;
 
-pub use event::{Event, LaneName, LinkEvent, Seen};
-pub use lent::{EventForm, SeenForm, copy_of_answer};
+pub use event::{Event, EventOf, LaneName, LinkEvent, Seen, SeenOf};
+pub use lent::{AnswerLent, EventRef, OpLent, SeenRef, copy_of_answer};

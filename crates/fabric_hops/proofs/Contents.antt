@@ -13,7 +13,7 @@ use Rattle.lane_core.specs.Calls.{Call, Enter, Take, IsCall, after_call, content
 use Rattle.fabric_laws.specs.ListFacts.{get_before}
 use Rattle.fabric_events.specs.declared.event.LinkEvent.{LinkEvent}
 use Rattle.fabric_events.specs.declared.event.LinkEvent.TheVariants as links
-use Rattle.fabric_events.specs.declared.event.Seen.{Seen}
+use Rattle.fabric_events.specs.Events.{Seen}
 use Rattle.fabric_core.specs.ByParts.{Enters, IsAt, Links, call_of}
 use Rattle.fabric_hops.specs.Hops.{hops_of, hops_in}
 

@@ -16,13 +16,12 @@ use Rattle.lane_core.specs.Calls.{content, on_the_way, IsRightWith}
 use Rattle.fabric_laws.specs.Fabric.{Fabric}
 use Rattle.fabric_laws.specs.ListFacts.{get_before}
 use Rattle.fabric_laws.specs.Routed.{IsRouted}
-use Rattle.fabric_events.specs.declared.event.Event.{Event}
-use Rattle.fabric_events.specs.declared.event.Event.TheVariants as events
+use Rattle.fabric_events.specs.Events.{Event, Seen}
+use Rattle.fabric_events.specs.declared.event.EventOf.TheVariants as events
 use Rattle.fabric_events.specs.declared.event.LaneName.{LaneName}
 use Rattle.fabric_events.specs.declared.event.LaneName.TheVariants as lanes
 use Rattle.fabric_events.specs.declared.event.LinkEvent.{LinkEvent}
 use Rattle.fabric_events.specs.declared.event.LinkEvent.TheVariants as links
-use Rattle.fabric_events.specs.declared.event.Seen.{Seen}
 use Rattle.fabric_core.specs.Answers.{answer, Happens}
 use Rattle.fabric_core.specs.ByParts.{IsAt, Enters, EntersIfAny, LinksIn, LinksAt, ForwardsUp, ForwardsOut, ServesAt, CollectsAt, HappensByParts}
 use Rattle.fabric_core.specs.Kept.{IsSoundFabric, IsNoSubmission, down_credits}

@@ -9,8 +9,8 @@ use Rattle.lane_ends.specs.Steps.{LaneEndsView}
 use Rattle.lane_core.specs.Calls.{content}
 use Rattle.lane_core.specs.Flushed.{IsFlushed}
 use Rattle.fabric_laws.specs.Fabric.{Fabric}
-use Rattle.fabric_events.specs.declared.event.Event.{Event}
-use Rattle.fabric_events.specs.declared.event.Event.TheVariants as events
+use Rattle.fabric_events.specs.Events.{Event}
+use Rattle.fabric_events.specs.declared.event.EventOf.TheVariants as events
 
 -- ---- the hops that are left
 

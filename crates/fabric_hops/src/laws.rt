@@ -1,8 +1,7 @@
 //! What holds of the hops that are left.
 ghost use Rattle.std.specs.Prelude.{◌≡◌, ◌↔◌, ◌+◌, ◌≤◌, Ok, IsOk};
 ghost use Rattle.fabric_laws.specs.Fabric.{Fabric};
-ghost use Rattle.fabric_events.specs.declared.event.Event.{Event};
-ghost use Rattle.fabric_events.specs.declared.event.Seen.{Seen};
+ghost use Rattle.fabric_events.specs.Events.{Event, Seen};
 ghost use Rattle.fabric_core.specs.Answers.{answer};
 ghost use Rattle.fabric_core.specs.Kept.{IsSoundFabric};
 ghost use Rattle.fabric_core.specs.Quiet.{IsQuiet, HaveTags};

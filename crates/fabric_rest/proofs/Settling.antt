@@ -2,7 +2,7 @@
 use Rattle.std.proofs.Common.{◌≡◌, ◌∙◌, ◌↔◌, ℕ, zero, suc, ◌+◌, ◌<◌, ◌≤◌, Bool, true, false, [], refl, sym, ap, subst, arith, IsOk, if◌then◌else◌}
 use Rattle.std.specs.Prelude.{fold}
 use Rattle.fabric_laws.specs.Fabric.{Fabric}
-use Rattle.fabric_events.specs.declared.event.Event.{Event}
+use Rattle.fabric_events.specs.Events.{Event}
 use Rattle.fabric_core.specs.Answers.{answer}
 use Rattle.fabric_core.specs.Kept.{IsSoundFabric}
 use Rattle.fabric_core.specs.Quiet.{IsQuiet, AreShort, HaveTags}
@@ -155,6 +155,21 @@ is_quiet_then l most s t g e =
         let no : (round (after_rounds e.before s)).moved ≡ false = ap moved (sym e.last) ∙ e.still in
         cc)
 
+-- and its lanes are flushed: the turns of that round flushed them, and nothing happened behind these
+pub is_flushed_then : AllLaws → (most : ℕ) (s t : Settling) → Good s → EndsWithin most s t → AreFlushed t.fabric
+is_flushed_then l most s t g e = subst (λ (x : Settling). AreFlushed x.fabric) (sym e.last) (by_left (left (after_rounds e.before s)) refl (good_after l e.before s g))
+  where
+    above : (m n : ℕ) → m ≡ suc n → 0 < m
+    above m n q = omega arith
+
+    by_left : (n : ℕ) → left (after_rounds e.before s) ≡ n → Good (after_rounds e.before s) → AreFlushed (round (after_rounds e.before s)).fabric
+    by_left zero h good = subst (λ (x : Settling). AreFlushed x.fabric) (sym (only_turns l (after_rounds e.before s) good h)) (is_flushed l (after_rounds e.before s) good).flush
+    by_left (suc n) h good = absurd (
+        let some : 0 < left (after_rounds e.before s) = above (left (after_rounds e.before s)) n h in
+        let yes : (round (after_rounds e.before s)).moved ≡ true = (round_goes l (after_rounds e.before s) good some).moved in
+        let no : (round (after_rounds e.before s)).moved ≡ false = ap moved (sym e.last) ∙ e.still in
+        cc)
+
 -- ---- what happens in the rounds
 
 round_reaches : AllLaws → (s : Settling) → Good s → Reaches s.fabric (round s).fabric
@@ -185,3 +200,6 @@ quiet l f s short tags = is_quiet_then l (hops_left f + 1) (at f [] false) (sett
 
 pub reached : AllLaws → (f : Fabric) → IsSoundFabric f → AreShort f → Reaches f (settlement f).fabric
 reached l f s short = rounds_reach l 10000 (at f [] false) (good f s short)
+
+pub flushed_then : AllLaws → (f : Fabric) → IsSoundFabric f → AreShort f → HaveTags f → AreFlushed (settlement f).fabric
+flushed_then l f s short tags = is_flushed_then l (hops_left f + 1) (at f [] false) (settlement f) (good f s short) (soon l f s short tags)

@@ -2,7 +2,7 @@
 use Rattle.std.specs.Prelude.{ℕ, ◌≡◌, ◌≤◌, false, List}
 use Rattle.history_check.specs.declared.Record.{Record}
 use Rattle.fabric_laws.specs.Fabric.{Fabric}
-use Rattle.fabric_events.specs.declared.event.Event.{Event}
+use Rattle.fabric_events.specs.Events.{Event}
 use Rattle.fabric_core.specs.Runs.{Runs}
 use Rattle.fabric_rounds.specs.Rounds.{Settling, round, after_rounds}
 

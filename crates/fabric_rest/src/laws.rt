@@ -3,7 +3,7 @@ ghost use Rattle.std.specs.Prelude.{◌+◌, [], false};
 ghost use Rattle.fabric_laws.specs.Fabric.{Fabric};
 ghost use Rattle.fabric_core.specs.Kept.{IsSoundFabric};
 ghost use Rattle.fabric_core.specs.Quiet.{IsQuiet, AreShort, HaveTags};
-ghost use Rattle.fabric_hops.specs.Hops.{hops_left};
+ghost use Rattle.fabric_hops.specs.Hops.{AreFlushed, hops_left};
 ghost use Rattle.fabric_rounds.specs.Rounds.{at, settlement};
 ghost use Rattle.fabric_rest.specs.Rest.{EndsWithin, Reaches};
 
@@ -19,6 +19,7 @@ use lane_core::{a_turn_flushes_a_lane, each_call_keeps_it_right, never_a_protoco
 pub fn every_fabric_comes_to_rest()
     ensures quiet { (f : Fabric) → IsSoundFabric f → AreShort f → HaveTags f → IsQuiet (settlement f).fabric }
     ensures soon { (f : Fabric) → IsSoundFabric f → AreShort f → HaveTags f → EndsWithin (hops_left f + 1) (at f [] false) (settlement f) }
+    ensures flushed { (f : Fabric) → IsSoundFabric f → AreShort f → HaveTags f → AreFlushed (settlement f).fabric }
     ensures reached { (f : Fabric) → IsSoundFabric f → AreShort f → Reaches f (settlement f).fabric }
 {
     a_flushed_fabric_is_not_stuck();

@@ -1,8 +1,7 @@
 -- Events that happened to a fabric, one after the other.
 use Rattle.std.specs.Prelude.{◌≡◌, List, [], ◌∷◌, Result, Ok}
 use Rattle.fabric_laws.specs.Fabric.{Fabric}
-use Rattle.fabric_events.specs.declared.event.Event.{Event}
-use Rattle.fabric_events.specs.declared.event.Seen.{Seen}
+use Rattle.fabric_events.specs.Events.{Event, Seen}
 use Rattle.fabric_core.specs.Answers.{answer}
 
 -- an event that happened: the fabric before it, what was seen of it, and the fabric after it

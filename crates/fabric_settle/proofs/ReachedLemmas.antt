@@ -3,8 +3,7 @@ use Rattle.std.proofs.Common.{◌≡◌, ◌∙◌, ◌++◌, List, [], ◌∷�
 use Rattle.std.specs.Prelude.{fold}
 use Rattle.std.proofs.lemmas.List.Sums.{fold-append}
 use Rattle.fabric_laws.specs.Fabric.{Fabric}
-use Rattle.fabric_events.specs.declared.event.Event.{Event}
-use Rattle.fabric_events.specs.declared.event.Seen.{Seen}
+use Rattle.fabric_events.specs.Events.{Event, Seen}
 use Rattle.fabric_core.specs.declared.fault.Refusal.{Refusal}
 use Rattle.fabric_core.specs.declared.fault.Refusal.TheVariants as refusals
 use Rattle.fabric_core.specs.Answers.{Happens}

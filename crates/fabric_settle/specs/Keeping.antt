@@ -1,9 +1,8 @@
 -- What is kept of a fabric's events.
-use Rattle.std.specs.Prelude.{◌≡◌, ◌⊎◌, true, List, ◌++◌, length}
+use Rattle.std.specs.Prelude.{◌≡◌, ◌⊎◌, true, List, ◌++◌, length, map}
 use Rattle.history_check.specs.declared.Record.{Record}
 use Rattle.fabric_laws.specs.Fabric.{Fabric}
-use Rattle.fabric_events.specs.declared.event.Event.{Event}
-use Rattle.fabric_events.specs.declared.event.Seen.{Seen}
+use Rattle.fabric_events.specs.Events.{Event, Seen}
 use Rattle.fabric_core.specs.declared.fault.Refusal.{Refusal}
 use Rattle.fabric_core.specs.Answers.{Happens, Refused}
 use Rattle.fabric_core.specs.Faults.{is_memory}
@@ -41,3 +40,7 @@ IsRecorded event = has_record event ≡ true
 -- it grows by what an event adds to it, with the length of the history before the event
 abbrev pub with_record : List Record → Happening → List Record
 with_record rs h = rs ++ records_of h.event h.what (length h.before.memory.entries)
+
+-- what happened, as a list of events
+abbrev pub events_of : List Happening → List Event
+events_of happened = map (λ (h : Happening). h.event) happened

@@ -2,9 +2,9 @@
 ghost use Rattle.std.specs.Prelude.{◌≡◌, ◌≢◌, ◌+◌, ℕ, [], Some, false, fold, slice_get, OnOk, OnErr};
 ghost use Rattle.requester_core.specs.RequesterView.{RequesterView};
 ghost use Rattle.fabric_laws.specs.Whole.{open_number};
-ghost use Rattle.fabric_events.specs.declared.event.Event as events;
+ghost use Rattle.fabric_events.specs.Events as events;
 ghost use Rattle.fabric_core.specs.Quiet.{IsQuiet};
-ghost use Rattle.fabric_hops.specs.Hops.{hops_left};
+ghost use Rattle.fabric_hops.specs.Hops.{AreFlushed, hops_left};
 ghost use Rattle.fabric_rest.specs.Rest.{EndsWithin};
 ghost use Rattle.fabric_settle.specs.Doing.{Does};
 ghost use Rattle.fabric_settle.specs.Keeping.{IsLossless, WantsMemory};
@@ -42,7 +42,9 @@ fn all_rounds<W: Witness>(
 }
 
 /// Runs the fabric by rounds until one moves nothing. Then it is quiet: each submission stands in the history, and no
-/// requester waits for an answer. The witness keeps what it keeps of each event, as of that line of a script.
+/// requester waits for an answer. Nothing is under way on its links either: both wires of each lane are empty, each
+/// packet is acknowledged, and each sender knows all credit. The witness keeps what it keeps of each event, as of that
+/// line of a script.
 ///
 /// The only error is want of memory, of the fabric for an event or of the witness. Then the events so far have happened,
 /// and a witness that loses nothing has kept what it keeps of them.
@@ -50,6 +52,7 @@ pub fn settle<W: Witness>(fabric: &mut Fabric, witness: &mut W, line: u64) -> Re
     ensures fabric { OnOk result (fabric.new ≡ (spec.settlement fabric.old).fabric) }
     ensures kept { OnOk result (W.kept witness.new ≡ fold (W.saw line) (W.kept witness.old) (spec.settlement fabric.old).happened) }
     ensures settled { OnOk result (IsQuiet fabric.new) }
+    ensures flushed { OnOk result (AreFlushed fabric.new) }
     ensures answered { OnOk result ((i tag k : ℕ) (q : RequesterView) → slice_get fabric.new.requesters i ≡ Some q → open_number q tag ≢ Some k) }
 
     // The last round moved nothing, and before it there were at most as many as hops were left, and one.

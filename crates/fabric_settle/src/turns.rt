@@ -1,6 +1,6 @@
 //! A round of events.
 ghost use Rattle.std.specs.Prelude.{◌≡◌, fold, IfOk, OnOk, OnErr};
-ghost use Rattle.fabric_events.specs.declared.event.Event as events;
+ghost use Rattle.fabric_events.specs.Events as events;
 ghost use Rattle.fabric_settle.specs.Doing.{Does};
 ghost use Rattle.fabric_settle.specs.Keeping.{IsLossless, WantsMemory};
 ghost use Rattle.fabric_settle.specs.Reached.{Reached};
@@ -25,7 +25,7 @@ fn once<W: Witness>(
     ensures err { OnErr result ((event : events.Event) × WantsMemory W.needs_room W.may_lose fabric.new event) }
     ensures reached { Reached (W.saw line) (IsLossless W.may_lose) fabric.old (W.kept witness.old) fabric.new (W.kept witness.new) }
 {
-    match happen(fabric, witness, line, event.lent()) {
+    match happen(fabric, witness, line, &event.lend()) {
         Ok(()) => {
             *moved = *moved || is_move(event);
             Ok(true)

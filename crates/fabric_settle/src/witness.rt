@@ -1,8 +1,7 @@
 //! Who keeps something of a fabric's events.
 ghost use Rattle.std.specs.Prelude.{◌≡◌, ◌<◌, ◌++◌, ℕ, vec_len, vec_capacity, option_to_list, true, OnOk, OnErr, IfErr};
 ghost use Rattle.fabric_laws.specs.Fabric as fabrics;
-ghost use Rattle.fabric_events.specs.declared.event.Event as events;
-ghost use Rattle.fabric_events.specs.Lent.{owned_event, owned_seen};
+ghost use Rattle.fabric_events.specs.Events as events;
 ghost use Rattle.fabric_core.specs.Answers.{answer};
 ghost use Rattle.fabric_core.specs.Faults.{is_memory};
 ghost use Rattle.fabric_core.specs.Runs.{has_record};
@@ -12,10 +11,8 @@ ghost use Rattle.fabric_settle.specs.Keeping.{Witnessed, IsLossless, WantsMemory
 ghost use Rattle.fabric_settle.specs.Reached.{Reached};
 
 use fabric_answers::laws::each_event_has_one_answer;
-use fabric_core::{EventForm, Fabric, Refusal, SeenForm, record_of};
+use fabric_core::{ANSWER_ROOM, EventRef, Fabric, Refusal, SeenRef, record_of};
 use history_check::Record;
-use requester_core::Answer;
-use seq_memory::Reply;
 use std::alloc::AllocError;
 
 /// Keeps something of each event that happens to a fabric.
@@ -39,29 +36,29 @@ pub trait Witness: Drop {
     ghost may_lose: { events.Event → Type 0 };
 
     /// Makes room for what is kept of an event.
-    fn make_room(&mut self, event: EventForm<'_>) -> Result<(), AllocError>
+    fn make_room(&mut self, event: &EventRef<'_>) -> Result<(), AllocError>
         ensures kept { kept self.new ≡ kept self.old }
-        ensures room { OnOk result (has_room (owned_event event.entry) self.new) }
-        ensures err { OnErr result (needs_room (owned_event event.entry)) };
+        ensures room { OnOk result (has_room event.now self.new) }
+        ensures err { OnErr result (needs_room event.now) };
 
     /// Keeps what is to be kept of an event of that line, which left the fabric so.
     fn saw(
         &mut self,
         line: u64,
-        event: EventForm<'_>,
-        seen: &SeenForm<'_>,
+        event: &EventRef<'_>,
+        seen: &SeenRef<'_>,
         fabric: &Fabric,
     ) -> Result<(), AllocError>
-        requires { has_room (owned_event event) self.old }
-        ensures ok { OnOk result ((before : fabrics.Fabric) → Answers before (owned_event event.entry) (owned_seen seen.now) fabric.now → kept self.new ≡ saw line (kept self.old) (happening before (owned_event event.entry) (owned_seen seen.now) fabric.now)) }
-        ensures err { OnErr result (may_lose (owned_event event.entry)) };
+        requires { has_room event.now self.old }
+        ensures ok { OnOk result ((before : fabrics.Fabric) → Answers before event.now seen.now fabric.now → kept self.new ≡ saw line (kept self.old) (happening before event.now seen.now fabric.now)) }
+        ensures err { OnErr result (may_lose event.now) };
 }
 
 /// Whether a trace has a record of the event.
-fn is_recorded(event: EventForm<'_>) -> bool
-    ensures { result ≡ has_record (owned_event event.entry) }
+fn is_recorded(event: &EventRef<'_>) -> bool
+    ensures { result ≡ has_record event.now }
 {
-    matches!(event, EventForm::Submit(_, _) | EventForm::Collect(_))
+    matches!(event, EventRef::Submit(_, _) | EventRef::Collect(_))
 }
 
 /// Keeps a record for which there is room.
@@ -92,7 +89,7 @@ impl Witness for Vec<Record> {
 
     ghost may_lose = { Never };
 
-    fn make_room(&mut self, event: EventForm<'_>) -> Result<(), AllocError> {
+    fn make_room(&mut self, event: &EventRef<'_>) -> Result<(), AllocError> {
         if is_recorded(event) {
             self.try_reserve(1)?;
         }
@@ -102,8 +99,8 @@ impl Witness for Vec<Record> {
     fn saw(
         &mut self,
         _line: u64,
-        event: EventForm<'_>,
-        seen: &SeenForm<'_>,
+        event: &EventRef<'_>,
+        seen: &SeenRef<'_>,
         fabric: &Fabric,
     ) -> Result<(), AllocError> {
         if is_recorded(event) {
@@ -114,10 +111,10 @@ impl Witness for Vec<Record> {
 }
 
 /// Makes room for what is kept of an event.
-fn prepare<W: Witness>(witness: &mut W, event: EventForm<'_>) -> Result<(), Refusal>
+fn prepare<W: Witness>(witness: &mut W, event: &EventRef<'_>) -> Result<(), Refusal>
     ensures kept { W.kept witness.new ≡ W.kept witness.old }
-    ensures room { OnOk result (W.has_room (owned_event event.entry) witness.new) }
-    ensures cause { IfErr result (λ r. (r ≡ Refusal.Memory) × W.needs_room (owned_event event.entry)) }
+    ensures room { OnOk result (W.has_room event.now witness.new) }
+    ensures cause { IfErr result (λ r. (r ≡ Refusal.Memory) × W.needs_room event.now) }
 {
     match witness.make_room(event) {
         Ok(()) => Ok(()),
@@ -129,13 +126,13 @@ fn prepare<W: Witness>(witness: &mut W, event: EventForm<'_>) -> Result<(), Refu
 fn show<W: Witness>(
     witness: &mut W,
     line: u64,
-    event: EventForm<'_>,
-    seen: &SeenForm<'_>,
+    event: &EventRef<'_>,
+    seen: &SeenRef<'_>,
     fabric: &Fabric,
 ) -> Result<(), Refusal>
-    requires { W.has_room (owned_event event) witness.old }
-    ensures ok { OnOk result ((before : fabrics.Fabric) → Answers before (owned_event event.entry) (owned_seen seen.now) fabric.now → W.kept witness.new ≡ W.saw line (W.kept witness.old) (happening before (owned_event event.entry) (owned_seen seen.now) fabric.now)) }
-    ensures cause { IfErr result (λ r. (r ≡ Refusal.Memory) × W.may_lose (owned_event event.entry)) }
+    requires { W.has_room event.now witness.old }
+    ensures ok { OnOk result ((before : fabrics.Fabric) → Answers before event.now seen.now fabric.now → W.kept witness.new ≡ W.saw line (W.kept witness.old) (happening before event.now seen.now fabric.now)) }
+    ensures cause { IfErr result (λ r. (r ≡ Refusal.Memory) × W.may_lose event.now) }
 {
     match witness.saw(line, event, seen, fabric) {
         Ok(()) => Ok(()),
@@ -149,21 +146,18 @@ pub fn happen<W: Witness>(
     fabric: &mut Fabric,
     witness: &mut W,
     line: u64,
-    event: EventForm<'_>,
+    event: &EventRef<'_>,
 ) -> Result<(), Refusal>
-    ensures ok { OnOk result (Witnessed (W.saw line) fabric.old (W.kept witness.old) (owned_event event.entry) fabric.new (W.kept witness.new)) }
-    ensures told { IfErr result (λ r. IsTold r → (answer fabric.old (owned_event event.entry) ≡ Err r) × (fabric.new ≡ fabric.old) × (W.kept witness.new ≡ W.kept witness.old)) }
+    ensures ok { OnOk result (Witnessed (W.saw line) fabric.old (W.kept witness.old) event.now fabric.new (W.kept witness.new)) }
+    ensures told { IfErr result (λ r. IsTold r → (answer fabric.old event.now ≡ Err r) × (fabric.new ≡ fabric.old) × (W.kept witness.new ≡ W.kept witness.old)) }
     ensures lossless { OnErr result (IsLossless W.may_lose → (fabric.new ≡ fabric.old) × (W.kept witness.new ≡ W.kept witness.old)) }
-    ensures memory { IfErr result (λ r. is_memory r ≡ true → WantsMemory W.needs_room W.may_lose fabric.new (owned_event event.entry)) }
+    ensures memory { IfErr result (λ r. is_memory r ≡ true → WantsMemory W.needs_room W.may_lose fabric.new event.now) }
     ensures reached { Reached (W.saw line) (IsLossless W.may_lose) fabric.old (W.kept witness.old) fabric.new (W.kept witness.new) }
 {
     each_event_has_one_answer();
     prepare(witness, event)?;
-    let mut room = Answer {
-        number: 0,
-        reply: Reply::Done,
-    };
-    match fabric.step_lent(event, &mut room) {
+    let mut room = ANSWER_ROOM;
+    match fabric.step(event, &mut room) {
         Ok(seen) => show(witness, line, event, &seen, fabric),
         Err(refusal) => Err(refusal),
     }

@@ -2,7 +2,7 @@
 //! do: the tests look, and a proof that rests on the exact calls would be dear.
 use arrayvec::ArrayVec;
 use dllp_core::{Class, Dllp};
-use fabric_core::{Config, ConfigFault, Event, Fabric, LaneName, Refusal, Seen};
+use fabric_core::{ANSWER_ROOM, Config, ConfigFault, Event, Fabric, LaneName, Refusal, Seen};
 use history_check::Trace;
 use lane_core::{Arrival, DllpKind, DllpSeen, Fate, LaneCredits};
 use link_receiver::Reception;
@@ -185,7 +185,11 @@ pub(super) fn made(config: Config, alloc: Global) -> Result<Fabric, ConfigFault>
 
 /// [`Fabric::step`].
 pub(super) fn step(fabric: &mut Fabric, act: Act) -> Result<Seen, Refusal> {
-    fabric.step(&event_of(act))
+    let mut room = ANSWER_ROOM;
+    match fabric.step(&event_of(act).lend(), &mut room) {
+        Ok(seen) => Ok(seen.to_owned()),
+        Err(refusal) => Err(refusal),
+    }
 }
 
 /// [`Fabric::run`]: the trace, and where and why it ended early.

@@ -1,7 +1,9 @@
-//! The transmitter's and the receiver's side of a link, its flow control and its receive queue: worked rows, the two
-//! sides driven against each other, and the queue beside a plain list.
+//! The transmitter's and the receiver's side of a link, its CRCs, its flow control and its receive queue: worked rows,
+//! the two sides driven against each other, and the queue beside a plain list.
 #![tactic(auto)]
 
+#[cfg(test)]
+mod crcs;
 #[cfg(test)]
 mod credits;
 #[cfg(test)]

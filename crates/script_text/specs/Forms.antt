@@ -8,8 +8,8 @@ use Rattle.lane_ends.specs.declared.packet.DllpKind.{DllpKind}
 use Rattle.lane_ends.specs.declared.packet.DllpKind.TheVariants as kinds
 use Rattle.fabric_events.specs.declared.event.LaneName.{LaneName}
 use Rattle.fabric_events.specs.declared.event.LaneName.TheVariants as lanes
-use Rattle.fabric_events.specs.declared.event.Event.{Event}
-use Rattle.fabric_events.specs.declared.event.Event.TheVariants as events
+use Rattle.fabric_events.specs.Events.{Event}
+use Rattle.fabric_events.specs.declared.event.EventOf.TheVariants as events
 use Rattle.operation_text.specs.Words.{then_with, field, ended}
 use Rattle.operation_text.specs.Numbers.{numeral}
 use Rattle.operation_text.specs.Operations.{address, op_spelled}

@@ -10,8 +10,8 @@ use Rattle.lane_ends.specs.declared.packet.DllpKind.TheVariants as kinds
 use Rattle.fabric_core.specs.declared.config.Config.{Config}
 use Rattle.fabric_events.specs.declared.event.LaneName.{LaneName}
 use Rattle.fabric_events.specs.declared.event.LaneName.TheVariants as lanes
-use Rattle.fabric_events.specs.declared.event.Event.{Event}
-use Rattle.fabric_events.specs.declared.event.Event.TheVariants as events
+use Rattle.fabric_events.specs.Events.{Event}
+use Rattle.fabric_events.specs.declared.event.EventOf.TheVariants as events
 use Rattle.operation_text.specs.Texts.{hexadecimal, op_text}
 use Rattle.script_text.specs.Texts.{spaced}
 

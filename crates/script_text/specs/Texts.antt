@@ -14,10 +14,9 @@ use Rattle.lane_ends.specs.declared.packet.DllpSeen.{DllpSeen}
 use Rattle.lane_ends.specs.declared.packet.DllpSeen.TheVariants as dllps_seen
 use Rattle.history_check.specs.declared.Record.{Record}
 use Rattle.history_check.specs.declared.Record.TheVariants as records
-use Rattle.fabric_events.specs.declared.event.Event.{Event}
-use Rattle.fabric_events.specs.declared.event.Event.TheVariants as events
-use Rattle.fabric_events.specs.declared.event.Seen.{Seen}
-use Rattle.fabric_events.specs.declared.event.Seen.TheVariants as seen
+use Rattle.fabric_events.specs.Events.{Event, Seen}
+use Rattle.fabric_events.specs.declared.event.EventOf.TheVariants as events
+use Rattle.fabric_events.specs.declared.event.SeenOf.TheVariants as seen
 use Rattle.operation_text.specs.Texts.{sequence_text, reply_text}
 
 -- words with a space between each two

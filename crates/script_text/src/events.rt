@@ -1,12 +1,11 @@
 //! The lines of events.
-ghost use Rattle.std.specs.Prelude.{◌≡◌, option_map};
+ghost use Rattle.std.specs.Prelude.{◌≡◌};
 ghost use Rattle.std.specs.Result.{result_ok};
-ghost use Rattle.fabric_events.specs.Lent.{owned_event};
 ghost use Rattle.operation_text.specs.Words.{words_behind};
 ghost use Rattle.script_text.specs.Forms as forms;
 
 use crate::fields::{count, fate, kind, lane, octet};
-use fabric_core::EventForm;
+use fabric_core::{EventRef, OpLent};
 use operation_text::{Expected, Misfit, alone, op_behind_lent};
 use switch_core::REQUESTERS;
 use tlp_core::{MAX_PAYLOAD, Op};
@@ -22,80 +21,80 @@ const REQUESTER: Expected = Expected::Between("a requester", 1, REQUESTERS as u6
 
 const POSITION: Expected = Expected::Of("a position", "0 or more");
 
-fn submit<'r>(rest: Option<&[u8]>, room: &'r mut Op) -> Result<EventForm<'r>, Misfit>
-    ensures { option_map owned_event (result_ok result) ≡ forms.submit_of (words_behind rest.entry) }
+fn submit<'r>(rest: Option<&[u8]>, room: &'r mut Op) -> Result<EventRef<'r>, Misfit>
+    ensures { result_ok result ≡ forms.submit_of (words_behind rest.entry) }
 {
     let (port, rest) = octet(rest, REQUESTER)?;
     let mut bytes = [0; MAX_PAYLOAD];
     *room = op_behind_lent(rest, &mut bytes)?.to_owned();
-    Ok(EventForm::Submit(port, room))
+    Ok(EventRef::Submit(port, OpLent::new(room)))
 }
 
-fn transmit(rest: Option<&[u8]>) -> Result<EventForm<'static>, Misfit>
-    ensures { option_map owned_event (result_ok result) ≡ forms.transmit_of (words_behind rest.entry) }
+fn transmit(rest: Option<&[u8]>) -> Result<EventRef<'static>, Misfit>
+    ensures { result_ok result ≡ forms.transmit_of (words_behind rest.entry) }
 {
     let (lane, rest) = lane(rest)?;
-    alone(EventForm::Transmit(lane), rest)
+    alone(EventRef::Transmit(lane), rest)
 }
 
-fn deliver(rest: Option<&[u8]>) -> Result<EventForm<'static>, Misfit>
-    ensures { option_map owned_event (result_ok result) ≡ forms.deliver_of (words_behind rest.entry) }
+fn deliver(rest: Option<&[u8]>) -> Result<EventRef<'static>, Misfit>
+    ensures { result_ok result ≡ forms.deliver_of (words_behind rest.entry) }
 {
     let (lane, rest) = lane(rest)?;
     let (fate, rest) = fate(rest)?;
-    alone(EventForm::Deliver(lane, fate), rest)
+    alone(EventRef::Deliver(lane, fate), rest)
 }
 
-fn dllp(rest: Option<&[u8]>) -> Result<EventForm<'static>, Misfit>
-    ensures { option_map owned_event (result_ok result) ≡ forms.dllp_of (words_behind rest.entry) }
+fn dllp(rest: Option<&[u8]>) -> Result<EventRef<'static>, Misfit>
+    ensures { result_ok result ≡ forms.dllp_of (words_behind rest.entry) }
 {
     let (lane, rest) = lane(rest)?;
     let (kind, rest) = kind(rest)?;
-    alone(EventForm::SendDllp(lane, kind), rest)
+    alone(EventRef::SendDllp(lane, kind), rest)
 }
 
-fn deliver_dllp(rest: Option<&[u8]>) -> Result<EventForm<'static>, Misfit>
-    ensures { option_map owned_event (result_ok result) ≡ forms.deliver_dllp_of (words_behind rest.entry) }
+fn deliver_dllp(rest: Option<&[u8]>) -> Result<EventRef<'static>, Misfit>
+    ensures { result_ok result ≡ forms.deliver_dllp_of (words_behind rest.entry) }
 {
     let (lane, rest) = lane(rest)?;
     let (fate, rest) = fate(rest)?;
-    alone(EventForm::DeliverDllp(lane, fate), rest)
+    alone(EventRef::DeliverDllp(lane, fate), rest)
 }
 
-fn timer(rest: Option<&[u8]>) -> Result<EventForm<'static>, Misfit>
-    ensures { option_map owned_event (result_ok result) ≡ forms.timer_of (words_behind rest.entry) }
+fn timer(rest: Option<&[u8]>) -> Result<EventRef<'static>, Misfit>
+    ensures { result_ok result ≡ forms.timer_of (words_behind rest.entry) }
 {
     let (lane, rest) = lane(rest)?;
-    alone(EventForm::Timer(lane), rest)
+    alone(EventRef::Timer(lane), rest)
 }
 
-fn retrained(rest: Option<&[u8]>) -> Result<EventForm<'static>, Misfit>
-    ensures { option_map owned_event (result_ok result) ≡ forms.retrained_of (words_behind rest.entry) }
+fn retrained(rest: Option<&[u8]>) -> Result<EventRef<'static>, Misfit>
+    ensures { result_ok result ≡ forms.retrained_of (words_behind rest.entry) }
 {
     let (lane, rest) = lane(rest)?;
-    alone(EventForm::Retrained(lane), rest)
+    alone(EventRef::Retrained(lane), rest)
 }
 
-fn forward(rest: Option<&[u8]>) -> Result<EventForm<'static>, Misfit>
-    ensures { option_map owned_event (result_ok result) ≡ forms.forward_of (words_behind rest.entry) }
+fn forward(rest: Option<&[u8]>) -> Result<EventRef<'static>, Misfit>
+    ensures { result_ok result ≡ forms.forward_of (words_behind rest.entry) }
 {
     let (lane, rest) = lane(rest)?;
     let (place, rest) = count(rest, POSITION)?;
-    alone(EventForm::Forward(lane, place), rest)
+    alone(EventRef::Forward(lane, place), rest)
 }
 
-fn serve(rest: Option<&[u8]>) -> Result<EventForm<'static>, Misfit>
-    ensures { option_map owned_event (result_ok result) ≡ forms.serve_of (words_behind rest.entry) }
+fn serve(rest: Option<&[u8]>) -> Result<EventRef<'static>, Misfit>
+    ensures { result_ok result ≡ forms.serve_of (words_behind rest.entry) }
 {
     let (place, rest) = count(rest, POSITION)?;
-    alone(EventForm::Serve(place), rest)
+    alone(EventRef::Serve(place), rest)
 }
 
-fn collect(rest: Option<&[u8]>) -> Result<EventForm<'static>, Misfit>
-    ensures { option_map owned_event (result_ok result) ≡ forms.collect_of (words_behind rest.entry) }
+fn collect(rest: Option<&[u8]>) -> Result<EventRef<'static>, Misfit>
+    ensures { result_ok result ≡ forms.collect_of (words_behind rest.entry) }
 {
     let (port, rest) = octet(rest, REQUESTER)?;
-    alone(EventForm::Collect(port), rest)
+    alone(EventRef::Collect(port), rest)
 }
 
 /// The event of that kind that the rest of a line spells.
@@ -104,8 +103,8 @@ pub(crate) fn event_by<'r>(
     rest: Option<&[u8]>,
     text: &[u8],
     room: &'r mut Op,
-) -> Result<EventForm<'r>, Misfit>
-    ensures { option_map owned_event (result_ok result) ≡ forms.event_by kind.now (words_behind rest.entry) }
+) -> Result<EventRef<'r>, Misfit>
+    ensures { result_ok result ≡ forms.event_by kind.now (words_behind rest.entry) }
 {
     if kind == b"submit".as_slice() {
         return submit(rest, room);

@@ -43,4 +43,4 @@ mod writing;
 pub use line::{Line, LineForm, ROOM, read_line, read_line_lent, script_misfit};
 pub use line_writing::{write_event, write_fabric};
 pub use names::{write_config_fault, write_refusal};
-pub use writing::{write_seen, write_seen_lent, write_settled, write_told};
+pub use writing::{write_seen, write_settled, write_told};

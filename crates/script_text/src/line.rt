@@ -7,7 +7,7 @@ ghost use Rattle.script_text.specs.Lent.{owned_line};
 
 use crate::events::{EVENT, event_by};
 use crate::fabric::{FABRIC, fabric, misfit_of};
-use fabric_core::{Config, Event, EventForm};
+use fabric_core::{Config, Event, EventRef};
 use operation_text::{Misfit, alone, cut};
 use tlp_core::Op;
 
@@ -23,12 +23,12 @@ pub enum Line {
 }
 
 /// A [`Line`] whose operation is lent.
-#[derive(Clone, Copy)]
+#[derive(Drop)]
 pub enum LineForm<'a> {
     /// See [`Line::Fabric`].
     Fabric(Config),
     /// See [`Line::Event`].
-    Event(EventForm<'a>),
+    Event(EventRef<'a>),
     /// See [`Line::Settle`].
     Settle,
 }

@@ -2,12 +2,11 @@
 ghost use Rattle.std.specs.Prelude.{◌≡◌, ◌≤◌, ◌<◌, ◌+◌, ◌/◌, ◌%◌, ◌++◌, length};
 ghost use Rattle.std.specs.Fmt.{decimal};
 ghost use Rattle.arrayvec.specs.ArrayString.{array_string_len};
-ghost use Rattle.fabric_events.specs.Lent.{owned_event, owned_seen};
 ghost use Rattle.script_text.specs.Texts.{in_field, dllp_text, arrival_text, dllp_seen_text, port_of, seen_text, told_text, settled_text};
 
 use arrayvec::ArrayString;
 use dllp_core::{Dllp, encode};
-use fabric_core::{Event, EventForm, Seen, SeenForm};
+use fabric_core::{EventRef, SeenRef};
 use history_check::Record;
 use lane_core::{Arrival, DllpSeen};
 use link_receiver::Reception;
@@ -76,58 +75,45 @@ pub(crate) fn put_number(word: &str, number: u64, out: &mut ArrayString<512>)
 
 /// The port of the requester that the event names.
 #[inline(always)]
-fn port(event: EventForm<'_>) -> u8
-    ensures { result ≡ port_of (owned_event event.entry) }
+fn port(event: &EventRef<'_>) -> u8
+    ensures { result ≡ port_of event.now }
 {
     match event {
-        EventForm::Submit(port, _) | EventForm::Collect(port) => port,
+        EventRef::Submit(port, _) | EventRef::Collect(port) => *port,
         _ => 0,
     }
 }
 
 /// Adds what is seen of the event, at most 320 bytes. Of the event only the port of its requester
 /// counts.
-pub fn write_seen_lent(event: EventForm<'_>, seen: &SeenForm<'_>, out: &mut ArrayString<512>)
-    requires { array_string_len out.old + 320 ≤ 512 }
-    ensures text { out.new.bytes ≡ out.old.bytes ++ seen_text (owned_event event.entry) (owned_seen seen.now) }
-    ensures len { array_string_len out.new ≤ array_string_len out.old + 320 }
-{
-    match seen {
-        SeenForm::Submitted(number) => {
-            put_number("sub ", u64::from(port(event)), out);
-            put_number(" ", u64::from(*number), out);
-        }
-        SeenForm::Sent(number) => {
-            out.push_str("sent ");
-            write_sequence(*number, out);
-        }
-        SeenForm::Delivered(arrival) => put_arrival(*arrival, out),
-        SeenForm::SentDllp(dllp) => put_dllp(*dllp, out),
-        SeenForm::SeenDllp(seen) => put_dllp_seen(*seen, out),
-        SeenForm::Back(places) => put_number("replay ", *places as u64, out),
-        SeenForm::Retrained => out.push_str("retrained"),
-        SeenForm::To(port) => put_number("to ", u64::from(*port), out),
-        SeenForm::At(index) => put_number("at ", *index as u64, out),
-        SeenForm::Collected(answer) => {
-            put_number("ans ", u64::from(port(event)), out);
-            put_number(" ", u64::from(answer.number), out);
-            out.push_str(" ");
-            write_reply(&answer.reply, out);
-        }
-    }
-}
-
-/// As [`write_seen_lent`], of an event and an answer that are owned.
-pub fn write_seen(event: &Event, seen: &Seen, out: &mut ArrayString<512>)
+pub fn write_seen(event: &EventRef<'_>, seen: &SeenRef<'_>, out: &mut ArrayString<512>)
     requires { array_string_len out.old + 320 ≤ 512 }
     ensures text { out.new.bytes ≡ out.old.bytes ++ seen_text event.now seen.now }
     ensures len { array_string_len out.new ≤ array_string_len out.old + 320 }
 {
-    let event = event.lent();
-    // An answer has to have a name here: otherwise the borrow checker doesn't find its type.
     match seen {
-        Seen::Collected(answer) => write_seen_lent(event, &SeenForm::Collected(answer), out),
-        _ => write_seen_lent(event, &seen.lent(), out),
+        SeenRef::Submitted(number) => {
+            put_number("sub ", u64::from(port(event)), out);
+            put_number(" ", u64::from(*number), out);
+        }
+        SeenRef::Sent(number) => {
+            out.push_str("sent ");
+            write_sequence(*number, out);
+        }
+        SeenRef::Delivered(arrival) => put_arrival(*arrival, out),
+        SeenRef::SentDllp(dllp) => put_dllp(*dllp, out),
+        SeenRef::SeenDllp(seen) => put_dllp_seen(*seen, out),
+        SeenRef::Back(places) => put_number("replay ", *places as u64, out),
+        SeenRef::Retrained => out.push_str("retrained"),
+        SeenRef::To(port) => put_number("to ", u64::from(*port), out),
+        SeenRef::At(index) => put_number("at ", *index as u64, out),
+        SeenRef::Collected(answer) => {
+            put_number("ans ", u64::from(port(event)), out);
+            let answer = answer.get();
+            put_number(" ", u64::from(answer.number), out);
+            out.push_str(" ");
+            write_reply(&answer.reply, out);
+        }
     }
 }
 

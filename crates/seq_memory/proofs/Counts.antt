@@ -21,7 +21,7 @@ same_modulus widths.Four = refl
 same_modulus widths.Eight = refl
 same_modulus widths.Sixteen = refl
 
-zero_bytes : (w : Width) → replicate (size_of w) 0 ≡ little_bytes (size_of w) (0 % 2 ^ (8 * size_of w))
+pub zero_bytes : (w : Width) → replicate (size_of w) 0 ≡ little_bytes (size_of w) (0 % 2 ^ (8 * size_of w))
 zero_bytes widths.Four = refl
 zero_bytes widths.Eight = refl
 zero_bytes widths.Sixteen = refl
@@ -39,7 +39,7 @@ one_more x m =
     ap (λ y. (y + 1) % m) (mod-mod x m) ∙ mod-add-mod x m 1
 
 -- one FetchAdd of 1
-counted : (base block a : ℕ) (w : Width) (m : List ℕ) (x : ℕ) → refusal base (length m) block (ops.FetchAdd a w 1) ≡ None
+pub counted : (base block a : ℕ) (w : Width) (m : List ℕ) (x : ℕ) → refusal base (length m) block (ops.FetchAdd a w 1) ≡ None
     → bytes_at m (a - base) (size_of w) ≡ little_bytes (size_of w) (x % 2 ^ (8 * size_of w))
     → bytes_at (after base block m (ops.FetchAdd a w 1)) (a - base) (size_of w) ≡ little_bytes (size_of w) ((x + 1) % 2 ^ (8 * size_of w))
 counted base block a w m x e h =
@@ -64,7 +64,7 @@ counted_all base block a w (f ∷ es) m x c e h =
     ∙ ap (λ y. little_bytes (size_of w) (y % 2 ^ (8 * size_of w))) (omega arith)
 
 -- zeros at a place that is served
-zeros_there : (base size i n : ℕ) → i + n ≤ size → bytes_at (replicate size 0) i n ≡ replicate n 0
+pub zeros_there : (base size i n : ℕ) → i + n ≤ size → bytes_at (replicate size 0) i n ≡ replicate n 0
 zeros_there base size i n h = grind (arith, take-replicate, drop-replicate)
 
 pub count_bytes : (x : Extent) (a : ℕ) (w : Width) (es : List Entry) → refusal x.base x.size x.block (ops.FetchAdd a w 1) ≡ None → AreCounts a w es

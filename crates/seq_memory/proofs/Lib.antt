@@ -3,3 +3,4 @@ pub mod Merges
 pub mod Histories
 pub mod Steps
 pub mod Counts
+pub mod Beside

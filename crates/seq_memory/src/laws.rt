@@ -11,7 +11,7 @@ ghost use Rattle.seq_memory.specs.declared.Entry.{Entry};
 ghost use Rattle.seq_memory.specs.declared.Refusal.{Refusal};
 ghost use Rattle.seq_memory.specs.Limits.{IsBlock, Extent};
 ghost use Rattle.seq_memory.specs.Step.{refusal, after, answer, bytes_at, place_after, data_of, is_enabled, written_over, read_over};
-ghost use Rattle.seq_memory.specs.History.{contents, contents_at, reply_at, AreCounts};
+ghost use Rattle.seq_memory.specs.History.{contents, contents_at, reply_at, AreCounts, additions, Leaves, AreAddsOrLeave};
 
 /// An operation changes no byte outside its place and not their number, and a served one leaves at
 /// its place what it makes of the bytes that were there.
@@ -62,6 +62,20 @@ pub fn history_grows_by_steps()
 pub fn a_counter_counts_each_once()
     ensures number { (x : Extent) (a : ℕ) (w : Width) (es : List Entry) → refusal x.base x.size x.block (ops.FetchAdd a w 1) ≡ None → AreCounts a w es → little_number (size_of w) (bytes_at (contents x es) (a - x.base) (size_of w)) ≡ length es % 2 ^ (8 * size_of w) }
     ensures bytes { (x : Extent) (a : ℕ) (w : Width) (es : List Entry) → refusal x.base x.size x.block (ops.FetchAdd a w 1) ≡ None → AreCounts a w es → bytes_at (contents x es) (a - x.base) (size_of w) ≡ little_bytes (size_of w) (length es % 2 ^ (8 * size_of w)) }
+{}
+
+/// A counter beside other traffic counts each request once: if each other request leaves the bytes of the counter as
+/// they are, the number there is that of the FetchAdds of 1 in the history, modulo 2 to the number of the operand's
+/// bits. A request that is not served, a read and a request whose place is apart leave them.
+#[tactic(auto, using(crate::proofs::Beside::beside_number, crate::proofs::Beside::beside_bytes, crate::proofs::Beside::apart_leaves, crate::proofs::Beside::refused_leaves, crate::proofs::Beside::read_leaves))]
+pub fn a_counter_counts_beside_other_traffic()
+    ensures number { (x : Extent) (a : ℕ) (w : Width) (es : List Entry) → refusal x.base x.size x.block (ops.FetchAdd a w 1) ≡ None → AreAddsOrLeave x a w es →
+        little_number (size_of w) (bytes_at (contents x es) (a - x.base) (size_of w)) ≡ additions a w es % 2 ^ (8 * size_of w) }
+    ensures bytes { (x : Extent) (a : ℕ) (w : Width) (es : List Entry) → refusal x.base x.size x.block (ops.FetchAdd a w 1) ≡ None → AreAddsOrLeave x a w es →
+        bytes_at (contents x es) (a - x.base) (size_of w) ≡ little_bytes (size_of w) (additions a w es % 2 ^ (8 * size_of w)) }
+    ensures refused { (x : Extent) (a count : ℕ) (op : Op) (r : Refusal) → refusal x.base x.size x.block op ≡ Some r → Leaves x a count op }
+    ensures reads { (x : Extent) (a count b dw f l : ℕ) → Leaves x a count (ops.Read b dw f l) }
+    ensures apart { (x : Extent) (a count : ℕ) (op : Op) → x.base ≤ a → (a + count ≤ address_of op) ⊎ (address_of op + count_of op ≤ a) → Leaves x a count op }
 {}
 
 /// The reply to an entry is the answer of the memory that the entries before it make, whatever

@@ -1,5 +1,5 @@
 //! The rounds and the hops of a settling.
-use fabric_core::{Event, EventForm, Fabric, LaneName, SeenForm};
+use fabric_core::{Event, EventRef, Fabric, LaneName, SeenRef};
 use fabric_settle::{Witness, settle};
 use lane_core::DllpKind;
 use std::alloc::AllocError;
@@ -27,22 +27,22 @@ impl Witness for Counts {
 
     ghost may_lose = { Never };
 
-    fn make_room(&mut self, _event: EventForm<'_>) -> Result<(), AllocError> {
+    fn make_room(&mut self, _event: &EventRef<'_>) -> Result<(), AllocError> {
         Ok(())
     }
 
     fn saw(
         &mut self,
         _line: u64,
-        event: EventForm<'_>,
-        _seen: &SeenForm<'_>,
+        event: &EventRef<'_>,
+        _seen: &SeenRef<'_>,
         _fabric: &Fabric,
     ) -> Result<(), AllocError> {
         match event {
-            EventForm::SendDllp(LaneName::Up(1), DllpKind::Answer) => {
+            EventRef::SendDllp(LaneName::Up(1), DllpKind::Answer) => {
                 self.rounds = self.rounds.wrapping_add(1);
             }
-            EventForm::Forward(_, _) | EventForm::Serve(_) | EventForm::Collect(_) => {
+            EventRef::Forward(_, _) | EventRef::Serve(_) | EventRef::Collect(_) => {
                 self.hops = self.hops.wrapping_add(1);
             }
             _ => {}

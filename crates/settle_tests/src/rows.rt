@@ -1,7 +1,7 @@
 //! Full queues.
 use crate::counts::{left_after, settled};
 use arrayvec::ArrayVec;
-use fabric_core::{Config, Event, Fabric};
+use fabric_core::{ANSWER_ROOM, Config, Event, Fabric};
 use lane_core::LaneCredits;
 use std::alloc::Global;
 use tlp_core::{Op, Width};
@@ -98,7 +98,8 @@ pub(super) fn add() -> Op {
 fn submit(fabric: &mut Fabric, count: u32, event: &Event, left: u64) -> Option<u64> {
     let mut now = left;
     for _ in 0..count {
-        if fabric.step(event).is_err() {
+        let mut room = ANSWER_ROOM;
+        if fabric.step(&event.lend(), &mut room).is_err() {
             return None;
         }
         now = left_after(now, event);

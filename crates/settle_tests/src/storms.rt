@@ -1,7 +1,7 @@
 //! Storms, and links that stop or fail right before the end.
 use crate::counts::{left_after, settled};
 use crate::rows::{LEAST, MOST, add, fabric_with};
-use fabric_core::{Event, Fabric, LaneName};
+use fabric_core::{ANSWER_ROOM, Event, Fabric, LaneName};
 use lane_core::{Fate, LaneCredits};
 use parameters::Storm;
 use std::alloc::Global;
@@ -57,7 +57,8 @@ const FAILS: [Event; 2] = [
 /// Events that happen or are refused.
 fn try_all(fabric: &mut Fabric, events: &[Event]) {
     for event in events {
-        let _ = fabric.step(event);
+        let mut room = ANSWER_ROOM;
+        let _ = fabric.step(&event.lend(), &mut room);
     }
 }
 
@@ -85,7 +86,8 @@ fn blow(fabric: &mut Fabric, chooser: &mut Chooser, events: u64) -> Option<u64> 
 /// The hops that are left where a request of port 1 was submitted, if it could be.
 fn one_more(fabric: &mut Fabric, left: u64) -> u64 {
     let event = Event::Submit(1, add());
-    match fabric.step(&event) {
+    let mut room = ANSWER_ROOM;
+    match fabric.step(&event.lend(), &mut room) {
         Ok(_) => left_after(left, &event),
         Err(_) => left,
     }

@@ -3,7 +3,7 @@ use Rattle.std.specs.Prelude.{ℕ, ◌≡◌, ◌⊎◌, nat_lt, if◌then◌els
 use Rattle.history_check.specs.declared.Record.{Record}
 use Rattle.fabric_laws.specs.Fabric.{Fabric}
 use Rattle.fabric_core.specs.declared.config.Config.{Config}
-use Rattle.fabric_events.specs.declared.event.Event.{Event}
+use Rattle.fabric_events.specs.Events.{Event}
 use Rattle.fabric_core.specs.declared.fault.Refusal.{Refusal}
 use Rattle.fabric_core.specs.Config.{IsNewWith}
 use Rattle.fabric_core.specs.Steps.{Refused}

@@ -7,7 +7,7 @@ ghost use Rattle.step_engine.specs.Step as spec;
 use crate::options::StepOptions;
 use crate::step::{Rooms, Stepper};
 use arrayvec::ArrayString;
-use diagnostics::{tell_long_line, tell_misfit, tell_refusal};
+use diagnostics::{Reason, tell_long_line, tell_misfit, tell_refusal};
 use line_loop::{EngineFault, Responder, Verdict, run};
 use script_text::{script_misfit, write_refusal};
 use std::alloc::{AllocError, Global};
@@ -32,6 +32,37 @@ fn explain<E: Write>(stepper: &mut Stepper, line: &[u8], errors: &mut E) -> Resu
     tell_refusal(line, name.as_str(), fault, errors)
 }
 
+/// Why the request of an answer in words isn't served, if it isn't.
+fn unserved(answer: &[u8]) -> Option<&'static str> {
+    if answer.ends_with(b" ca") {
+        Some(": ca (the request crosses a block)")
+    } else if answer.ends_with(b" ur") {
+        Some(": ur (the request isn't within the memory)")
+    } else {
+        None
+    }
+}
+
+/// Tells why requests aren't served whose answers a line of the script had, each in a line.
+fn explain_answers<E: Write>(text: &[u8], number: u64, errors: &mut E) -> Result<(), EngineFault> {
+    for answer in text.split(|byte| *byte == b'\n') {
+        if let Some(why) = unserved(answer) {
+            let mut reason = Reason::new();
+            reason.put(why);
+            reason.tell_at(number, errors)?;
+        }
+    }
+    Ok(())
+}
+
+/// Whether the text may have an answer of a request that isn't served: it says so at its end, or `settle` wrote it.
+fn may_be_unserved(text: &[u8]) -> bool {
+    match text.strip_suffix(b"\n") {
+        Some(answer) => unserved(answer).is_some() || answer.ends_with(b"settled"),
+        None => false,
+    }
+}
+
 /// A script that is run line by line, and the stream on which reasons are told.
 #[derive(Drop)]
 struct Explained<E> {
@@ -54,9 +85,14 @@ impl<E: Write + Drop> Responder for Explained<E> {
     ghost responses = { step_responses };
 
     fn on_line(&mut self, line: &[u8], out: &mut Vec<u8>) -> Result<Verdict, AllocError> {
+        let before = out.len();
         let verdict = self.stepper.answer(line, &mut self.rooms, out)?;
         if verdict.is_fault() {
             let _ = explain(&mut self.stepper, line, &mut self.errors);
+        } else if may_be_unserved(&out[before.min(out.len())..]) {
+            let number = self.stepper.lines();
+            let text = &out[before.min(out.len())..];
+            let _ = explain_answers(text, number, &mut self.errors);
         }
         Ok(verdict)
     }

@@ -5,7 +5,7 @@ ghost use Rattle.history_check.specs.Clocks.{IsClocked};
 ghost use Rattle.history_check.specs.Trace.{Explains};
 ghost use Rattle.fabric_laws.specs.Fabric.{Fabric};
 ghost use Rattle.fabric_core.specs.declared.config.Config.{Config};
-ghost use Rattle.fabric_events.specs.declared.event.Event.{Event};
+ghost use Rattle.fabric_events.specs.Events.{Event};
 ghost use Rattle.fabric_core.specs.Config.{IsNewWith};
 ghost use Rattle.fabric_core.specs.Runs.{Runs};
 ghost use Rattle.trace_engine.specs.Check.{out_check, out_check_clocked};

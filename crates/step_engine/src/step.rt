@@ -1,7 +1,6 @@
 //! The subcommand `step`: scripts of events for a fabric.
 ghost use Rattle.std.specs.Prelude.{◌≡◌, ◌≤◌, ◌+◌, ◌++◌, ◌∷◌, [], length, is_some, Some, None, Ok, Err, IfOk, IfErr, OnOk, OnErr};
 ghost use Rattle.arrayvec.specs.ArrayString.{array_string_len};
-ghost use Rattle.fabric_events.specs.Lent.{owned_event, owned_seen};
 ghost use Rattle.fabric_core.specs.Answers.{answer};
 ghost use Rattle.fabric_answers.specs.Told.{IsTold};
 ghost use Rattle.fabric_answers.specs.New.{new_fabric, config_fault};
@@ -17,16 +16,15 @@ use crate::explained::run_step_with_reasons;
 use crate::options::StepOptions;
 use arrayvec::ArrayString;
 use fabric_answers::laws::{a_configuration_has_one_answer, each_event_has_one_answer};
-use fabric_core::{Config, ConfigFault, EventForm, Fabric, Refusal, SeenForm};
+use fabric_core::{ANSWER_ROOM, Config, ConfigFault, EventRef, Fabric, Refusal, SeenRef};
 use fabric_settle::{happen, settle};
 use history_check::Record;
 use line_loop::{EngineFault, Verdict};
 use requester_core::Answer;
 use script_text::{
-    LineForm, ROOM, read_line_lent, write_config_fault, write_refusal, write_seen_lent,
-    write_settled, write_told,
+    LineForm, ROOM, read_line_lent, write_config_fault, write_refusal, write_seen, write_settled,
+    write_told,
 };
-use seq_memory::Reply;
 use std::alloc::{AllocError, Global};
 use std::io::{Read, Write, sink};
 use std::marker::Model;
@@ -48,15 +46,15 @@ fn make(config: Config, alloc: Global) -> Result<Fabric, ConfigFault>
 #[inline(always)]
 fn see<'a>(
     fabric: &mut Fabric,
-    event: EventForm<'_>,
+    event: &EventRef<'_>,
     room: &'a mut Answer,
-) -> Result<SeenForm<'a>, Refusal>
-    ensures ok { IfOk result (λ what. answer fabric.old (owned_event event.entry) ≡ Ok (owned_seen what, fabric.new)) }
-    ensures refused { IfErr result (λ r. IsTold r → answer fabric.old (owned_event event.entry) ≡ Err r) }
+) -> Result<SeenRef<'a>, Refusal>
+    ensures ok { IfOk result (λ what. answer fabric.old event.now ≡ Ok (what, fabric.new)) }
+    ensures refused { IfErr result (λ r. IsTold r → answer fabric.old event.now ≡ Err r) }
     ensures err { OnErr result (fabric.new ≡ fabric.old) }
 {
     each_event_has_one_answer();
-    fabric.step_lent(event, room)
+    fabric.step(event, room)
 }
 
 /// Room for what lines lend.
@@ -72,10 +70,7 @@ impl Rooms {
     pub(crate) fn new() -> Rooms {
         Rooms {
             operation: ROOM,
-            answer: Answer {
-                number: 0,
-                reply: Reply::Done,
-            },
+            answer: ANSWER_ROOM,
         }
     }
 }
@@ -291,17 +286,17 @@ impl Stepper {
     fn tell(
         &mut self,
         line: &[u8],
-        event: EventForm<'_>,
-        seen: &SeenForm<'_>,
+        event: &EventRef<'_>,
+        seen: &SeenRef<'_>,
         out: &mut Vec<u8>,
     ) -> Result<Verdict, AllocError>
         ensures state { OnOk result (self.new ≡ spec.counted self.old) }
-        ensures text { OnOk result (out.new.items ≡ out.old.items ++ spec.shown self.old line.now (seen_text (owned_event event.entry) (owned_seen seen.now))) }
+        ensures text { OnOk result (out.new.items ≡ out.old.items ++ spec.shown self.old line.now (seen_text event.now seen.now)) }
         ensures verdict { IfOk result (λ verdict. verdict ≡ Verdict.Fine) }
         ensures err { OnErr result (out.new.items ≡ out.old.items) }
     {
         self.text.clear();
-        write_seen_lent(event, seen, &mut self.text);
+        write_seen(event, seen, &mut self.text);
         put_shown(self.options.echoes, line, &mut self.text, out)?;
         self.count();
         Ok(Verdict::Fine)
@@ -312,11 +307,11 @@ impl Stepper {
     fn happen(
         &mut self,
         line: &[u8],
-        event: EventForm<'_>,
+        event: &EventRef<'_>,
         room: &mut Answer,
         out: &mut Vec<u8>,
     ) -> Result<Verdict, AllocError>
-        ensures ok { IfOk result (λ verdict. IsAnswer self.new out.old.items out.new.items verdict (spec.happened self.old line.now self.old.fabric (owned_event event.entry))) }
+        ensures ok { IfOk result (λ verdict. IsAnswer self.new out.old.items out.new.items verdict (spec.happened self.old line.now self.old.fabric event.now)) }
         ensures err { OnErr result (out.new.items ≡ out.old.items) }
     {
         let number = self.next_line();
@@ -423,7 +418,7 @@ impl Stepper {
             Err(_) => self.no_line(out),
             Ok(LineForm::Fabric(config)) => self.make(config, out),
             Ok(LineForm::Settle) => self.settle(line, out),
-            Ok(LineForm::Event(event)) => self.happen(line, event, &mut rooms.answer, out),
+            Ok(LineForm::Event(event)) => self.happen(line, &event, &mut rooms.answer, out),
         }
     }
 

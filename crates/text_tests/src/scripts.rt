@@ -318,7 +318,7 @@ fn seen_of(sight: Sight) -> Seen {
 /// Whether this is written of the event.
 fn is_written(event: &Event, sight: Sight, text: &str) -> bool {
     let mut line = ArrayString::new();
-    write_seen(event, &seen_of(sight), &mut line);
+    write_seen(&event.lend(), &seen_of(sight).lend(), &mut line);
     line.as_str() == text
 }
 

@@ -19,7 +19,7 @@ use std::io::{Read, Write, sink};
 use std::marker::Model;
 use text_lines::is_skipped;
 use tlp_core::laws::reading_is_spelling;
-use tlp_core::{Kind, MAX_TLP, TlpFault, TlpRef, decode_lent};
+use tlp_core::{MAX_TLP, TlpFault, TlpRef, decode_lent};
 
 /// The bytes of a memory, and how many requests of each port have acted on it: what `tlp` needs of
 /// a history, in memory that doesn't grow.
@@ -167,10 +167,10 @@ impl Device {
         ensures ok { IfOk result (λ verdict. IsAnswer self.new out.old.items out.new.items verdict (answer_packet without_history self.old packet.now)) }
         ensures err { OnErr result (out.new.items ≡ out.old.items) }
     {
-        match packet.header.kind {
-            Kind::Completion | Kind::CompletionData => tell(b"fault completion\n", out),
-            _ => self.answer_request(packet, reply, room, out),
+        if packet.header.kind.is_completion() {
+            return tell(b"fault completion\n", out);
         }
+        self.answer_request(packet, reply, room, out)
     }
 
     /// Answers the bytes of a line.

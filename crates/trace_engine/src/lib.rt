@@ -14,5 +14,5 @@ mod traces;
 mod upgrade;
 
 pub use check::{run_check, run_check_clocked, run_check_with, run_check_with_reasons};
-pub use traces::tell_trace;
+pub use traces::{TraceInput, tell_trace};
 pub use upgrade::{run_upgrade, run_upgrade_with_reasons};

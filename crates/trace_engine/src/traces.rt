@@ -8,7 +8,7 @@ ghost use Rattle.trace_diagnostics.specs.Told.{first_of};
 ghost use Rattle.trace_engine.specs.Reasons.{faulty_line};
 
 use arrayvec::ArrayString;
-use history_check::Trace;
+use history_check::{AsClaim, Flaw, Trace};
 use line_loop::Verdict;
 use record_text::{ReadFault, write_fault};
 use seq_memory::Entry;
@@ -16,7 +16,7 @@ use std::alloc::{AllocError, Global};
 use std::io::Write;
 use std::marker::Model;
 use std::mem;
-use trace_diagnostics::TraceReasons;
+use trace_diagnostics::{TraceLines, TraceReasons};
 use trace_store::TraceStore;
 use trace_text::{TraceReader, write_trace};
 
@@ -53,6 +53,7 @@ impl<E: Write> Model for TraceInput<E> {
 }
 
 impl<E: Write + Drop> TraceInput<E> {
+    /// Nothing is read so far. Reasons are told on `errors`.
     pub fn new(alloc: Global, errors: E) -> TraceInput<E>
         ensures { result ≡ nothing_read }
     {
@@ -85,6 +86,13 @@ impl<E: Write + Drop> TraceInput<E> {
     {
         self.reader.long_line();
         tell_reason(&self.reader, b"", &mut self.reasons);
+    }
+
+    /// Tells the reason of a flaw of what was read, by the lines of its text, if the stream takes it.
+    pub fn tell_flaw<C: AsClaim>(&mut self, claim: &C, flaw: Flaw, lines: &TraceLines)
+        ensures { self.new ≡ self.old }
+    {
+        let _ = self.reasons.tell_flaw(self.alloc, claim, flaw, lines);
     }
 
     /// Takes the end of the text: gives what was read, or the first fault, and keeps nothing.

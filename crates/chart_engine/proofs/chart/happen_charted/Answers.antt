@@ -1,7 +1,6 @@
 use Rattle.std.proofs.Common.{◌≡◌, ◌∙◌, sym, ap, subst, Result, Err}
 use Rattle.fabric_laws.specs.Fabric.{Fabric}
-use Rattle.fabric_events.specs.declared.event.Event.{Event}
-use Rattle.fabric_events.specs.declared.event.Seen.{Seen}
+use Rattle.fabric_events.specs.Events.{Event, Seen}
 use Rattle.fabric_core.specs.declared.fault.Refusal.{Refusal}
 use Rattle.fabric_core.specs.Answers.{answer}
 use Rattle.fabric_settle.specs.Keeping.{Witnessed}
@@ -12,7 +11,7 @@ use Rattle.chart_engine.proofs.chart.happen_charted.Goals as goal
 pub returns-in-Ok : goal.returns-in-Ok
 returns-in-Ok c =
     let p = session c.args.fabric.now c.args.chart.now in
-    let w = subst (λ (event : Event). Witnessed (charted_of c.args.line) c.args.fabric.now c.args.chart.now event c.happen.new.fabric c.happen.new.witness) c.lent.ensures c.in-Ok.ensures.ok in
+    let w = subst (λ (event : Event). Witnessed (charted_of c.args.line) c.args.fabric.now c.args.chart.now event c.happen.new.fabric c.happen.new.witness) c.lend.ensures c.in-Ok.ensures.ok in
     let is = w.happens.0 in
     record {
       fabric = sym (ap (λ (a : Result (Seen × Fabric) Refusal). (left_by c.args.line p c.args.event a).fabric) is);
@@ -24,7 +23,7 @@ pub returns-in_ok-tell_refused-in-Err : goal.returns-in_ok-tell_refused-in-Err
 returns-in_ok-tell_refused-in-Err c =
     let p = session c.args.fabric.now c.args.chart.now in
     let told = c.in-Err.ensures.told c.in_ok-tell_refused-in-Err.ensures.told in
-    let is = subst (λ (event : Event). answer c.args.fabric.now event ≡ Err c.in-Err.refusal) c.lent.ensures told.0 in
+    let is = subst (λ (event : Event). answer c.args.fabric.now event ≡ Err c.in-Err.refusal) c.lend.ensures told.0 in
     record {
       fabric = told.1 ∙ sym (ap (λ (a : Result (Seen × Fabric) Refusal). (left_by c.args.line p c.args.event a).fabric) is);
       chart = c.in_ok-tell_refused-in-Err.ensures.chart

@@ -1,7 +1,7 @@
 use Rattle.std.proofs.Common.{◌+◌, ◌-◌, ◌^◌, ◌<◌, ◌≤◌, ℕ, length, arith}
 use Rattle.lane_ends.specs.Steps.{LaneEndsView, IsShort}
 use Rattle.lane_core.specs.Flushed.{IsEnough}
-use Rattle.fabric_rest.proofs.Settling.{AllLaws, soon, quiet, reached}
+use Rattle.fabric_rest.proofs.Settling.{AllLaws, soon, quiet, reached, flushed_then}
 use Rattle.fabric_rest.proofs.laws.every_fabric_comes_to_rest.Goals as goal
 
 -- each call that a turn tries until it is refused is refused at last
@@ -28,4 +28,4 @@ returns c =
       none = hops.none;
       few = c.few_hops_are_left.ensures;
     } in
-    record { quiet = quiet l; soon = soon l; reached = reached l }
+    record { quiet = quiet l; soon = soon l; reached = reached l; flushed = flushed_then l }

@@ -1,5 +1,6 @@
 use Rattle.std.proofs.Common.{◌≡◌, [], refl, sym, ap, subst}
 use Rattle.fabric_core.specs.Quiet.{IsQuiet}
+use Rattle.fabric_hops.specs.Hops.{AreFlushed}
 use Rattle.fabric_rounds.specs.Rounds.{Settling, settlement}
 use Rattle.fabric_settle.proofs.AnsweredLemmas.{none_waits}
 use Rattle.fabric_settle.proofs.rounds.settle.Goals as goal
@@ -12,6 +13,12 @@ returns-clause-settled g c =
     let f = c.args.fabric.now in
     let now : c.all_rounds.new.fabric ≡ (settlement f).fabric = ap (λ (t : Settling). t.fabric) (c.in_ok-all_rounds.ensures.state (g.W.Witness.kept c.args.witness.now) [] refl).same in
     subst IsQuiet (sym now) (c.every_fabric_comes_to_rest.ensures.quiet f c.sound.ensures c.short.ensures c.tags.ensures)
+
+pub returns-clause-flushed : goal.returns-clause-flushed
+returns-clause-flushed g c =
+    let f = c.args.fabric.now in
+    let now : c.all_rounds.new.fabric ≡ (settlement f).fabric = ap (λ (t : Settling). t.fabric) (c.in_ok-all_rounds.ensures.state (g.W.Witness.kept c.args.witness.now) [] refl).same in
+    subst AreFlushed (sym now) (c.every_fabric_comes_to_rest.ensures.flushed f c.sound.ensures c.short.ensures c.tags.ensures)
 
 pub returns-clause-answered : goal.returns-clause-answered
 returns-clause-answered g c =

@@ -1,5 +1,5 @@
 use Rattle.chart_engine.proofs.Charted.{document-written, events-written}
-use Rattle.chart_engine.proofs.chart.run_chart.Goals as goal
+use Rattle.chart_engine.proofs.explained.run_chart_with_reasons.Goals as goal
 
 pub returns-clause-document : goal.returns-clause-document
 returns-clause-document g c =
