@@ -101,6 +101,7 @@ new_fits f c seats n small config = record {
   seen = (f.memory.entries, refl);
   made = refl;
   pending = refl;
+  records = refl;
   told = λ a r at. absurd (cc);
   served = tt;
   did = refl;
@@ -150,6 +151,9 @@ closes key id (t ∷ ts) ws xs some_token (s, (r, at), words, count, home) free 
       tells = subst (λ (g : Fabric). Tells g p.acts p.records p.fabric) (sym f.opened) r.sound.tells;
       own = f.did;
       by = subst (λ (n : ℕ). Each (λ (a : Act). a.by < n) p.acts) (sym f.seats) r.sound.by;
+      belongs = r.sound.belongs;
+      made = f.made;
+      records = f.records;
     } in
     let leaves : (w : Knowledge) → Fits p w → Leaves w p.fabric = λ w f. record {
       sound = r.sound.sound;
@@ -157,7 +161,7 @@ closes key id (t ∷ ts) ws xs some_token (s, (r, at), words, count, home) free 
       right_config = subst IsConfig (same_config p.fabric w.config f.config) r.sound.sound.config;
       begins = f.seen;
       made = subst (Rattle.fabric_laws.specs.Trace.IsMade (suc w.number) (Rattle.fabric_laws.specs.Whole.view (whole_of p.fabric) (suc w.number))) (sym f.made) (r.sound.belongs.made (suc w.number));
-      ran = record { acts = p.acts; told = p.records; tells = (story w f).tells; own = f.did };
+      ran = record { acts = p.acts; told = p.records; tells = (story w f).tells; own = f.did; belongs = r.sound.belongs };
     } in (
       p.fabric,
       leaves t.knows each.0.1,

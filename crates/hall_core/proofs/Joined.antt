@@ -135,6 +135,10 @@ ran_by h (s ∷ seats) f some of count a =
       tells = subst (λ (g : Fabric). Tells g a.acts a.told f) of.0.2 a.ran.0.tells;
       by = each_map (λ (x : Act) (small : x.by < h.seats). has_number x.by all (one x.by small)) a.acts (subst (λ (n : ℕ). Each (λ (x : Act). x.by < n) a.acts) of.0.3 a.ran.0.by);
       own = each_map (λ (x : SeatView) (r : IsStoryOf a.acts a.told f x.knows). r.own) all (of_tokens (λ (t : Token). IsStoryOf a.acts a.told f t.knows) all a.ran);
+      sound = a.leaves.0.sound;
+      belongs = a.ran.0.belongs;
+      made = each_map (λ (x : SeatView) (r : IsStoryOf a.acts a.told f x.knows). r.made) all (of_tokens (λ (t : Token). IsStoryOf a.acts a.told f t.knows) all a.ran);
+      records = each_map (λ (x : SeatView) (r : IsStoryOf a.acts a.told f x.knows). r.records) all (of_tokens (λ (t : Token). IsStoryOf a.acts a.told f t.knows) all a.ran);
     }
 
 -- the seats of both kinds

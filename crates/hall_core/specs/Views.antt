@@ -1,12 +1,16 @@
 -- What contracts see of a hall and of a seat.
-use Rattle.std.specs.Prelude.{ℕ, ◌≡◌, ◌⊎◌, ◌+◌, List, [], ◌∷◌, length, slice_get, Some}
+use Rattle.std.specs.Prelude.{ℕ, suc, ◌≡◌, ◌⊎◌, ◌+◌, List, [], ◌∷◌, length, slice_get, Some}
 use Rattle.atomic_table.specs.Seated.{TableId}
 use Rattle.history_check.specs.declared.Record.{Record}
+use Rattle.history_check.specs.Trace.{submissions}
 use Rattle.fabric_laws.specs.Lists.{Each}
-use Rattle.fabric_laws.specs.Fabric.{Fabric}
+use Rattle.fabric_laws.specs.Fabric.{Fabric, whole_of}
+use Rattle.fabric_laws.specs.Trace.{Belongs}
 use Rattle.fabric_core.specs.declared.config.Config.{Config}
+use Rattle.fabric_core.specs.Kept.{IsSoundFabric}
 use Rattle.hall_laws.specs.declared.token.Knowledge.{Knowledge}
 use Rattle.hall_laws.specs.Story.{Act, Tells, done_by}
+use Rattle.hall_laws.specs.Waiting.{records_by}
 use Rattle.hall_laws.specs.Rule.{newcomer}
 
 pub record SeatView : Type 0 where
@@ -48,3 +52,9 @@ pub record RanBy (h : HallView) (seats : List SeatView) (f : Fabric) : Type 0 wh
   pub by : Each (λ (a : Act). HasNumber a.by seats) acts
   -- and each seat's are what it did, in its order
   pub own : Each (λ (s : SeatView). s.knows.did ≡ done_by s.knows.number acts) seats
+  -- the fabric is sound, the records belong to it, and those of each seat's requester among them are the seat's own, its
+  -- submissions what it made
+  pub sound : IsSoundFabric f
+  pub belongs : Belongs (whole_of f) told
+  pub made : Each (λ (s : SeatView). s.knows.made ≡ submissions told (suc s.knows.number)) seats
+  pub records : Each (λ (s : SeatView). s.knows.records ≡ records_by (suc s.knows.number) told) seats

@@ -2,7 +2,7 @@
 ghost use Rattle.std.specs.Prelude.{◌≡◌, ◌≢◌, ◌+◌, ◌<◌, ◌≤◌, ◌++◌, List, length, IfOk, IfErr, MatchOption};
 ghost use Rattle.seq_memory.specs.declared.Entry.{Entry};
 ghost use Rattle.fabric_laws.specs.Lists.{Each};
-ghost use Rattle.fabric_events.specs.declared.event.Event.TheVariants.{Submit, Collect};
+ghost use Rattle.fabric_events.specs.declared.event.EventOf.TheVariants.{Submit, Collect};
 ghost use Rattle.hall_laws.specs.declared.part.Part.TheVariants.{Memory};
 ghost use Rattle.hall_laws.specs.Shows.{Shows};
 ghost use Rattle.hall_laws.specs.Calls.{IsSized};

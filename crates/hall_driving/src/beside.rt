@@ -2,7 +2,7 @@
 ghost use Rattle.hall_core.specs.Views.{IsSeatOf};
 
 use crate::drive::{collect, pump, read, submit, write};
-use fabric_core::{Config, Event, Fabric, Refusal, Seen};
+use fabric_core::{ANSWER_ROOM, Config, Event, Fabric, Refusal, Seen};
 use hall_core::{Answered, Hall, HallRefusal, ReqSeat, Submitted, WorkEvent, WorkSeat};
 use std::alloc::Global;
 use tlp_core::{Op, Width};
@@ -134,7 +134,12 @@ fn told_of(act: Act, refusal: Refusal) -> Told {
 /// What the fabric tells of the event, a requester's being that of this port.
 fn told_by_fabric(fabric: &mut Fabric, port: u8, act: Act) -> Told {
     let n = fabric.history().len() as u64;
-    match fabric.step(&event_of(port, act)) {
+    let mut room = ANSWER_ROOM;
+    let seen = match fabric.step(&event_of(port, act).lend(), &mut room) {
+        Ok(seen) => Ok(seen.to_owned()),
+        Err(refusal) => Err(refusal),
+    };
+    match seen {
         Ok(Seen::Submitted(number)) => Told::Submitted(Submitted { number, n }),
         Ok(Seen::Collected(answer)) => Told::Collected(Answered {
             number: answer.number,

@@ -79,7 +79,8 @@ pub fn two_and_a_worker(
     config: Config,
     alloc: Global,
 ) -> Result<(Hall, ReqSeat, ReqSeat, WorkSeat), OpenFault>
-    ensures { IfOk result (λ t. IsSeatOf t.0 t.1 × IsSeatOf t.0 t.2 × IsSeatOf t.0 t.3) }
+    ensures seats { IfOk result (λ t. IsSeatOf t.0 t.1 × IsSeatOf t.0 t.2 × IsSeatOf t.0 t.3) }
+    ensures count { IfOk result (λ t. t.0.seats ≡ config.requesters + 1) }
 {
     let (hall, mut seats, mut workers) = opened(config, 1, alloc)?;
     match (

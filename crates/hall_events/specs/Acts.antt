@@ -3,8 +3,8 @@ use Rattle.std.specs.Prelude.{◌≡◌, [], None, Result, Ok, Err}
 use Rattle.lane_ends.specs.Steps.{transmitted}
 use Rattle.fabric_events.specs.declared.event.LinkEvent.{LinkEvent}
 use Rattle.fabric_events.specs.declared.event.LinkEvent.TheVariants as links
-use Rattle.fabric_events.specs.declared.event.Seen.{Seen}
-use Rattle.fabric_events.specs.declared.event.Seen.TheVariants as seen
+use Rattle.fabric_events.specs.Events.{Seen}
+use Rattle.fabric_events.specs.declared.event.SeenOf.TheVariants as seen
 use Rattle.fabric_core.specs.declared.fault.Refusal.{Refusal}
 use Rattle.fabric_core.specs.declared.fault.Refusal.TheVariants.{NoSuchPart}
 use Rattle.fabric_core.specs.Answers.{map_ok, transmit_on, deliver_on, send_dllp_on, deliver_dllp_on, timer_on, retrained_on}

@@ -2,10 +2,10 @@
 use Rattle.std.specs.Prelude.{◌≡◌, ◌⊎◌, ◌+◌, ◌<◌, ◌≤◌, ℕ, List, [], ◌∷◌, Ok, Err}
 use Rattle.lane_ends.specs.Steps.{ReceiverEndView, SenderEndView}
 use Rattle.switch_core.specs.declared.fault.RouteFault.TheVariants.{NoPort}
-use Rattle.fabric_events.specs.declared.event.Event.TheVariants.{Forward}
+use Rattle.fabric_events.specs.declared.event.EventOf.TheVariants.{Forward}
 use Rattle.fabric_events.specs.declared.event.LaneName.{LaneName}
 use Rattle.fabric_events.specs.declared.event.LaneName.TheVariants as lanes
-use Rattle.fabric_events.specs.declared.event.Seen.TheVariants.{To}
+use Rattle.fabric_events.specs.declared.event.SeenOf.TheVariants.{To}
 use Rattle.fabric_core.specs.declared.fault.Refusal.{Refusal}
 use Rattle.fabric_core.specs.declared.fault.Refusal.TheVariants.{Route}
 use Rattle.fabric_core.specs.Answers.{Refuses, lane_grows, destination_on, forward_on, ForwardFits}

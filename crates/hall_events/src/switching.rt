@@ -1,7 +1,7 @@
 //! Packets that go on, and requests that act.
 ghost use Rattle.std.specs.Prelude.{◌≡◌, ◌↔◌, ◌<◌, ◌≤◌, IsTrue, IfOk, IfErr, OnErr};
-ghost use Rattle.fabric_events.specs.declared.event.Event.TheVariants.{Forward, Serve};
-ghost use Rattle.fabric_events.specs.declared.event.Seen.TheVariants.{At};
+ghost use Rattle.fabric_events.specs.declared.event.EventOf.TheVariants.{Forward, Serve};
+ghost use Rattle.fabric_events.specs.declared.event.SeenOf.TheVariants.{At};
 ghost use Rattle.hall_laws.specs.Calls.{IsIdle, knowing, serving_also};
 ghost use Rattle.hall_laws.specs.Rule.{with_done};
 ghost use Rattle.hall_laws.specs.Shows.{Shows};

@@ -13,10 +13,9 @@ use Rattle.history_check.specs.Trace.{stands}
 use Rattle.fabric_laws.specs.Fabric.{Fabric, whole_of}
 use Rattle.fabric_laws.specs.Trace.{Belongs}
 use Rattle.fabric_core.specs.declared.config.Config.{Config}
-use Rattle.fabric_events.specs.declared.event.Event.{Event}
-use Rattle.fabric_events.specs.declared.event.Event.TheVariants as events
-use Rattle.fabric_events.specs.declared.event.Seen.{Seen}
-use Rattle.fabric_events.specs.declared.event.Seen.TheVariants as seen
+use Rattle.fabric_events.specs.Events.{Event, Seen}
+use Rattle.fabric_events.specs.declared.event.EventOf.TheVariants as events
+use Rattle.fabric_events.specs.declared.event.SeenOf.TheVariants as seen
 use Rattle.fabric_core.specs.Answers.{Happens}
 use Rattle.hall_laws.specs.declared.part.PartValue.{PartValue}
 use Rattle.hall_laws.specs.declared.part.PartValue.TheVariants.{Memory}

@@ -23,8 +23,7 @@ use Rattle.fabric_laws.specs.Steps.{Step, Run, stays, goes}
 use Rattle.fabric_laws.specs.Trace.{Belongs, moment}
 use Rattle.hall_laws.proofs.Lists.{made_own, made_ans}
 use Rattle.hall_laws.proofs.Lists.{each_at}
-use Rattle.fabric_events.specs.declared.event.Event.{Event}
-use Rattle.fabric_events.specs.declared.event.Seen.{Seen}
+use Rattle.fabric_events.specs.Events.{Event, Seen}
 use Rattle.fabric_core.specs.Kept.{IsSoundFabric, records_of}
 use Rattle.fabric_core.specs.Answers.{Happens}
 use Rattle.hall_laws.specs.declared.part.PartValue.{PartValue}
@@ -38,7 +37,7 @@ use Rattle.hall_laws.specs.Parts.{parts_of}
 use Rattle.hall_laws.specs.Standing.{Values, Covers, Outside, times, one_if_same, token_of, others_of, AreAlike}
 use Rattle.hall_laws.specs.Rule.{Traced, IsSoundTraced, Begins, Fits, Goes, Releases, Agrees, Apart, write, learned_also, with_done, parts, dropped_first, dropped_seen, having_seen, history_in}
 use Rattle.hall_laws.proofs.Totals.{each_map, each_two, covered, covers_outside, at_length, total_append, one_is, same_alike}
-use Rattle.hall_laws.proofs.Records.{made_append_other, waiting_append_other, waiting_submitted, waiting_answered, get_append}
+use Rattle.hall_laws.proofs.Records.{made_append_other, waiting_append_other, waiting_submitted, waiting_answered, by_append_other, by_append_own, get_append}
 use Rattle.hall_laws.proofs.Story.{one_more, by_own, by_other}
 use Rattle.hall_laws.proofs.Learning.{config_stays, Learning, silent, submits, collects, serves, learning}
 
@@ -96,6 +95,7 @@ module _ (s : Traced) (f' : Fabric) (grows : Begins s.fabric.memory.entries f'.m
     seen = begins_trans u.seen s.fabric.memory.entries f'.memory.entries f.seen grows;
     made = f.made ∙ sym (made_append_other (suc u.number) i s.records new ne own);
     pending = f.pending ∙ sym (waiting_append_other (suc u.number) i s.records new ne own);
+    records = f.records ∙ sym (by_append_other (suc u.number) i s.records new ne own);
     told = λ a r at mine. ⊎_elim (λ (old : slice_get s.records a ≡ Some r). f.told a r old mine)
         (λ (y : (b : ℕ) × (slice_get new b ≡ Some r)). absurd (ne (sym (each_at (λ (z : Record). requester_in z ≡ i) new y.0 r y.1 own) ∙ mine))) (get_append s.records new a r at);
     served = still_served u.served f.served;
@@ -129,11 +129,12 @@ own_fits s f' event what w sound grows x f l =
         seen = begins_trans w.seen h f'.memory.entries f.seen grows;
         made = f.made;
         pending = f.pending;
+        records = f.records;
         told = f.told;
         served = served;
         did = did;
       }))
-      | submits op k is same ↦ subst (F (records_of event what (length h))) (sym same) (subst (λ (rs : List Record). F rs (record w { seen = h; made = w.made ++ op ∷ []; pending = Rattle.std.specs.Prelude.if◌then◌else◌ (is_posted op) w.pending (w.pending ++ (k, length h) ∷ []) })) (sym is) (record {
+      | submits op k is same ↦ subst (F (records_of event what (length h))) (sym same) (subst (λ (rs : List Record). F rs (record w { seen = h; made = w.made ++ op ∷ []; pending = Rattle.std.specs.Prelude.if◌then◌else◌ (is_posted op) w.pending (w.pending ++ (k, length h) ∷ []); records = w.records ++ Sub (suc w.number) k op (length h) ∷ [] })) (sym is) (record {
         config = config;
         opened = f.opened;
         seats = f.seats;
@@ -141,11 +142,12 @@ own_fits s f' event what w sound grows x f l =
         seen = grows;
         made = ap (λ (z : List Op). z ++ op ∷ []) f.made ∙ sym (made_own (suc w.number) k (length h) op s.records);
         pending = ap (λ (z : List (ℕ × ℕ)). Rattle.std.specs.Prelude.if◌then◌else◌ (is_posted op) z (z ++ (k, length h) ∷ [])) f.pending ∙ sym (waiting_submitted (suc w.number) k (length h) op s.records);
+        records = ap (λ (z : List Record). z ++ Sub (suc w.number) k op (length h) ∷ []) f.records ∙ sym (by_append_own (suc w.number) (Sub (suc w.number) k op (length h)) s.records refl);
         told = λ a r at mine. heard (Sub (suc w.number) k op (length h)) refl a r at;
         served = served;
         did = did;
       }))
-      | collects x is same ↦ subst (F (records_of event what (length h))) (sym same) (subst (λ (rs : List Record). F rs (record w { seen = h; pending = without x.number w.pending })) (sym is) (record {
+      | collects x is same ↦ subst (F (records_of event what (length h))) (sym same) (subst (λ (rs : List Record). F rs (record w { seen = h; pending = without x.number w.pending; records = w.records ++ Ans (suc w.number) x.number x.reply (length h) ∷ [] })) (sym is) (record {
         config = config;
         opened = f.opened;
         seats = f.seats;
@@ -153,6 +155,7 @@ own_fits s f' event what w sound grows x f l =
         seen = grows;
         made = f.made ∙ sym (made_ans (suc w.number) (suc w.number) x.number x.reply (length h) s.records);
         pending = ap (without x.number) f.pending ∙ sym (waiting_answered (suc w.number) x.number (length h) x.reply s.records);
+        records = ap (λ (z : List Record). z ++ Ans (suc w.number) x.number x.reply (length h) ∷ []) f.records ∙ sym (by_append_own (suc w.number) (Ans (suc w.number) x.number x.reply (length h)) s.records refl);
         told = λ a r at mine. heard (Ans (suc w.number) x.number x.reply (length h)) refl a r at;
         served = served;
         did = did;
@@ -165,6 +168,7 @@ own_fits s f' event what w sound grows x f l =
         seen = begins_trans w.seen h f'.memory.entries f.seen grows;
         made = f.made;
         pending = f.pending;
+        records = f.records;
         told = f.told;
         served = each_snoc (λ (n : ℕ). n < length f'.memory.entries) w.served (length h) served more;
         did = did;
@@ -303,6 +307,7 @@ seen_fits s w f = record {
   seen = ([], sym (append-nil s.fabric.memory.entries));
   made = f.made;
   pending = f.pending;
+  records = f.records;
   told = λ a r at mine. let le = begins_length w.seen s.fabric.memory.entries f.seen in let m = f.told a r at mine in omega arith;
   served = f.served;
   did = f.did;

@@ -19,13 +19,12 @@ use Rattle.fabric_laws.specs.Lists.{Each}
 use Rattle.fabric_laws.specs.Fabric.{Fabric}
 use Rattle.fabric_laws.specs.Routed.{IsRouted}
 use Rattle.fabric_core.specs.declared.config.Config.{Config}
-use Rattle.fabric_events.specs.declared.event.Event.{Event}
-use Rattle.fabric_events.specs.declared.event.Event.TheVariants as events
+use Rattle.fabric_events.specs.Events.{Event, Seen}
+use Rattle.fabric_events.specs.declared.event.EventOf.TheVariants as events
 use Rattle.fabric_events.specs.declared.event.LaneName.{LaneName}
 use Rattle.fabric_events.specs.declared.event.LaneName.TheVariants as lanes
 use Rattle.fabric_events.specs.declared.event.LinkEvent.{LinkEvent}
 use Rattle.fabric_events.specs.declared.event.LinkEvent.TheVariants as links
-use Rattle.fabric_events.specs.declared.event.Seen.{Seen}
 use Rattle.fabric_core.specs.declared.fault.Refusal.{Refusal}
 use Rattle.fabric_core.specs.declared.fault.Refusal.TheVariants as refusals
 use Rattle.fabric_core.specs.Answers.{and_then, map_ok, some_or, item_at, enter_if_any, act_on, serve_on, submit_on, collect_on, destination_on, forward_on, link_on, link_at, part_at, lane_at, with_lane, with_requester, port_from, lane_to, or_no_port, answer, Happens}
@@ -134,9 +133,9 @@ collect_memory f port what f' x = of_then (λ (y : Seen × Fabric). y.1.memory �
 pub data Learning (h : List Entry) (event : Event) (what : Seen) (w : Knowledge) (h' : List Entry) : Type 0 where
   silent : records_of event what (length h) ≡ [] → learned event what h w ≡ w → Learning h event what w h'
   submits : (op : Op) (k : ℕ) → records_of event what (length h) ≡ Sub (suc w.number) k op (length h) ∷ []
-      → learned event what h w ≡ record w { seen = h; made = w.made ++ op ∷ []; pending = if is_posted op then w.pending else w.pending ++ (k, length h) ∷ [] } → Learning h event what w h'
+      → learned event what h w ≡ record w { seen = h; made = w.made ++ op ∷ []; pending = if is_posted op then w.pending else w.pending ++ (k, length h) ∷ []; records = w.records ++ Sub (suc w.number) k op (length h) ∷ [] } → Learning h event what w h'
   collects : (a : Answer) → records_of event what (length h) ≡ Ans (suc w.number) a.number a.reply (length h) ∷ []
-      → learned event what h w ≡ record w { seen = h; pending = without a.number w.pending } → Learning h event what w h'
+      → learned event what h w ≡ record w { seen = h; pending = without a.number w.pending; records = w.records ++ Ans (suc w.number) a.number a.reply (length h) ∷ [] } → Learning h event what w h'
   serves : records_of event what (length h) ≡ [] → learned event what h w ≡ record w { served = w.served ++ length h ∷ [] } → length h < length h' → Learning h event what w h'
 
 grown : (m : MemoryView) (t : TlpView) (mark : ℕ) → is_some (op_of t) ≡ true → length m.entries < length (after_serving m t mark).entries

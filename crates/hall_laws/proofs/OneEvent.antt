@@ -17,10 +17,9 @@ use Rattle.switch_core.specs.Routing.{route, port_of, is_requester}
 use Rattle.switch_core.specs.declared.fault.RouteFault.TheVariants.{NoPort}
 use Rattle.fabric_laws.specs.Lists.{Each}
 use Rattle.fabric_laws.specs.Fabric.{Fabric}
-use Rattle.fabric_events.specs.declared.event.Event.{Event}
+use Rattle.fabric_events.specs.Events.{Event, Seen}
 use Rattle.fabric_events.specs.declared.event.LaneName.{LaneName}
 use Rattle.fabric_events.specs.declared.event.LaneName.TheVariants as lanes
-use Rattle.fabric_events.specs.declared.event.Seen.{Seen}
 use Rattle.fabric_core.specs.declared.fault.Refusal.{Refusal}
 use Rattle.fabric_core.specs.declared.fault.Refusal.TheVariants as refusals
 use Rattle.fabric_core.specs.Answers.{and_then, map_err, Refuses, map_ok, item_at, destination_on, lane_at}

@@ -1,8 +1,8 @@
 -- What a trace has of one requester, as it grows.
-use Rattle.std.proofs.Common.{◌≡◌, ◌≢◌, ℕ, zero, suc, Bool, true, false, List, [], ◌∷◌, ◌++◌, refl, sym, ap, ◌∙◌, inl, inr, ◌⊎◌, Some, eq-eqb}
+use Rattle.std.proofs.Common.{◌≡◌, ◌≢◌, ◌==◌, ℕ, zero, suc, Bool, true, false, cond, List, [], ◌∷◌, ◌++◌, refl, sym, ap, ◌∙◌, inl, inr, ◌⊎◌, Some, eq-eqb}
 use Rattle.std.specs.Prelude.{slice_get, if◌then◌else◌, not}
 use Rattle.std.proofs.lemmas.List.{append-nil}
-use Rattle.std.proofs.lemmas.List.Elements.{filter_map-append}
+use Rattle.std.proofs.lemmas.List.Elements.{filter_map-append, filter-append}
 use Rattle.std.proofs.lemmas.Bool.{ne_eqb}
 use Rattle.tlp_core.specs.declared.operation.Op.{Op}
 use Rattle.tlp_core.specs.Operation.{is_posted}
@@ -10,8 +10,9 @@ use Rattle.seq_memory.specs.declared.Reply.{Reply}
 use Rattle.history_check.specs.declared.Record.{Record}
 use Rattle.history_check.specs.declared.Record.TheVariants.{Sub, Ans}
 use Rattle.history_check.specs.Trace.{submission, submissions}
+use Rattle.history_check.specs.Lookup.{requester_of}
 use Rattle.fabric_laws.specs.Lists.{Each}
-use Rattle.hall_laws.specs.Waiting.{requester_in, without, after_record, waiting_after, waiting}
+use Rattle.hall_laws.specs.Waiting.{requester_in, without, after_record, waiting_after, waiting, records_by}
 
 pub waiting_append : (i : ℕ) (ps : List (ℕ × ℕ)) (rs ss : List Record) → waiting_after i ps (rs ++ ss) ≡ waiting_after i (waiting_after i ps rs) ss
 waiting_append i ps [] ss = refl
@@ -44,7 +45,27 @@ made_append_other i j rs ss ne e = filter_map-append (submission i) rs ss ∙ (a
 pub waiting_append_other : (i j : ℕ) (rs ss : List Record) → j ≢ i → Each (λ (r : Record). requester_in r ≡ j) ss → waiting (rs ++ ss) i ≡ waiting rs i
 waiting_append_other i j rs ss ne e = waiting_append i [] rs ss ∙ waiting_other i j (waiting rs i) ss ne e
 
+none_by : (i j : ℕ) (rs : List Record) → j ≢ i → Each (λ (r : Record). requester_in r ≡ j) rs → records_by i rs ≡ []
+none_by i j [] ne e = refl
+none_by i j (Sub k n op m ∷ rs) ne e =
+    let other : k ≢ i = (λ h. ne (sym e.0 ∙ h)) in
+    let rest : records_by i rs ≡ [] = none_by i j rs ne e.1 in
+    rw (ne_eqb i k (λ h. other (sym h))) rest
+none_by i j (Ans k n x m ∷ rs) ne e =
+    let other : k ≢ i = (λ h. ne (sym e.0 ∙ h)) in
+    let rest : records_by i rs ≡ [] = none_by i j rs ne e.1 in
+    rw (ne_eqb i k (λ h. other (sym h))) rest
+
+by_append : (i : ℕ) (rs ss : List Record) → records_by i (rs ++ ss) ≡ records_by i rs ++ records_by i ss
+by_append i rs ss = filter-append (λ r. i == requester_of r) rs ss
+
+pub by_append_other : (i j : ℕ) (rs ss : List Record) → j ≢ i → Each (λ (r : Record). requester_in r ≡ j) ss → records_by i (rs ++ ss) ≡ records_by i rs
+by_append_other i j rs ss ne e = by_append i rs ss ∙ (ap (λ (l : List Record). records_by i rs ++ l) (none_by i j ss ne e) ∙ append-nil (records_by i rs))
+
 -- records of its own
+
+pub by_append_own : (i : ℕ) (r : Record) (rs : List Record) → i ≡ requester_of r → records_by i (rs ++ r ∷ []) ≡ records_by i rs ++ r ∷ []
+by_append_own i r rs own = by_append i rs (r ∷ []) ∙ ap (λ (b : Bool). records_by i rs ++ cond b (r ∷ []) []) (eq-eqb i (requester_of r) own)
 
 by_posted : (b : Bool) (ps qs : List (ℕ × ℕ)) → (if not b then qs else ps) ≡ (if b then ps else qs)
 by_posted true ps qs = refl

@@ -107,7 +107,7 @@ module _ (s : Traced) (w : Knowledge) (sound : IsSoundTraced s) (f : Fits s w) w
 
 -- what threads did is a run
 pub all_ran : (s : Traced) (w : Knowledge) → IsSoundTraced s → Fits s w → Ran w s.fabric
-all_ran s w sound f = record { acts = s.acts; told = s.records; tells = subst (λ (g : Fabric). Tells g s.acts s.records s.fabric) (sym f.opened) sound.tells; own = f.did }
+all_ran s w sound f = record { acts = s.acts; told = s.records; tells = subst (λ (g : Fabric). Tells g s.acts s.records s.fabric) (sym f.opened) sound.tells; own = f.did; belongs = sound.belongs }
 
 pub run_of : (w : Knowledge) (f : Fabric) (r : Ran w f) → Runs w.opened (events_in r.acts) r.told f
 run_of w f r = tells_runs w.opened f r.acts r.told r.tells
@@ -121,6 +121,7 @@ ruled about s r = record {
   acts = r.whole.acts;
   records = r.whole.records;
   ran = r.sound.tells;
+  belongs = r.sound.belongs;
   seats = r.whole.seats;
   by = r.sound.by;
   wide = r.wide;

@@ -9,7 +9,7 @@ use Rattle.lane_ends.specs.declared.packet.Fate.{Fate}
 use Rattle.lane_ends.specs.declared.packet.DllpKind.{DllpKind}
 use Rattle.lane_ends.specs.Steps.{ReceiverEndView, SenderEndView}
 use Rattle.switch_core.specs.declared.fault.RouteFault.TheVariants.{NoPort}
-use Rattle.fabric_events.specs.declared.event.Event.TheVariants as events
+use Rattle.fabric_events.specs.declared.event.EventOf.TheVariants as events
 use Rattle.fabric_events.specs.declared.event.LaneName.{LaneName}
 use Rattle.fabric_events.specs.declared.event.LaneName.TheVariants as lanes
 use Rattle.fabric_core.specs.declared.fault.Refusal.{Refusal}

@@ -6,7 +6,7 @@ use Rattle.history_check.specs.declared.Record.{Record}
 use Rattle.history_check.specs.Trace.{stands}
 use Rattle.fabric_laws.specs.Lists.{Each}
 use Rattle.fabric_laws.specs.Whole.{view}
-use Rattle.fabric_laws.specs.Trace.{IsMade, IsOpen}
+use Rattle.fabric_laws.specs.Trace.{Belongs, IsMade, IsOpen}
 use Rattle.fabric_laws.specs.Fabric.{Fabric, whole_of}
 use Rattle.hall_laws.specs.declared.token.Knowledge.{Knowledge}
 use Rattle.fabric_core.specs.Kept.{IsSoundFabric}
@@ -44,6 +44,8 @@ pub record IsRuled (s : Table) : Type 0 where
   pub acts : List Act
   pub records : List Record
   pub ran : Tells opened acts records state
+  -- which belong to it
+  pub belongs : Belongs (whole_of state) records
   -- each of them is of one of the hall's seats
   pub seats : ℕ
   pub by : Each (λ (a : Act). a.by < seats) acts

@@ -5,15 +5,15 @@ use Rattle.tlp_core.specs.Operation.{is_posted}
 use Rattle.seq_memory.specs.declared.Entry.{Entry}
 use Rattle.seq_memory.specs.Limits.{Extent}
 use Rattle.history_check.specs.declared.Record.{Record}
+use Rattle.history_check.specs.declared.Record.TheVariants.{Sub, Ans}
 use Rattle.history_check.specs.Trace.{submissions}
 use Rattle.fabric_laws.specs.Lists.{Each}
 use Rattle.fabric_laws.specs.Fabric.{Fabric, whole_of}
 use Rattle.fabric_laws.specs.Trace.{Belongs, moment}
 use Rattle.fabric_core.specs.declared.config.Config.{Config}
-use Rattle.fabric_events.specs.declared.event.Event.{Event}
-use Rattle.fabric_events.specs.declared.event.Event.TheVariants as events
-use Rattle.fabric_events.specs.declared.event.Seen.{Seen}
-use Rattle.fabric_events.specs.declared.event.Seen.TheVariants as seen
+use Rattle.fabric_events.specs.Events.{Event, Seen}
+use Rattle.fabric_events.specs.declared.event.EventOf.TheVariants as events
+use Rattle.fabric_events.specs.declared.event.SeenOf.TheVariants as seen
 use Rattle.fabric_core.specs.Kept.{IsSoundFabric, records_of}
 use Rattle.fabric_core.specs.Answers.{Happens}
 use Rattle.hall_laws.specs.declared.part.PartValue.{PartValue}
@@ -23,7 +23,7 @@ use Rattle.hall_laws.specs.declared.token.Start.{Start}
 use Rattle.hall_laws.specs.declared.token.Knowledge.{Knowledge}
 use Rattle.hall_laws.specs.Parts.{parts_of}
 use Rattle.hall_laws.specs.Story.{Act, Tells, done_by}
-use Rattle.hall_laws.specs.Waiting.{requester_in, without, waiting}
+use Rattle.hall_laws.specs.Waiting.{requester_in, without, waiting, records_by}
 use Rattle.hall_laws.specs.Standing as hall
 
 -- the number of seats, the fabric that the hall was made of, all that happened since, the fabric that it led to, and the
@@ -71,6 +71,8 @@ pub record Fits (s : Traced) (w : Knowledge) : Type 0 where
   -- what it submitted, and what it waits for
   pub made : w.made ≡ submissions s.records (suc w.number)
   pub pending : w.pending ≡ waiting s.records (suc w.number)
+  -- the records of both
+  pub records : w.records ≡ records_by (suc w.number) s.records
   -- it has seen the history of all its submissions and answers
   pub told : (a : ℕ) (r : Record) → slice_get s.records a ≡ Some r → requester_in r ≡ suc w.number → moment r ≤ length w.seen
   pub served : Each (λ (n : ℕ). n < length s.fabric.memory.entries) w.served
@@ -79,7 +81,7 @@ pub record Fits (s : Traced) (w : Knowledge) : Type 0 where
 
 -- a seat at the start
 abbrev pub newcomer : Config → Fabric → ℕ → ℕ → Token
-newcomer c f seats n = record { knows = record { number = n; config = c; opened = f; seats = seats; seen = []; made = []; pending = []; served = []; did = [] }; held = [] }
+newcomer c f seats n = record { knows = record { number = n; config = c; opened = f; seats = seats; seen = []; made = []; pending = []; records = []; served = []; did = [] }; held = [] }
 
 -- the tokens of so many of the seats, from the number n on
 abbrev pub newcomers : Config → Fabric → ℕ → ℕ → ℕ → List Token
@@ -136,8 +138,13 @@ Apart (kv ∷ h) = hall.Outside kv.0 h × Apart h
 -- what the seat of an event knows after it, h being the history before it
 abbrev pub learned : Event → Seen → List Entry → Knowledge → Knowledge
 learned (events.Submit port op) (seen.Submitted k) h w =
-    record w { seen = h; made = w.made ++ op ∷ []; pending = if is_posted op then w.pending else w.pending ++ (k, length h) ∷ [] }
-learned (events.Collect port) (seen.Collected a) h w = record w { seen = h; pending = without a.number w.pending }
+    record w {
+      seen = h;
+      made = w.made ++ op ∷ [];
+      pending = if is_posted op then w.pending else w.pending ++ (k, length h) ∷ [];
+      records = w.records ++ Sub (suc w.number) k op (length h) ∷ [];
+    }
+learned (events.Collect port) (seen.Collected a) h w = record w { seen = h; pending = without a.number w.pending; records = w.records ++ Ans (suc w.number) a.number a.reply (length h) ∷ [] }
 learned (events.Serve place) (seen.At at) h w = record w { served = w.served ++ at ∷ [] }
 learned _ _ h w = w
 

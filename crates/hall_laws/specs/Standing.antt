@@ -52,7 +52,7 @@ abbrev pub nowhere : Fabric
 nowhere = record { credits = no_config.credits; memory = record { base = 0; size = 0; block = 0; entries = [] }; requesters = []; inward = new_lane no_config.credits; outward = new_lane no_config.credits; up = []; down = [] }
 
 abbrev pub nobody : Knowledge
-nobody = record { number = 0; config = no_config; opened = nowhere; seats = 0; seen = []; made = []; pending = []; served = []; did = [] }
+nobody = record { number = 0; config = no_config; opened = nowhere; seats = 0; seen = []; made = []; pending = []; records = []; served = []; did = [] }
 
 abbrev pub blank : Token
 blank = record { knows = nobody; held = [] }

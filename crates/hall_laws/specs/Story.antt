@@ -1,13 +1,16 @@
 -- What happened since the hall was made, call by call.
-use Rattle.std.specs.Prelude.{◌≡◌, ◌==◌, ◌<◌, ℕ, Bool, true, false, List, [], ◌∷◌, ◌++◌, map, length}
+use Rattle.std.specs.Prelude.{◌≡◌, ◌==◌, ◌<◌, ℕ, suc, Bool, true, false, List, [], ◌∷◌, ◌++◌, map, length}
 use Rattle.history_check.specs.declared.Record.{Record}
+use Rattle.history_check.specs.Trace.{submissions}
 use Rattle.fabric_laws.specs.Lists.{Each}
-use Rattle.fabric_laws.specs.Fabric.{Fabric}
-use Rattle.fabric_events.specs.declared.event.Event.{Event}
+use Rattle.fabric_laws.specs.Fabric.{Fabric, whole_of}
+use Rattle.fabric_laws.specs.Trace.{Belongs}
+use Rattle.fabric_events.specs.Events.{Event}
 use Rattle.fabric_core.specs.Kept.{records_of}
 use Rattle.fabric_core.specs.Answers.{Happens}
 use Rattle.hall_laws.specs.declared.token.Done.{Done}
 use Rattle.hall_laws.specs.declared.token.Knowledge.{Knowledge}
+use Rattle.hall_laws.specs.Waiting.{records_by}
 
 -- what a call made happen, with the number of its seat
 pub record Act : Type 0 where
@@ -39,6 +42,10 @@ pub record IsStoryOf (acts : List Act) (told : List Record) (f : Fabric) (w : Kn
   pub tells : Tells w.opened acts told f
   pub own : w.did ≡ done_by w.number acts
   pub by : Each (λ (a : Act). a.by < w.seats) acts
+  -- the records belong to it, and those of the seat's requester among them are its own, its submissions what it made
+  pub belongs : Belongs (whole_of f) told
+  pub made : w.made ≡ submissions told (suc w.number)
+  pub records : w.records ≡ records_by (suc w.number) told
 
 -- one list of acts leads from the fabric that the hall was made of to this one, and the seat's are what it did
 pub record Ran (w : Knowledge) (f : Fabric) : Type 0 where
@@ -46,3 +53,5 @@ pub record Ran (w : Knowledge) (f : Fabric) : Type 0 where
   pub told : List Record
   pub tells : Tells w.opened acts told f
   pub own : w.did ≡ done_by w.number acts
+  -- their records belong to it
+  pub belongs : Belongs (whole_of f) told

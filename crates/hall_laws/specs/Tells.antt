@@ -5,9 +5,10 @@ use Rattle.tlp_core.specs.Operation.{is_posted}
 use Rattle.seq_memory.specs.declared.Entry.{Entry}
 use Rattle.seq_memory.specs.declared.Reply.{Reply}
 use Rattle.seq_memory.specs.History.{reply_at}
+use Rattle.history_check.specs.declared.Record.TheVariants.{Sub, Ans}
 use Rattle.history_check.specs.Trace.{stands, IsLawful}
-use Rattle.fabric_events.specs.declared.event.Event.TheVariants as events
-use Rattle.fabric_events.specs.declared.event.Seen.TheVariants as seen
+use Rattle.fabric_events.specs.declared.event.EventOf.TheVariants as events
+use Rattle.fabric_events.specs.declared.event.SeenOf.TheVariants as seen
 use Rattle.hall_laws.specs.declared.token.Knowledge.{Knowledge}
 use Rattle.hall_laws.specs.Waiting.{without}
 use Rattle.hall_laws.specs.Rule.{Traced, IsSoundTraced, Fits, Begins, with_done, extent_for}
@@ -35,7 +36,12 @@ pub record SubmitTells (w : Knowledge) (k : ℕ) (op : Op) (n : ℕ) (w' : Knowl
   -- the operation stands at its number; the request isn't in the history, and waits if it isn't posted
   pub number : k ≡ length w.made
   pub new : stands w'.seen (suc w.number) k ≡ false
-  pub knows : w' ≡ with_done (events.Submit (suc w.number) op) (seen.Submitted k) (record w { seen = w'.seen; made = w.made ++ op ∷ []; pending = if is_posted op then w.pending else w.pending ++ (k, n) ∷ [] })
+  pub knows : w' ≡ with_done (events.Submit (suc w.number) op) (seen.Submitted k) (record w {
+    seen = w'.seen;
+    made = w.made ++ op ∷ [];
+    pending = if is_posted op then w.pending else w.pending ++ (k, n) ∷ [];
+    records = w.records ++ Sub (suc w.number) k op n ∷ [];
+  })
 
 -- the seat collected the reply to its request k at the length n of the history, and did nothing else
 pub record CollectTells (w : Knowledge) (k : ℕ) (reply : Reply) (n : ℕ) (w' : Knowledge) : Type 0 where
@@ -45,7 +51,7 @@ pub record CollectTells (w : Knowledge) (k : ℕ) (reply : Reply) (n : ℕ) (w' 
   -- it waited since the history had the length `since`, and waits no more
   pub since : ℕ
   pub waited : Has (k, since) w.pending
-  pub knows : w' ≡ with_done (events.Collect (suc w.number)) (seen.Collected (record { number = k; reply = reply })) (record w { seen = w'.seen; pending = without k w.pending })
+  pub knows : w' ≡ with_done (events.Collect (suc w.number)) (seen.Collected (record { number = k; reply = reply })) (record w { seen = w'.seen; pending = without k w.pending; records = w.records ++ Ans (suc w.number) k reply n ∷ [] })
   -- it acted at this point, and the reply is the sequential memory's there
   pub point : ℕ
   pub op : Op

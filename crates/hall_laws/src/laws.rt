@@ -1,8 +1,7 @@
 //! The steps on the words.
 ghost use Rattle.std.specs.Prelude.{◌≡◌, ◌≢◌, suc, ◌+◌, ◌<◌, ◌^◌, [], ◌∷◌, ◌++◌, length, drop, MatchResult, Some, None};
 ghost use Rattle.atomic_table.specs.Table.{rest};
-ghost use Rattle.fabric_events.specs.declared.event.Event.{Event};
-ghost use Rattle.fabric_events.specs.declared.event.Seen.{Seen};
+ghost use Rattle.fabric_events.specs.Events.{Event, Seen};
 ghost use Rattle.hall_laws.specs.declared.token.Token.{Token};
 ghost use Rattle.hall_laws.specs.Standing.{token_of, others_of, holding_first, Outside};
 ghost use Rattle.hall_laws.specs.Calls.{HasSlot};

@@ -34,7 +34,12 @@ pub(super) fn leaves(hall: Hall, seat: ReqSeat, entries: usize, first: u8) -> bo
 }
 
 /// [`Hall::close_all`] of a hall with two seats.
-fn closed_by_both(hall: Hall, seat: ReqSeat, worker: WorkSeat, alloc: Global) -> Option<Fabric>
+pub(super) fn closed_by_both(
+    hall: Hall,
+    seat: ReqSeat,
+    worker: WorkSeat,
+    alloc: Global,
+) -> Option<Fabric>
     requires seats { IsSeatOf hall seat × IsSeatOf hall worker }
     requires count { hall.seats ≡ 2 }
 {

@@ -18,11 +18,14 @@
 //! - By threads: two requesters and a work seat in three threads, 200 additions of 1, each answered. The two ends of a
 //!   lane in two threads, 10,000 packets, each accepted, while the test's own thread makes all other calls. These
 //!   tests also show that a hall is `Sync` and its seats are `Send`. Threads that stop while packets are under way: the
-//!   fabric of the closed hall is settled, and its counter is the number of submissions.
+//!   fabric of the closed hall is settled, and its counter is the number of submissions. If all seats close it, each
+//!   request that isn't posted is answered, and the history explains the records.
 #![tactic(auto)]
 
 #[cfg(test)]
 mod acts;
+#[cfg(test)]
+mod answered;
 #[cfg(test)]
 mod ends;
 #[cfg(test)]

@@ -6,7 +6,7 @@ use crate::acts::{
     WRITE_PASSES_READ, events_of,
 };
 use crate::rows::is_submitted;
-use fabric_core::{Config, Event, Fabric, Seen};
+use fabric_core::{ANSWER_ROOM, Config, Event, Fabric, Seen};
 use hall_core::{Answered, Hall, HallRefusal, ReqSeat, Submitted, WorkEvent, WorkSeat};
 use hall_driving::beside::{Act, Asked, ends_so, event_of, made, operation_of};
 use hall_driving::drive::{collect, one_and_a_worker, pump, read, small, submit, two_and_a_worker};
@@ -27,8 +27,9 @@ pub(super) const LEAST: LaneCredits = LaneCredits {
 
 /// What the fabric tells of the event, a refusal being the hall's.
 fn seen_by(fabric: &mut Fabric, act: Act) -> Result<Seen, HallRefusal> {
-    match fabric.step(&event_of(1, act)) {
-        Ok(seen) => Ok(seen),
+    let mut room = ANSWER_ROOM;
+    match fabric.step(&event_of(1, act).lend(), &mut room) {
+        Ok(seen) => Ok(seen.to_owned()),
         Err(refusal) => Err(HallRefusal::Core(refusal)),
     }
 }

@@ -1,1 +1,4 @@
 pub mod Ends
+pub mod Reordered
+pub mod Seats
+pub mod Explained

@@ -3,6 +3,7 @@
 #![tactic(auto)]
 
 mod halt;
+pub mod laws;
 mod plan;
 mod report;
 

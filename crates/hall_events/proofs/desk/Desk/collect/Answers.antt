@@ -3,9 +3,9 @@ use Rattle.seq_memory.specs.declared.Entry.{Entry}
 use Rattle.seq_memory.specs.History.{MemoryView}
 use Rattle.requester_core.specs.RequesterView.{RequesterView}
 use Rattle.lane_ends.specs.Steps.{ReceiverEndView}
-use Rattle.fabric_events.specs.declared.event.Event.TheVariants.{Collect}
+use Rattle.fabric_events.specs.declared.event.EventOf.TheVariants.{Collect}
 use Rattle.fabric_events.specs.declared.event.LaneName.TheVariants.{Down}
-use Rattle.fabric_events.specs.declared.event.Seen.TheVariants.{Collected}
+use Rattle.fabric_events.specs.declared.event.SeenOf.TheVariants.{Collected}
 use Rattle.hall_laws.specs.declared.part.Part.{Part}
 use Rattle.hall_laws.specs.declared.part.Part.TheVariants as parts
 use Rattle.hall_laws.specs.declared.part.PartValue.TheVariants.{Memory, Requester, Receiver}

@@ -3,9 +3,9 @@ use Rattle.seq_memory.specs.declared.Entry.{Entry}
 use Rattle.seq_memory.specs.History.{MemoryView}
 use Rattle.requester_core.specs.RequesterView.{RequesterView}
 use Rattle.lane_ends.specs.Steps.{SenderEndView}
-use Rattle.fabric_events.specs.declared.event.Event.TheVariants.{Submit}
+use Rattle.fabric_events.specs.declared.event.EventOf.TheVariants.{Submit}
 use Rattle.fabric_events.specs.declared.event.LaneName.TheVariants.{Up}
-use Rattle.fabric_events.specs.declared.event.Seen.TheVariants.{Submitted}
+use Rattle.fabric_events.specs.declared.event.SeenOf.TheVariants.{Submitted}
 use Rattle.hall_laws.specs.declared.part.Part.{Part}
 use Rattle.hall_laws.specs.declared.part.Part.TheVariants as parts
 use Rattle.hall_laws.specs.declared.part.PartValue.TheVariants.{Memory, Requester, Sender}
