@@ -2,7 +2,7 @@
 ghost use Rattle.std.specs.Prelude.{◌≡◌, ◌≢◌, ◌+◌, ◌*◌, ◌++◌, ◌∷◌, [], ℕ, List, IfOk, IfErr, OnOk, OnErr};
 ghost use Rattle.std.specs.Io.KnownBytes.{Appends};
 ghost use Rattle.line_loop.specs.Run.{IsBeginning};
-ghost use Rattle.fabric_events.specs.declared.event.Event.{Event};
+ghost use Rattle.fabric_events.specs.Events.{Event};
 ghost use Rattle.fabric_core.specs.Config.{IsNewWith};
 ghost use Rattle.script_text.specs.LineTexts.{event_line};
 ghost use Rattle.parameters.specs.declared.storm.Storm.{Storm};
@@ -12,6 +12,7 @@ ghost use Rattle.storm_events.specs.Choice.{IsChosen};
 ghost use Rattle.generate_engine.specs.Script.{config_of, IsUnderWay, BeginsScript, IsWhole, IsPart};
 
 use crate::lines::{put_event, put_fabric};
+use arrayvec::ArrayString;
 use fabric_core::{Config, Fabric};
 use fc_credit::LaneCredits;
 use line_loop::{EngineFault, write_out};
@@ -53,6 +54,8 @@ fn make(config: Config, alloc: Global) -> Result<Fabric, AllocError>
 struct Generator {
     fabric: Fabric,
     chooser: Chooser,
+    /// Room for the line of an event.
+    line: ArrayString<512>,
     /// The lines that are to be written.
     pending: Vec<u8>,
 }
@@ -65,12 +68,14 @@ impl Generator {
         counted_events_are_fated();
         let config = config_of(storm);
         let fabric = make(config, alloc)?;
+        let mut line = ArrayString::new();
         let mut pending = Vec::new(alloc);
-        put_fabric(&config, &mut pending)?;
+        put_fabric(&config, &mut line, &mut pending)?;
         let chooser = Chooser::new(storm);
         Ok(Generator {
             fabric,
             chooser,
+            line,
             pending,
         })
     }
@@ -83,7 +88,7 @@ impl Generator {
         ensures err { OnErr result (self.new.pending.items ≡ self.old.pending.items) }
     {
         let event = self.chooser.happen_next(&mut self.fabric)?;
-        put_event(&event, &mut self.pending)
+        put_event(&event, &mut self.line, &mut self.pending)
     }
 
     /// So many events more. Also where one fails, the lines of those before it are there.

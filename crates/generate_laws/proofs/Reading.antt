@@ -7,7 +7,7 @@ use Rattle.std.proofs.lemmas.Bool.Decides.{nat_tests}
 use Rattle.std.proofs.lemmas.Grind.{common_steps}
 use Rattle.std.proofs.lemmas.List.Elements.{All-head, All-drop, All-get_or}
 use Rattle.fabric_core.specs.declared.config.Config.{Config}
-use Rattle.fabric_events.specs.declared.event.Event.{Event}
+use Rattle.fabric_events.specs.Events.{Event}
 use Rattle.fabric_core.specs.Config.{IsConfig}
 use Rattle.operation_text.specs.Texts.{IsPrinted, IsPrintedChar}
 use Rattle.trace_text.specs.Texts.{lines_text}

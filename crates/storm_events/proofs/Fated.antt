@@ -9,8 +9,8 @@ use Rattle.lane_ends.specs.declared.packet.Fate.{Fate}
 use Rattle.lane_ends.specs.declared.packet.Fate.TheVariants.{Good, Failed, Lost}
 use Rattle.fabric_events.specs.declared.event.LaneName.{LaneName}
 use Rattle.fabric_events.specs.declared.event.LaneName.TheVariants as lanes
-use Rattle.fabric_events.specs.declared.event.Event.{Event}
-use Rattle.fabric_events.specs.declared.event.Event.TheVariants as events
+use Rattle.fabric_events.specs.Events.{Event}
+use Rattle.fabric_events.specs.declared.event.EventOf.TheVariants as events
 use Rattle.fault_plan.specs.Fates.{fate_of}
 use Rattle.script_text.specs.Spelled.{IsSpelledLane, IsSpelledEvent}
 use Rattle.storm_events.specs.Arrivals.{lane_place, is_packet_at, is_dllp_at, packets_on, dllps_on, IsFated, AreFated, ArrivalsView, nothing_arrived, next_on, HasFate, with_event, IsCounted, AreCounts, IsAfter}

@@ -2,8 +2,8 @@
 use Rattle.std.specs.Prelude.{ℕ, ◌+◌, ◌%◌, ◌^◌, ◌≡◌, ◌<◌, ◌==◌, Bool, false, List, ◌∷◌, ◌++◌, length, replicate, slice_index, slice_set, count_by, Option, Some, None}
 use Rattle.fabric_events.specs.declared.event.LaneName.{LaneName}
 use Rattle.fabric_events.specs.declared.event.LaneName.TheVariants as lanes
-use Rattle.fabric_events.specs.declared.event.Event.{Event}
-use Rattle.fabric_events.specs.declared.event.Event.TheVariants as events
+use Rattle.fabric_events.specs.Events.{Event}
+use Rattle.fabric_events.specs.declared.event.EventOf.TheVariants as events
 use Rattle.fault_plan.specs.Fates.{fate_of}
 
 -- ---- fates by the events before

@@ -3,8 +3,7 @@ use Rattle.std.specs.Prelude.{◌≡◌, Bool, true, false, Option, Some, None}
 use Rattle.rand_pcg.specs.Lcg.{Lcg, started, increment_of}
 use Rattle.rand_pcg.specs.Pcg.{multiplier_64}
 use Rattle.fabric_laws.specs.Fabric.{Fabric}
-use Rattle.fabric_events.specs.declared.event.Event.{Event}
-use Rattle.fabric_events.specs.declared.event.Seen.{Seen}
+use Rattle.fabric_events.specs.Events.{Event, Seen}
 use Rattle.fabric_core.specs.Steps.{Happens}
 use Rattle.script_text.specs.Spelled.{IsSpelledEvent}
 use Rattle.parameters.specs.declared.storm.Storm.{Storm}

@@ -6,7 +6,7 @@ ghost use Rattle.fault_plan.specs.Fates.{fate_of};
 ghost use Rattle.storm_events.specs.Arrivals.{nothing_arrived, next_on, with_event};
 
 use crate::counts::Counts;
-use fabric_core::{Event, LaneName};
+use fabric_core::{EventRef, LaneName};
 use fault_plan::Plan;
 use lane_core::Fate;
 use parameters::Storm;
@@ -61,13 +61,13 @@ impl Arrivals {
     }
 
     /// Counts what arrived.
-    pub(crate) fn count(&mut self, event: &Event)
+    pub(crate) fn count(&mut self, event: &EventRef<'_>)
         requires { IsSpelledEvent event.now }
         ensures { self.new ≡ with_event self.old event.now }
     {
         match event {
-            Event::Deliver(lane, _) => self.packets.add(*lane),
-            Event::DeliverDllp(lane, _) => self.dllps.add(*lane),
+            EventRef::Deliver(lane, _) => self.packets.add(*lane),
+            EventRef::DeliverDllp(lane, _) => self.dllps.add(*lane),
             _ => {}
         }
     }

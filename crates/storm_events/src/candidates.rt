@@ -6,9 +6,10 @@ ghost use Rattle.storm_events.specs.Arrivals.{ArrivalsView, HasFate};
 use crate::draws::Draws;
 use crate::operations::operation;
 use dllp_core::Class;
-use fabric_core::{Event, LaneName};
+use fabric_core::{EventRef, LaneName, OpLent};
 use lane_core::DllpKind;
 use script_text::laws::an_operation_in_range_is_spelled;
+use tlp_core::Op;
 
 /// The port of one of so many requesters.
 fn port(draws: &mut Draws, requesters: u8) -> u8
@@ -56,16 +57,19 @@ fn kind(draws: &mut Draws, lane: LaneName) -> DllpKind {
     }
 }
 
-fn submit(draws: &mut Draws, requesters: u8) -> Event
+/// The operation is put into the room.
+fn submit<'r>(draws: &mut Draws, requesters: u8, room: &'r mut Op) -> EventRef<'r>
     requires { (1 ≤ requesters) × (requesters ≤ 7) }
     ensures spelled { IsSpelledEvent result }
     ensures fate { (a : ArrivalsView) → HasFate a result }
 {
     an_operation_in_range_is_spelled();
-    Event::Submit(port(draws, requesters), operation(draws))
+    let port = port(draws, requesters);
+    *room = operation(draws);
+    EventRef::Submit(port, OpLent::new(room))
 }
 
-fn forward(draws: &mut Draws, requesters: u8) -> Event
+fn forward(draws: &mut Draws, requesters: u8) -> EventRef<'static>
     requires { (1 ≤ requesters) × (requesters ≤ 7) }
     ensures spelled { IsSpelledEvent result }
     ensures fate { (a : ArrivalsView) → HasFate a result }
@@ -75,45 +79,45 @@ fn forward(draws: &mut Draws, requesters: u8) -> Event
     } else {
         LaneName::Up(port(draws, requesters))
     };
-    Event::Forward(lane, place(draws))
+    EventRef::Forward(lane, place(draws))
 }
 
-fn dllp(draws: &mut Draws, requesters: u8) -> Event
+fn dllp(draws: &mut Draws, requesters: u8) -> EventRef<'static>
     requires { (1 ≤ requesters) × (requesters ≤ 7) }
     ensures spelled { IsSpelledEvent result }
     ensures fate { (a : ArrivalsView) → HasFate a result }
 {
     let lane = lane(draws, requesters);
-    Event::SendDllp(lane, kind(draws, lane))
+    EventRef::SendDllp(lane, kind(draws, lane))
 }
 
 /// A replay timer expires, which is seldom, or a link is retrained.
-fn repair(draws: &mut Draws, requesters: u8) -> Event
+fn repair(draws: &mut Draws, requesters: u8) -> EventRef<'static>
     requires { (1 ≤ requesters) × (requesters ≤ 7) }
     ensures spelled { IsSpelledEvent result }
     ensures fate { (a : ArrivalsView) → HasFate a result }
 {
     let lane = lane(draws, requesters);
     if draws.chance(8) {
-        Event::Timer(lane)
+        EventRef::Timer(lane)
     } else {
-        Event::Retrained(lane)
+        EventRef::Retrained(lane)
     }
 }
 
-/// An event that no plan of faults is asked for.
-pub(crate) fn plain(draws: &mut Draws, requesters: u8) -> Event
+/// An event that no plan of faults is asked for. Its operation is put into the room.
+pub(crate) fn plain<'r>(draws: &mut Draws, requesters: u8, room: &'r mut Op) -> EventRef<'r>
     requires { (1 ≤ requesters) × (requesters ≤ 7) }
     ensures spelled { IsSpelledEvent result }
     ensures fate { (a : ArrivalsView) → HasFate a result }
 {
     match draws.below(40) {
-        0..=5 => submit(draws, requesters),
-        6..=14 => Event::Transmit(lane(draws, requesters)),
+        0..=5 => submit(draws, requesters, room),
+        6..=14 => EventRef::Transmit(lane(draws, requesters)),
         15..=20 => dllp(draws, requesters),
         21..=29 => forward(draws, requesters),
-        30..=34 => Event::Serve(place(draws)),
-        35..=38 => Event::Collect(port(draws, requesters)),
+        30..=34 => EventRef::Serve(place(draws)),
+        35..=38 => EventRef::Collect(port(draws, requesters)),
         _ => repair(draws, requesters),
     }
 }

@@ -8,14 +8,26 @@ ghost use Rattle.storm_events.specs.Choice.{IsChosen, IsTried, IsDrawn, new_choo
 use crate::arrivals::Arrivals;
 use crate::candidates::{lane, plain};
 use crate::draws::Draws;
-use fabric_core::{Event, Fabric, LaneName};
+use fabric_core::{ANSWER_ROOM, Event, EventRef, Fabric, LaneName};
 use lane_core::DllpKind;
 use parameters::Storm;
+use requester_core::Answer;
+use script_text::ROOM;
 use std::alloc::AllocError;
 use std::marker::Model;
+use tlp_core::Op;
 
 /// How many candidates are tried before an event comes that can always happen.
 const TRIES: u32 = 256;
+
+/// Room for what an event that is tried lends.
+#[derive(Drop)]
+struct Rooms {
+    /// Room for the operation that it submits.
+    operation: Op,
+    /// Room for the answer that it collects.
+    answer: Answer,
+}
 
 /// Chooses the events of a storm.
 #[derive(Drop)]
@@ -23,6 +35,7 @@ pub struct Chooser {
     draws: Draws,
     requesters: u8,
     arrivals: Arrivals,
+    rooms: Rooms,
 }
 
 impl Model for Chooser {
@@ -37,11 +50,15 @@ impl Model for Chooser {
 }
 
 /// Whether the event happens to the fabric. The only fault is being out of memory.
-fn try_event(fabric: &mut Fabric, event: &Event) -> Result<bool, AllocError>
+fn try_event(
+    fabric: &mut Fabric,
+    event: &EventRef<'_>,
+    room: &mut Answer,
+) -> Result<bool, AllocError>
     ensures ok { IfOk result (λ happened. IsTried happened fabric.old event.now fabric.new) }
     ensures err { OnErr result (fabric.new ≡ fabric.old) }
 {
-    match fabric.step(event) {
+    match fabric.step(event, room) {
         Ok(_) => Ok(true),
         Err(refusal) if refusal.is_memory() => Err(AllocError),
         Err(_) => Ok(false),
@@ -49,27 +66,32 @@ fn try_event(fabric: &mut Fabric, event: &Event) -> Result<bool, AllocError>
 }
 
 /// The oldest packet of a lane arrives as the plan says.
-fn arrival(draws: &mut Draws, requesters: u8, arrivals: &Arrivals) -> Event
+fn arrival(draws: &mut Draws, requesters: u8, arrivals: &Arrivals) -> EventRef<'static>
     requires { (1 ≤ requesters) × (requesters ≤ 7) }
     ensures spelled { IsSpelledEvent result }
     ensures fate { HasFate arrivals.now result }
 {
     let lane = lane(draws, requesters);
-    Event::Deliver(lane, arrivals.packet_fate(lane))
+    EventRef::Deliver(lane, arrivals.packet_fate(lane))
 }
 
 /// The oldest DLLP of a lane arrives as the plan says.
-fn dllp_arrival(draws: &mut Draws, requesters: u8, arrivals: &Arrivals) -> Event
+fn dllp_arrival(draws: &mut Draws, requesters: u8, arrivals: &Arrivals) -> EventRef<'static>
     requires { (1 ≤ requesters) × (requesters ≤ 7) }
     ensures spelled { IsSpelledEvent result }
     ensures fate { HasFate arrivals.now result }
 {
     let lane = lane(draws, requesters);
-    Event::DeliverDllp(lane, arrivals.dllp_fate(lane))
+    EventRef::DeliverDllp(lane, arrivals.dllp_fate(lane))
 }
 
-/// What may happen next.
-fn candidate(draws: &mut Draws, requesters: u8, arrivals: &Arrivals) -> Event
+/// What may happen next. Its operation is put into the room.
+fn candidate<'r>(
+    draws: &mut Draws,
+    requesters: u8,
+    arrivals: &Arrivals,
+    room: &'r mut Op,
+) -> EventRef<'r>
     requires { (1 ≤ requesters) × (requesters ≤ 7) }
     ensures spelled { IsSpelledEvent result }
     ensures fate { HasFate arrivals.now result }
@@ -77,7 +99,7 @@ fn candidate(draws: &mut Draws, requesters: u8, arrivals: &Arrivals) -> Event
     match draws.below(5) {
         0 => arrival(draws, requesters, arrivals),
         1 => dllp_arrival(draws, requesters, arrivals),
-        _ => plain(draws, requesters),
+        _ => plain(draws, requesters, room),
     }
 }
 
@@ -86,6 +108,7 @@ fn drawn(
     draws: &mut Draws,
     requesters: u8,
     arrivals: &mut Arrivals,
+    rooms: &mut Rooms,
     fabric: &mut Fabric,
 ) -> Result<Option<Event>, AllocError>
     requires { (1 ≤ requesters) × (requesters ≤ 7) }
@@ -94,10 +117,10 @@ fn drawn(
     ensures err { OnErr result (fabric.new ≡ fabric.old) }
 {
     for _try in 0..TRIES {
-        let event = candidate(draws, requesters, arrivals);
-        if try_event(fabric, &event)? {
+        let event = candidate(draws, requesters, arrivals, &mut rooms.operation);
+        if try_event(fabric, &event, &mut rooms.answer)? {
             arrivals.count(&event);
-            return Ok(Some(event));
+            return Ok(Some(event.to_owned()));
         }
     }
     Ok(None)
@@ -113,6 +136,10 @@ impl Chooser {
             draws: Draws::new(storm.seed),
             requesters: storm.requesters as u8,
             arrivals: Arrivals::new(storm),
+            rooms: Rooms {
+                operation: ROOM,
+                answer: ANSWER_ROOM,
+            },
         }
     }
 
@@ -123,12 +150,19 @@ impl Chooser {
         ensures counted { IfOk result (λ event. IsCounted self.old.arrived event self.new.arrived) }
         ensures err { OnErr result (fabric.new ≡ fabric.old) }
     {
-        if let Some(event) = drawn(&mut self.draws, self.requesters, &mut self.arrivals, fabric)? {
+        let drawn = drawn(
+            &mut self.draws,
+            self.requesters,
+            &mut self.arrivals,
+            &mut self.rooms,
+            fabric,
+        )?;
+        if let Some(event) = drawn {
             return Ok(event);
         }
-        let event = Event::SendDllp(LaneName::Inward, DllpKind::Answer);
-        if try_event(fabric, &event)? {
-            Ok(event)
+        let event = EventRef::SendDllp(LaneName::Inward, DllpKind::Answer);
+        if try_event(fabric, &event, &mut self.rooms.answer)? {
+            Ok(event.to_owned())
         } else {
             Err(AllocError)
         }

@@ -1,6 +1,6 @@
 //! That fates go by the events before.
 ghost use Rattle.std.specs.Prelude.{ℕ, List, [], ◌∷◌, ◌++◌};
-ghost use Rattle.fabric_events.specs.declared.event.Event.{Event};
+ghost use Rattle.fabric_events.specs.Events.{Event};
 ghost use Rattle.script_text.specs.Spelled.{IsSpelledEvent};
 ghost use Rattle.storm_events.specs.Arrivals.{ArrivalsView, IsAfter, IsCounted, nothing_arrived};
 
