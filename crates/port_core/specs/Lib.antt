@@ -1,0 +1,9 @@
+pub mod Init
+pub mod Needs
+pub mod Dllps
+pub mod Incoming
+pub mod Dues
+pub mod Refusals
+pub mod Outgoing
+pub mod Port
+pub mod Runs

@@ -1,0 +1,85 @@
+//! What a port refuses.
+ghost use Rattle.std.specs.Prelude.{◌≡◌};
+
+use dllp_core::{Class, DllpFault};
+use thiserror::Error;
+
+/// Why a packet isn't taken to be sent, in the order in which it is looked for.
+#[derive(Clone, Copy, Debug, PartialEq, Eq, Error)]
+#[error("{}", self.name())]
+pub enum EnterRefusal {
+    /// The link isn't initialized.
+    NotActive,
+    /// The peer's credits of this class don't cover the packet.
+    NoCredits(Class),
+    /// 2047 packets are unacknowledged.
+    WindowFull,
+    /// The replay buffer could not grow.
+    Memory,
+}
+
+/// What is wrong with a DLLP that arrived.
+#[derive(Clone, Copy, Debug, PartialEq, Eq, Error)]
+#[error("{}", self.name())]
+pub enum DllpRefusal {
+    /// Its bytes are no DLLP that a port knows. The standard has no error for an unknown type.
+    Bytes(DllpFault),
+    /// An Ack or Nak whose number is neither ACKD_SEQ nor that of an unacknowledged packet: a Data Link Protocol Error.
+    NotOutstanding,
+    /// More than 127 headers or 2047 data units of a class would be unused: a Flow Control Protocol Error.
+    CreditLimit,
+}
+
+impl EnterRefusal {
+    ghost use Rattle.port_core.specs.Refusals.{enter_number, enter_name};
+
+    /// The place of this refusal in the order in which they are looked for, from 1.
+    pub fn number(self) -> u8
+        ensures { result ≡ enter_number self }
+    {
+        match self {
+            EnterRefusal::NotActive => 1,
+            EnterRefusal::NoCredits(_) => 2,
+            EnterRefusal::WindowFull => 3,
+            EnterRefusal::Memory => 4,
+        }
+    }
+
+    /// Its name in texts.
+    pub fn name(self) -> &'static str
+        ensures { result.now ≡ enter_name self }
+    {
+        match self {
+            EnterRefusal::NotActive => "NotActive",
+            EnterRefusal::NoCredits(_) => "NoCredits",
+            EnterRefusal::WindowFull => "WindowFull",
+            EnterRefusal::Memory => "Memory",
+        }
+    }
+}
+
+impl DllpRefusal {
+    ghost use Rattle.port_core.specs.Refusals.{dllp_number, dllp_name};
+
+    /// The place of this refusal in the order in which they are looked for, from 1.
+    pub fn number(self) -> u8
+        ensures { result ≡ dllp_number self }
+    {
+        match self {
+            DllpRefusal::Bytes(fault) => fault.number(),
+            DllpRefusal::NotOutstanding => 4,
+            DllpRefusal::CreditLimit => 5,
+        }
+    }
+
+    /// Its name in texts.
+    pub fn name(self) -> &'static str
+        ensures { result.now ≡ dllp_name self }
+    {
+        match self {
+            DllpRefusal::Bytes(fault) => fault.name(),
+            DllpRefusal::NotOutstanding => "NotOutstanding",
+            DllpRefusal::CreditLimit => "CreditLimit",
+        }
+    }
+}
