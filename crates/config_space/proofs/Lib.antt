@@ -1,0 +1,4 @@
+pub mod Bits
+pub mod Table
+pub mod Writes
+pub mod Kept

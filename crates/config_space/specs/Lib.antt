@@ -1,0 +1,4 @@
+pub mod SetupView
+pub mod RegistersView
+pub mod Registers
+pub mod Changes
