@@ -1,0 +1,11 @@
+pub mod Enables
+pub mod Parts
+pub mod Replies
+pub mod Effects
+pub mod Coming
+pub mod Queue
+pub mod Heads
+pub mod Completing
+pub mod Reports
+pub mod Ordering
+pub mod Counting

@@ -1,0 +1,4 @@
+pub mod EndpointView
+pub mod Steps
+pub mod Blocks
+pub mod Runs

@@ -1,0 +1,254 @@
+//! The registers and the memory of a device.
+ghost use Rattle.std.specs.Prelude.{◌≡◌, ◌+◌, ◌≤◌, ◌^◌, ◌⊎◌, List, ◌∷◌, IfOk, IfSome, OnSome, replicate};
+ghost use Rattle.tlp_core.specs.declared.packet.Kind.{Kind};
+ghost use Rattle.tlp_core.specs.Operation.{op_of};
+ghost use Rattle.endpoint_packets.specs.Classes as classes;
+ghost use Rattle.endpoint_core.specs.Steps as spec;
+ghost use Rattle.endpoint_core.specs.Blocks as blocks;
+
+use crate::completions::{Place, answer_first, refused, with_word, without_data};
+use crate::requests::{act_all, block_bytes, dw_in_front};
+use crate::waiting::Waiting;
+use config_packets::CfgRequest;
+use config_space::{Noted, Registers, Setup};
+use endpoint_packets::Descriptor;
+use seq_memory::ReplyData;
+use std::alloc::{AllocError, Global};
+use std::marker::Model;
+use tlp_core::{Status, Tlp, TlpRef, op_lent};
+
+/// Room for a TLP that is read without its digest, and for the payload of a completion. What it holds counts for nothing.
+#[derive(Drop)]
+pub struct Room {
+    pub(crate) packet: endpoint_packets::Room,
+    pub(crate) data: ReplyData,
+    pub(crate) word: [u8; 4],
+}
+
+impl Room {
+    pub fn new() -> Room {
+        Room {
+            packet: endpoint_packets::Room::new(),
+            data: ReplyData::new(),
+            word: [0; 4],
+        }
+    }
+}
+
+/// One function with a memory behind its BAR.
+#[derive(Drop)]
+pub(crate) struct Device {
+    registers: Registers,
+    completer: u16,
+    bytes: Vec<u8>,
+}
+
+impl Model for Device {
+    ghost use Rattle.endpoint_core.specs.EndpointView.{DeviceView};
+
+    ghost Value = { DeviceView };
+
+    ghost view = { λ d. record { registers = d.registers; completer = d.completer; bytes = d.bytes.items } };
+}
+
+fn zeros(alloc: Global, size: u32) -> Result<Vec<u8>, AllocError>
+    ensures { IfOk result (λ v. v.items ≡ replicate size 0) }
+{
+    vec![in alloc; 0u8; size as usize]
+}
+
+/// A request's descriptor: TC and attributes are 0.
+fn descriptor_for(request: &CfgRequest) -> Descriptor
+    ensures { result ≡ classes.descriptor_for request.now }
+{
+    Descriptor {
+        tc: 0,
+        attr: 0,
+        requester: request.requester,
+        tag: request.tag,
+    }
+}
+
+/// Of Type 0, to function 0.
+fn is_supported(request: &CfgRequest) -> bool
+    ensures { result ≡ spec.is_supported request.now }
+{
+    !request.is_type_1 && request.function == 0
+}
+
+/// The Completer ID that a write gives.
+fn captured(request: &CfgRequest) -> u16
+    ensures { result ≡ spec.captured request.now }
+{
+    u16::from(request.bus) * 256 + u16::from(request.device % 32) * 8
+}
+
+impl Device {
+    /// A device after a reset, whose memory holds zeros.
+    pub(crate) fn new(alloc: Global, setup: Setup) -> Result<Device, AllocError>
+        ensures { IfOk result (λ d. d ≡ spec.new_device setup (replicate setup.size 0)) }
+    {
+        let bytes = zeros(alloc, setup.size())?;
+        Ok(Device {
+            registers: Registers::new(setup),
+            completer: 0,
+            bytes,
+        })
+    }
+
+    /// The bytes of the memory.
+    pub(crate) fn bytes(&self) -> &[u8]
+        ensures { result.now ≡ self.now.bytes }
+    {
+        &self.bytes
+    }
+
+    /// Registers are what they are after a reset; the memory's bytes stay.
+    pub(crate) fn reset(&mut self)
+        ensures { self.new ≡ spec.new_device self.old.registers.setup self.old.bytes }
+    {
+        self.registers.reset();
+        self.completer = 0;
+    }
+
+    /// Reports an error.
+    pub(crate) fn note(&mut self, error: Noted)
+        ensures { self.new ≡ spec.noting self.old error }
+    {
+        self.registers.note(error);
+    }
+
+    /// The address of the memory's first byte, if the BAR claims a place of so many bytes.
+    pub(crate) fn base_for(&self, address: u64, bytes: u32) -> Option<u64>
+        ensures value { result ≡ spec.base_for self.now address bytes }
+        ensures range { IfSome result (λ base. base ≤ address) }
+        ensures fits { OnSome result (address + bytes ≤ 2 ^ 64) }
+    {
+        let offset = self.registers.claims(address, bytes)?;
+        if bytes > 0 && u64::from(bytes - 1) > u64::MAX - address {
+            return None;
+        }
+        Some(address - offset)
+    }
+
+    /// A posted request comes: if it is claimed it acts. Whether it is.
+    #[tactic(auto, using(crate::proofs::Parts::few_of))]
+    pub(crate) fn post(&mut self, request: &TlpRef<'_>, room: &mut ReplyData) -> bool
+        requires { request.now.kind ≡ Kind.MemoryWrite }
+        ensures state { self.new ≡ spec.posted self.old (op_of request.now) }
+        ensures claimed { result ≡ spec.is_claimed self.old (op_of request.now) }
+    {
+        let Some(op) = op_lent(request) else {
+            return true;
+        };
+        let Some(base) = self.base_for(op.address(), op.size()) else {
+            self.note(Noted::UnsupportedRequest);
+            return false;
+        };
+        act_all(base, &mut self.bytes, op.form(), room);
+        true
+    }
+
+    /// How many DW of a memory request are done when its first block acted, if more are left, and else 0.
+    fn memory_done(&self, request: &Tlp) -> u16
+        ensures value { result ≡ spec.memory_done self.now (op_of request.now) }
+        ensures cut { (result ≡ 0) ⊎ blocks.IsCut result request.now }
+    {
+        let lent = request.lend();
+        let Some(op) = op_lent(&lent) else {
+            return 0;
+        };
+        if self.base_for(op.address(), op.size()).is_none() {
+            return 0;
+        }
+        dw_in_front(&op.form())
+    }
+
+    /// The same of any request that waits.
+    pub(crate) fn done_by(&self, request: &Waiting) -> u16
+        ensures value { result ≡ spec.done_by self.now request.now }
+        ensures advances { (ws : List Waiting) → blocks.CanAdvance result (request.now ∷ ws) }
+    {
+        match request {
+            Waiting::Memory(tlp) => self.memory_done(tlp),
+            _ => 0,
+        }
+    }
+
+    /// How many bytes of data the completion of a memory request's first block has.
+    fn memory_data(&self, request: &Tlp) -> u16
+        ensures { result ≡ spec.memory_data self.now (op_of request.now) }
+    {
+        let lent = request.lend();
+        let Some(op) = op_lent(&lent) else {
+            return 0;
+        };
+        if self.base_for(op.address(), op.size()).is_none() {
+            return 0;
+        }
+        block_bytes(&op.form())
+    }
+
+    /// How many bytes of data the next completion of a request has.
+    pub(crate) fn data_by(&self, request: &Waiting) -> u16
+        ensures { result ≡ spec.data_by self.now request.now }
+    {
+        match request {
+            Waiting::Memory(tlp) => self.memory_data(tlp),
+            Waiting::Configuration(asked) if is_supported(asked) && !asked.writes => 4,
+            _ => 0,
+        }
+    }
+
+    /// The first block of a memory request acts, if it is claimed.
+    fn act_memory<'r>(&mut self, request: &Tlp, room: &'r mut ReplyData) -> Option<TlpRef<'r>>
+        ensures state { self.new ≡ spec.memory_acted self.old (op_of request.now) }
+        ensures completion { result ≡ spec.memory_completion self.old request.now (op_of request.now) }
+    {
+        let dw = self.memory_done(request);
+        let lent = request.lend();
+        let op = op_lent(&lent)?;
+        let completer = self.completer;
+        let Some(base) = self.base_for(op.address(), op.size()) else {
+            self.note(Noted::UnsupportedRequest);
+            return refused(&lent, completer);
+        };
+        let place = Place { base, completer };
+        answer_first(place, &mut self.bytes, request, dw, room)
+    }
+
+    /// A configuration request acts, if it is supported.
+    fn act_configuration<'r>(&mut self, request: &CfgRequest, room: &'r mut [u8; 4]) -> TlpRef<'r>
+        ensures state { self.new ≡ spec.configured self.old request.now }
+        ensures completion { result ≡ spec.configuration_completion self.old request.now }
+    {
+        let descriptor = descriptor_for(request);
+        if !is_supported(request) {
+            self.note(Noted::UnsupportedRequest);
+            return without_data(descriptor, self.completer, Status::Unsupported, 4);
+        }
+        if !request.writes {
+            let word = self.registers.read(request.register);
+            return with_word(descriptor, self.completer, word, room);
+        }
+        self.registers
+            .write(request.register, request.enables % 16, request.value);
+        self.completer = captured(request);
+        without_data(descriptor, self.completer, Status::Success, 4)
+    }
+
+    /// A request that waited acts, by one block if it is a memory request.
+    pub(crate) fn act<'r>(&mut self, request: &Waiting, room: &'r mut Room) -> Option<TlpRef<'r>>
+        ensures state { self.new ≡ spec.acted_by self.old request.now }
+        ensures completion { result ≡ spec.completion_by self.old request.now }
+    {
+        match request {
+            Waiting::Memory(tlp) => self.act_memory(tlp, &mut room.data),
+            Waiting::Configuration(asked) => Some(self.act_configuration(asked, &mut room.word)),
+            Waiting::Refused(descriptor, error) => {
+                self.note(*error);
+                Some(without_data(*descriptor, self.completer, Status::Unsupported, 4))
+            }
+        }
+    }
+}

@@ -1,0 +1,2 @@
+pub mod LogView
+pub mod Steps

@@ -1,0 +1,2 @@
+pub mod DescriptorView
+pub mod Classes
