@@ -1,0 +1,5 @@
+use Rattle.linked_endpoint.specs.Runs.{GoesOn}
+use Rattle.linked_endpoint.proofs.linked.LinkedEndpoint.settle.Given as goal
+
+abbrev pub invariant-loop : goal.invariant-loop
+invariant-loop l = GoesOn l.fn.self l.self

@@ -1,0 +1,3 @@
+pub mod LinkedView
+pub mod Linked
+pub mod Runs

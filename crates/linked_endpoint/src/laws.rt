@@ -1,0 +1,47 @@
+//! What holds of a device behind its end of a link whatever calls are made, whatever its peer and the wires do.
+ghost use Rattle.std.specs.Prelude.{◌≡◌, ◌++◌, ◌∷◌, [], ℕ, List, length, map};
+ghost use Rattle.fc_credit.specs.declared.limits.LaneCredits.{LaneCredits};
+ghost use Rattle.link_receiver.specs.Runs.{AreConsecutive};
+ghost use Rattle.port_core.specs.Port.{outgoing_of, outgoing_bytes};
+ghost use Rattle.port_core.specs.Runs.{IsEntered};
+ghost use Rattle.config_space.specs.SetupView.{SetupView};
+ghost use Rattle.endpoint_core.specs.Runs as devices;
+ghost use Rattle.linked_endpoint.specs.Runs.{Call, AreCalls, run_in, story, somes, list_of, tlps_within, taken_in, cargos_of};
+
+use endpoint_core::laws::{each_request_leaves_once, whatever_comes};
+use port_core::{Outgoing, what_is_sent_was_entered, whatever_arrives};
+
+/// Whatever calls come, and whatever bytes arrive, since the link came up last: the packets that were accepted have the
+/// numbers 0, 1, 2, .. modulo 4096, each once. The device took the TLP of each that is within its credits, once and in
+/// order, and nothing else. Each block request of a non-posted one left its queue once, or waits, and the memory holds what
+/// the block requests that acted make of the bytes that it had. The completions of what acted entered in order, each once,
+/// but for one that is held. What is sent is one of them, byte by byte, under its own number, however often it is replayed.
+/// The credits that are not back are those of the requests that wait.
+pub fn each_accepted_request_acts_once()
+    ensures numbers { (setup : SetupView) (ours : LaneCredits) (calls : List Call) → AreCalls calls →
+        AreConsecutive 0 (map (λ a. a.number) (run_in setup ours calls).accepted) }
+    ensures taken { (setup : SetupView) (ours : LaneCredits) (calls : List Call) → AreCalls calls →
+        taken_in (run_in setup ours calls).device_calls ≡ tlps_within (run_in setup ours calls).accepted }
+    ensures device { (setup : SetupView) (ours : LaneCredits) (calls : List Call) → AreCalls calls →
+        (run_in setup ours calls).linked.endpoint ≡ devices.after_calls (run_in setup ours calls).start (run_in setup ours calls).device_calls }
+    ensures requests { (setup : SetupView) (ours : LaneCredits) (calls : List Call) → AreCalls calls →
+        devices.all_coming (run_in setup ours calls).device_calls ≡
+        devices.all_leaving (run_in setup ours calls).start (run_in setup ours calls).device_calls ++ devices.blocks_waiting (run_in setup ours calls).linked.endpoint }
+    ensures bytes { (setup : SetupView) (ours : LaneCredits) (calls : List Call) → AreCalls calls →
+        (run_in setup ours calls).linked.endpoint.device.bytes ≡
+        devices.bytes_by (run_in setup ours calls).start.device.bytes (devices.all_effects (run_in setup ours calls).start (run_in setup ours calls).device_calls) }
+    ensures entered { (setup : SetupView) (ours : LaneCredits) (calls : List Call) → AreCalls calls →
+        cargos_of (run_in setup ours calls).completed ≡ (story ours (run_in setup ours calls)).entered ++ cargos_of (list_of (run_in setup ours calls).linked.held) }
+    ensures sent { (setup : SetupView) (ours : LaneCredits) (calls : List Call) (number : ℕ) → AreCalls calls →
+        outgoing_of (run_in setup ours calls).linked.port ≡ Outgoing.Packet number →
+        IsEntered (story ours (run_in setup ours calls)).entered number (outgoing_bytes (run_in setup ours calls).linked.port) }
+    ensures held { (setup : SetupView) (ours : LaneCredits) (calls : List Call) → AreCalls calls →
+        somes (run_in setup ours calls).linked.needs ≡ (story ours (run_in setup ours calls)).held }
+    ensures waiting { (setup : SetupView) (ours : LaneCredits) (calls : List Call) → AreCalls calls →
+        length (run_in setup ours calls).linked.needs ≡ length (run_in setup ours calls).linked.endpoint.waiting }
+{
+    each_request_leaves_once();
+    whatever_comes();
+    whatever_arrives();
+    what_is_sent_was_entered();
+}

@@ -1,0 +1,12 @@
+//! A memory device behind one end of a link: packets and DLLPs of a root complex's link in, and packets and DLLPs out.
+//!
+//! A [`LinkedEndpoint`] is a [`LinkPort`](port_core::LinkPort) and an [`Endpoint`](endpoint_core::Endpoint). Accepted TLPs go
+//! to the device. A request that waits has its credits until its last completion. Completions enter the replay buffer as
+//! far as the peer's credits go.
+#![tactic(auto)]
+
+mod laws;
+mod linked;
+
+pub use laws::each_accepted_request_acts_once;
+pub use linked::{Arrived, LinkedEndpoint};
