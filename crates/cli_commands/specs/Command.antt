@@ -3,17 +3,18 @@ use Rattle.std.specs.Prelude.{◌≡◌, ◌≢◌, ◌⊎◌, ℕ, List, [], �
 use Rattle.clap.specs.Words.{Kinds}
 use Rattle.clap.specs.declared.error.kind.ErrorKind.TheVariants as kinds
 use Rattle.cli_words.specs.declared.words.Request.{Request}
-use Rattle.cli_words.specs.declared.words.Request.TheVariants.{Tlp, Decode, Encode, Check, Search, Draw, Upgrade, Step, Chart, Generate, Run}
+use Rattle.cli_words.specs.declared.words.Request.TheVariants.{Tlp, Endpoint, Decode, Encode, Check, Search, Draw, Upgrade, Step, Chart, Generate, Run}
 use Rattle.parameters.specs.Ranges.{IsCounting}
 use Rattle.line_loop.specs.Run.{IsRun}
 use Rattle.cli_commands.specs.declared.command.Outcome.{Outcome}
 use Rattle.cli_commands.specs.declared.command.Outcome.TheVariants as outcomes
 use Rattle.chart_engine.specs.Chart.{out_chart}
 use Rattle.draw_engine.specs.Draw.{out_draw}
+use Rattle.endpoint_engine.specs.Lines.{out_endpoint}
 use Rattle.generate_engine.specs.Script.{IsWhole, IsPart}
 use Rattle.packet_engine.specs.Lines.{out_decode, out_encode}
 use Rattle.run_engine.specs.Text.{IsRan}
-use Rattle.search_engine.specs.Search.{IsSearchedWith}
+use Rattle.search_engine.specs.Search.{IsSearchedFor}
 use Rattle.tlp_engine.specs.Tlp.{out_tlp}
 use Rattle.trace_engine.specs.Check.{out_check_with}
 use Rattle.trace_engine.specs.Upgrade.{out_upgrade}
@@ -28,10 +29,11 @@ IsGenerated storm out out' exit = ((exit ≡ 0) × IsWhole storm out out') ⊎ (
 -- the run of the subcommand, on the streams as they were and are, with its exit status
 abbrev pub IsDone : Request → Option (List ℕ) → Option (List ℕ) → Option (List ℕ) → Option (List ℕ) → ℕ → Type 0
 IsDone (Tlp x) input rest out out' exit = IsRun (out_tlp x) input rest out out' exit
+IsDone (Endpoint s is_traced) input rest out out' exit = IsRun (out_endpoint s is_traced) input rest out out' exit
 IsDone Decode input rest out out' exit = IsRun out_decode input rest out out' exit
 IsDone Encode input rest out out' exit = IsRun out_encode input rest out out' exit
 IsDone (Check is_clocked) input rest out out' exit = IsRun (out_check_with is_clocked) input rest out out' exit
-IsDone (Search limit size is_told) input rest out out' exit = IsSearchedWith size limit input rest out out' exit
+IsDone (Search limit work size has_core is_told) input rest out out' exit = IsSearchedFor has_core size limit input rest out out' exit
 IsDone (Draw from to) input rest out out' exit = IsRun (out_draw (record { from = from; to = to })) input rest out out' exit
 IsDone Upgrade input rest out out' exit = IsRun out_upgrade input rest out out' exit
 IsDone (Step is_traced keeps_going echoes) input rest out out' exit =

@@ -8,51 +8,71 @@ ghost use Rattle.cli_commands.specs.Command.{IsBegun, EndsWrong, IsRight, IsRigh
 ghost use Rattle.cli_words.specs.declared.words.Request.{Request};
 
 use crate::hints::hint;
-use chart_engine::run_chart;
+use crate::noted::Fallible;
+use chart_engine::run_chart_with_reasons;
 use chart_links::ChartWindow;
 use clap::error::ErrorKind;
 use cli_words::{Request, RequestFault, options};
-use draw_engine::run_draw;
+use draw_engine::run_draw_with_reasons;
+use endpoint_engine::{EndpointOptions, run_endpoint_with_reasons};
 use generate_engine::run_generate;
 use history_picture::Window;
 use line_loop::EngineFault;
 use packet_engine::{run_decode_with_reasons, run_encode_with_reasons};
 use parameters::Counting;
-use search_engine::{SearchOptions, Stages, run_search_with};
+use search_engine::{SearchDemand, SearchOptions, Stages, run_search_for};
 use std::alloc::Global;
 use std::convert::AsStr;
 use std::io;
 use std::io::{ErrorKind as IoErrorKind, Read, Write};
+use std::time::Clock;
 use step_engine::{StepOptions, run_step_with_reasons};
 use tlp_engine::run_tlp_with_reasons;
 use trace_engine::{run_check_with, run_upgrade_with_reasons};
 
-/// Tells what stopped an engine, and gives the exit status for that.
-fn stopped<E: Write>(fault: EngineFault, errors: &mut E) -> u8
+/// Tells what stopped an engine and why, where that is known, and gives the exit status for that. Of an output that
+/// nobody reads any more nothing is told.
+fn stopped<E: Write>(fault: EngineFault, why: Option<&io::Error>, errors: &mut E) -> u8
     ensures { result ≡ 1 }
 {
-    let _ = writeln!(errors, "pciex: {fault}");
+    let Some(why) = why else {
+        let _ = writeln!(errors, "pciex: {fault}");
+        return 1;
+    };
+    if fault != EngineFault::Write || why.kind() != IoErrorKind::BrokenPipe {
+        let _ = writeln!(errors, "pciex: {fault}: {why}");
+    }
     1
 }
 
-/// The exit status of an engine's run; what stopped it is told.
-pub fn ended<E: Write>(run: Result<u8, EngineFault>, errors: &mut E) -> u8
+/// The exit status of an engine's run over these streams; what stopped it is told.
+pub fn ended<R: Fallible, W: Fallible, E: Write>(
+    run: Result<u8, EngineFault>,
+    reader: &R,
+    writer: &W,
+    errors: &mut E,
+) -> u8
     ensures ok { IfOk run (λ status. result ≡ status) }
     ensures err { OnErr run (result ≡ 1) }
 {
-    run.unwrap_or_else(|fault| stopped(fault, errors))
+    match run {
+        Ok(status) => status,
+        Err(EngineFault::Read) => stopped(EngineFault::Read, reader.failure(), errors),
+        Err(EngineFault::Write) => stopped(EngineFault::Write, writer.failure(), errors),
+        Err(EngineFault::Memory) => stopped(EngineFault::Memory, None, errors),
+    }
 }
 
 /// Tells what `clap` says of the words, and gives the exit status: a text that was asked for goes
 /// to standard output, and any other to standard error.
-fn told<W: Write, E: Write>(error: &clap::Error, writer: &mut W, errors: &mut E) -> u8
+fn told<W: Write + Fallible, E: Write>(error: &clap::Error, writer: &mut W, errors: &mut E) -> u8
     ensures status { kind_of error.now ≡ ErrorKind.OutOfMemory → result ≡ 1 }
     ensures same { kind_of error.now ≡ ErrorKind.OutOfMemory → W.contents writer.new ≡ W.contents writer.old }
     ensures wrong { kind_of error.now ≢ ErrorKind.OutOfMemory → kind_of error.now ≢ ErrorKind.DisplayHelp → kind_of error.now ≢ ErrorKind.DisplayVersion → result ≡ 2 }
     ensures wrong_same { kind_of error.now ≢ ErrorKind.DisplayHelp → kind_of error.now ≢ ErrorKind.DisplayVersion → W.contents writer.new ≡ W.contents writer.old }
 {
     if error.kind() == ErrorKind::OutOfMemory {
-        return stopped(EngineFault::Memory, errors);
+        return stopped(EngineFault::Memory, None, errors);
     }
     if error.use_stderr() {
         let _ = write!(errors, "{error}");
@@ -60,12 +80,16 @@ fn told<W: Write, E: Write>(error: &clap::Error, writer: &mut W, errors: &mut E)
     }
     match write!(writer, "{error}") {
         Ok(()) => 0,
-        Err(_) => stopped(EngineFault::Write, errors),
+        Err(_) => stopped(EngineFault::Write, writer.failure(), errors),
     }
 }
 
 /// Tells why the words ask for nothing, and gives the exit status for that.
-fn refused<W: Write, E: Write>(fault: &RequestFault<'_>, writer: &mut W, errors: &mut E) -> u8
+fn refused<W: Write + Fallible, E: Write>(
+    fault: &RequestFault<'_>,
+    writer: &mut W,
+    errors: &mut E,
+) -> u8
     ensures status { IsMemoryFault fault.now → result ≡ 1 }
     ensures same { IsMemoryFault fault.now → W.contents writer.new ≡ W.contents writer.old }
     ensures words { WordsFault (λ e. kind_of e ≢ ErrorKind.DisplayHelp → kind_of e ≢ ErrorKind.DisplayVersion
@@ -93,7 +117,7 @@ pub fn no_words<E: Write>(fault: &io::Error, errors: &mut E) -> u8
     ensures word { error_kind fault.now ≢ IoErrorKind.OutOfMemory → result ≡ 2 }
 {
     if fault.kind() == IoErrorKind::OutOfMemory {
-        return stopped(EngineFault::Memory, errors);
+        return stopped(EngineFault::Memory, None, errors);
     }
     let _ = writeln!(errors, "pciex: options");
     2
@@ -108,6 +132,14 @@ pub enum Outcome {
     Run { counting: Counting, is_told: bool },
 }
 
+/// What a command knows of the process: whether its error stream is a terminal, and a clock, by which it is told how far a
+/// search is.
+#[derive(Drop)]
+pub struct Host<'h, C> {
+    pub is_terminal: bool,
+    pub clock: &'h C,
+}
+
 /// Whether it is told how far a search is.
 fn stages_of(is_told: bool, is_terminal: bool) -> Stages {
     if is_told {
@@ -120,10 +152,10 @@ fn stages_of(is_told: bool, is_terminal: bool) -> Stages {
 }
 
 /// Does what is asked for, but for a run, and gives the exit status.
-fn begin<R: Read, W: Write, E: Write>(
+fn begin<C: Clock, R: Read + Fallible, W: Write + Fallible, E: Write>(
     alloc: Global,
     request: Request,
-    is_terminal: bool,
+    host: Host<'_, C>,
     reader: &mut R,
     writer: &mut W,
     errors: &mut E,
@@ -135,40 +167,53 @@ fn begin<R: Read, W: Write, E: Write>(
     match request {
         Request::Tlp(extent) => {
             let run = run_tlp_with_reasons(alloc, extent, reader, writer, errors);
-            Outcome::Ended(ended(run, errors))
+            Outcome::Ended(ended(run, reader, writer, errors))
+        }
+        Request::Endpoint { setup, is_traced } => {
+            let options = EndpointOptions { setup, is_traced };
+            let run = run_endpoint_with_reasons(alloc, options, reader, writer, errors);
+            Outcome::Ended(ended(run, reader, writer, errors))
         }
         Request::Decode => {
             let run = run_decode_with_reasons(alloc, reader, writer, errors);
-            Outcome::Ended(ended(run, errors))
+            Outcome::Ended(ended(run, reader, writer, errors))
         }
         Request::Encode => {
             let run = run_encode_with_reasons(alloc, reader, writer, errors);
-            Outcome::Ended(ended(run, errors))
+            Outcome::Ended(ended(run, reader, writer, errors))
         }
         Request::Check { is_clocked } => {
             let run = run_check_with(alloc, is_clocked, reader, writer, errors);
-            Outcome::Ended(ended(run, errors))
+            Outcome::Ended(ended(run, reader, writer, errors))
         }
         Request::Search {
             limit,
+            work,
             granularity,
+            has_core,
             is_told,
         } => {
             let options = SearchOptions {
                 limit,
                 granularity,
-                stages: stages_of(is_told, is_terminal),
+                stages: stages_of(is_told, host.is_terminal),
             };
-            let run = run_search_with(alloc, options, reader, writer, errors);
-            Outcome::Ended(ended(run, errors))
+            let demand = SearchDemand {
+                options,
+                work,
+                has_core,
+            };
+            let run = run_search_for(alloc, demand, host.clock, reader, writer, errors);
+            Outcome::Ended(ended(run, reader, writer, errors))
         }
         Request::Draw { from, to } => {
             let window = Window { from, to };
-            Outcome::Ended(ended(run_draw(alloc, window, reader, writer), errors))
+            let run = run_draw_with_reasons(alloc, window, reader, writer, errors);
+            Outcome::Ended(ended(run, reader, writer, errors))
         }
         Request::Upgrade => {
             let run = run_upgrade_with_reasons(alloc, reader, writer, errors);
-            Outcome::Ended(ended(run, errors))
+            Outcome::Ended(ended(run, reader, writer, errors))
         }
         Request::Step {
             is_traced,
@@ -181,7 +226,7 @@ fn begin<R: Read, W: Write, E: Write>(
                 echoes,
             };
             let run = run_step_with_reasons(alloc, options, reader, writer, errors);
-            Outcome::Ended(ended(run, errors))
+            Outcome::Ended(ended(run, reader, writer, errors))
         }
         Request::Chart {
             lane,
@@ -197,10 +242,12 @@ fn begin<R: Read, W: Write, E: Write>(
                 is_brief,
                 has_levels,
             };
-            Outcome::Ended(ended(run_chart(alloc, window, reader, writer), errors))
+            let run = run_chart_with_reasons(alloc, window, reader, writer, errors);
+            Outcome::Ended(ended(run, reader, writer, errors))
         }
         Request::Generate { storm } => {
-            Outcome::Ended(ended(run_generate(alloc, &storm, writer), errors))
+            let run = run_generate(alloc, &storm, writer);
+            Outcome::Ended(ended(run, reader, writer, errors))
         }
         Request::Run { counting, is_told } => Outcome::Run { counting, is_told },
     }
@@ -210,10 +257,10 @@ fn begin<R: Read, W: Write, E: Write>(
 /// the exit status: 0 done; 1 a fault, a flaw or a refusal was told, or reading, writing or memory failed; 2 the
 /// words ask for nothing; 3 a search was given up. A long search tells how far it is if the error stream is a terminal.
 /// It waits for no thread, so what is said of it needs no return.
-pub fn on_one_thread<S: AsStr, R: Read, W: Write, E: Write>(
+pub fn on_one_thread<C: Clock, S: AsStr, R: Read + Fallible, W: Write + Fallible, E: Write>(
     alloc: Global,
     words: &[S],
-    is_terminal: bool,
+    host: Host<'_, C>,
     reader: &mut R,
     writer: &mut W,
     errors: &mut E,
@@ -234,7 +281,7 @@ pub fn on_one_thread<S: AsStr, R: Read, W: Write, E: Write>(
     ensures right { IsRight result }
 {
     match options(alloc, words) {
-        Ok(request) => begin(alloc, request, is_terminal, reader, writer, errors),
+        Ok(request) => begin(alloc, request, host, reader, writer, errors),
         Err(fault) => {
             let status = refused(&fault, writer, errors);
             hint(words, &fault, errors);

@@ -1,6 +1,8 @@
-//! A hint beside what `clap` says of the words: a file is given on standard input.
-//!
-//! Nothing rests on what these functions say.
+//! A hint beside what `clap` says of the words: how a subcommand is given a file.
+ghost use Rattle.std.specs.Prelude.{◌≡◌, true};
+ghost use Rattle.clap.specs.Words.{kind_of};
+
+use crate::files::{has_file, is_reader};
 use clap::error::ErrorKind;
 use cli_words::RequestFault;
 use std::convert::AsStr;
@@ -9,13 +11,10 @@ use std::io::{Cursor, Write};
 /// How `clap` begins what it says of a word that it did not expect; that word follows.
 const UNEXPECTED: &[u8; 28] = b"error: unexpected argument '";
 
-/// Those that read standard input.
-static READERS: [&str; 9] = [
-    "tlp", "decode", "encode", "check", "search", "draw", "upgrade", "step", "chart",
-];
-
 /// Whether `clap` did not expect a word that is no option.
-fn is_unexpected_file(error: &clap::Error) -> bool {
+pub(crate) fn is_unexpected_file(error: &clap::Error) -> bool
+    ensures { result ≡ true → kind_of error.now ≡ ErrorKind.UnknownArgument }
+{
     if error.kind() != ErrorKind::UnknownArgument {
         return false;
     }
@@ -27,14 +26,14 @@ fn is_unexpected_file(error: &clap::Error) -> bool {
 
 /// Tells how a subcommand is given a file, if a word that can only be a file's name follows it.
 pub(crate) fn hint<S: AsStr, E: Write>(words: &[S], fault: &RequestFault<'_>, errors: &mut E) {
-    let (RequestFault::Words(error), Some(word)) = (fault, words.get(1)) else {
+    if !is_reader(words) || !has_file(fault) {
         return;
-    };
-    let subcommand = word.as_str();
-    if is_unexpected_file(error) && READERS.contains(&subcommand) {
+    }
+    if let Some(word) = words.get(1) {
+        let subcommand = word.as_str();
         let _ = writeln!(
             errors,
-            "pciex: {subcommand} reads standard input: pciex {subcommand} < FILE"
+            "pciex: {subcommand} reads standard input, or the file that its last word names: pciex {subcommand} FILE"
         );
     }
 }

@@ -5,8 +5,13 @@
 #![tactic(auto)]
 
 mod command;
+mod files;
 mod hints;
+mod noted;
 #[cfg(test)]
 mod tests;
 
-pub use command::{Outcome, ended, no_words, on_one_thread};
+pub use command::{Host, Outcome, ended, no_words, on_one_thread};
+pub use files::file_place;
+pub use noted::{Fallible, Noted};
+pub use search_engine::NoClock;

@@ -1,5 +1,5 @@
 //! Words of the command line, a run of each subcommand, and streams that fail.
-use crate::{Outcome, no_words, on_one_thread};
+use crate::{Fallible, Host, NoClock, Outcome, no_words, on_one_thread};
 use arrayvec::ArrayVec;
 use std::alloc::Global;
 use std::io;
@@ -15,14 +15,18 @@ fn status_of(outcome: Outcome) -> u8 {
 
 /// The exit status of these words. It says nothing of what they do: the tests look, and a proof that rests on the exact
 /// calls would be dear.
-fn status<R: Read, W: Write, E: Write>(
+fn status<R: Read + Fallible, W: Write + Fallible, E: Write>(
     alloc: Global,
     words: &[&str],
     reader: &mut R,
     writer: &mut W,
     errors: &mut E,
 ) -> u8 {
-    status_of(on_one_thread(alloc, words, false, reader, writer, errors))
+    let host = Host {
+        is_terminal: false,
+        clock: &NoClock,
+    };
+    status_of(on_one_thread(alloc, words, host, reader, writer, errors))
 }
 
 /// The same over an input, what is written being kept.
@@ -59,10 +63,29 @@ const TORN: &str =
 /// Words, what standard input has, what is written, and the exit status.
 type Run = (&'static [&'static str], &'static str, &'static str, u8);
 
-static RUNS: [Run; 21] = [
+static RUNS: [Run; 25] = [
+    (
+        &["pciex", "endpoint", "--id=abcd:EF01", "--size", "1048576"],
+        "tlp 04000001 0008630F 01000000\nnext\ntrace\n",
+        "accept\ntlp 4A000001 00000004 00086300 CDAB01EF\nfault Line\n",
+        1,
+    ),
+    (
+        &["pciex", "endpoint", "--trace"],
+        "trace\n",
+        "pciex-trace 2\nmemory 0 4096 128\nhistory\nend\n",
+        0,
+    ),
     (&["pciex", "search"], LOG, FOUND, 0),
     (&["pciex", "search", "--limit", "1"], LIE, "none 1\n", 1),
     (&["pciex", "search", "--granularity", "4"], LOG, FOUND, 0),
+    (&["pciex", "search", "--core"], LIE, LIE, 1),
+    (
+        &["pciex", "search", "--work", "1"],
+        LOG,
+        "limit 1000000\n",
+        3,
+    ),
     (
         &["pciex", "search", "--granularity", "8"],
         TORN,
@@ -181,7 +204,23 @@ type Given = (&'static [&'static str], &'static str);
 
 /// Words that give status 2, and which option is told with what is allowed, none where
 /// they have no form of the grammar.
-static WRONG: [Given; 43] = [
+static WRONG: [Given; 48] = [
+    (
+        &["pciex", "endpoint", "--size", "2048", "--id", "1"],
+        "invalid value '2048' for --size: expected a power of two from 4096 to 1048576",
+    ),
+    (
+        &["pciex", "endpoint", "--size", "04096"],
+        "invalid value '04096' for --size: expected a power of two from 4096 to 1048576",
+    ),
+    (
+        &["pciex", "endpoint", "--id", "1234-7C1E"],
+        "invalid value '1234-7C1E' for --id: expected four hexadecimal digits, ':' and four more",
+    ),
+    (
+        &["pciex", "endpoint", "--id", "1234:7C1G"],
+        "invalid value '1234:7C1G' for --id: expected four hexadecimal digits, ':' and four more",
+    ),
     (&["pciex"], ""),
     (&["pciex", "tpl"], ""),
     (&["pciex", "tlp", "--bass", "0"], ""),
@@ -249,6 +288,10 @@ static WRONG: [Given; 43] = [
     (
         &["pciex", "search", "--limit", "0"],
         "invalid value '0' for --limit: expected 1 to 1000000000",
+    ),
+    (
+        &["pciex", "search", "--work", "0"],
+        "invalid value '0' for --work: expected 1 to 1000000000000",
     ),
     (
         &["pciex", "search", "--granularity", "04"],
@@ -392,15 +435,15 @@ fn wrong_words(rt: HostRuntime) {
     assert!(rt; all_are_wrong(rt.alloc(), &WRONG));
 }
 
-/// Wrong words, and how what is told of them ends: a file is given on standard input.
+/// Wrong words, and how what is told of them ends: how a file is given.
 static NAMED: [Given; 5] = [
     (
         &["pciex", "step", "script.txt"],
-        "\npciex: step reads standard input: pciex step < FILE\n",
+        "\npciex: step reads standard input, or the file that its last word names: pciex step FILE\n",
     ),
     (
-        &["pciex", "check", "--clocked", "trace.txt"],
-        "\npciex: check reads standard input: pciex check < FILE\n",
+        &["pciex", "check", "trace.txt", "--clocked"],
+        "\npciex: check reads standard input, or the file that its last word names: pciex check FILE\n",
     ),
     (
         &["pciex", "step", "--traces"],
@@ -439,7 +482,7 @@ fn a_file_is_no_argument(rt: HostRuntime) {
 }
 
 /// Words that ask for a text, and how it begins.
-static TEXTS: [Given; 16] = [
+static TEXTS: [Given; 17] = [
     (
         &["pciex", "--help"],
         "A proved PCI Express memory device, fabric simulator and history checker\n\nUsage: pciex <COMMAND>\n\nCommands:\n  tlp       Answer request TLPs with their completions\n",
@@ -458,6 +501,7 @@ static TEXTS: [Given; 16] = [
         &["pciex", "tlp", "--help"],
         "Answers request TLPs with their completions.\n\nEach line",
     ),
+    (&["pciex", "endpoint", "--help"], "Acts as a memory device"),
     (&["pciex", "decode", "--help"], "Prints TLPs and DLLPs"),
     (
         &["pciex", "encode", "--help"],
@@ -530,6 +574,12 @@ impl Read for FailingReader<'_> {
     }
 }
 
+impl Fallible for FailingReader<'_> {
+    fn failure(&self) -> Option<&io::Error> {
+        None
+    }
+}
+
 /// Fails at each write.
 #[derive(Drop)]
 struct FailingWriter;
@@ -548,12 +598,19 @@ impl Write for FailingWriter {
     }
 }
 
+impl Fallible for FailingWriter {
+    fn failure(&self) -> Option<&io::Error> {
+        None
+    }
+}
+
 /// A request without a fault, of which no reason is told.
 const PACKET: &str = "4C000001 01000500 00000040 07000000\n";
 
 /// Each subcommand, and an input of it.
-static STREAMED: [Given; 11] = [
+static STREAMED: [Given; 12] = [
     (&["pciex", "tlp"], PACKET),
+    (&["pciex", "endpoint"], "reset\n"),
     (&["pciex", "decode"], PACKET),
     (&["pciex", "encode"], "nak FFF\n"),
     (&["pciex", "check"], TRACE),

@@ -6,6 +6,6 @@ mod options;
 mod refused;
 mod values;
 
-pub use options::{Allowed, MOST_CHOICES, ValueOption};
+pub use options::{Allowed, MOST_CHOICES, MOST_WORK, ValueOption};
 pub use refused::RefusedValue;
 pub use values::{base_of, is_set, number_of, optional_of};

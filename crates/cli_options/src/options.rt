@@ -10,6 +10,9 @@ use switch_core::REQUESTERS;
 /// The most choices that a search may be asked to look at.
 pub const MOST_CHOICES: u64 = 1_000_000_000;
 
+/// The most work that a search may be asked to do.
+pub const MOST_WORK: u64 = 1_000_000_000_000;
+
 /// An option that has a value.
 #[derive(Clone, Copy, Debug, PartialEq, Eq)]
 pub enum ValueOption {
@@ -43,8 +46,14 @@ pub enum ValueOption {
     Lane,
     /// The most choices that a search looks at.
     Limit,
+    /// The most work that a search does.
+    Work,
     /// How many bytes of a read or a write act at once, or all of them.
     Granularity,
+    /// The size of an endpoint's memory, in bytes.
+    EndpointSize,
+    /// The Vendor ID and the Device ID of an endpoint.
+    Id,
 }
 
 /// The numbers that an option may have: the multiples of the unit from the least to the most.
@@ -97,7 +106,7 @@ impl ValueOption {
     {
         match self {
             ValueOption::Base => "base",
-            ValueOption::Size => "size",
+            ValueOption::Size | ValueOption::EndpointSize => "size",
             ValueOption::Block => "block",
             ValueOption::Requesters => "requesters",
             ValueOption::Each => "each",
@@ -111,7 +120,9 @@ impl ValueOption {
             ValueOption::Events => "events",
             ValueOption::Lane => "lane",
             ValueOption::Limit => "limit",
+            ValueOption::Work => "work",
             ValueOption::Granularity => "granularity",
+            ValueOption::Id => "id",
         }
     }
 
@@ -142,8 +153,12 @@ impl ValueOption {
             ValueOption::Turns => from_to(1, MOST_TURNS),
             ValueOption::Workers => from_to(1, MOST_WORKERS),
             ValueOption::Limit => from_to(1, MOST_CHOICES),
+            ValueOption::Work => from_to(1, MOST_WORK),
             ValueOption::Events => from_to(0, MOST_EVENTS),
-            ValueOption::Lane | ValueOption::Granularity => from_to(0, 0),
+            ValueOption::Lane
+            | ValueOption::Granularity
+            | ValueOption::EndpointSize
+            | ValueOption::Id => from_to(0, 0),
             ValueOption::From | ValueOption::To | ValueOption::Seed => from_to(0, u64::MAX),
         }
     }

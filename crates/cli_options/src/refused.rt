@@ -64,6 +64,8 @@ impl fmt::Display for RefusedValue<'_> {
                 "up1 to up{REQUESTERS}, down1 to down{REQUESTERS}, in or out"
             ),
             ValueOption::Granularity => f.write_str("4, 8, 16, 64 or whole"),
+            ValueOption::EndpointSize => f.write_str("a power of two from 4096 to 1048576"),
+            ValueOption::Id => f.write_str("four hexadecimal digits, ':' and four more"),
             ValueOption::To => write!(f, "{allowed}, at least --from"),
             _ => write!(f, "{allowed}"),
         }

@@ -1,3 +1,4 @@
 pub mod GrammarLemmas
-pub mod RequestsAsked
+pub mod NumberLemmas
 pub mod RefusalsAskNothing
+pub mod RequestsAsked

@@ -9,12 +9,13 @@ use Rattle.cli_options.specs.declared.options.ValueOption.{ValueOption}
 use Rattle.cli_options.specs.declared.options.ValueOption.TheVariants.{Size, Workers, From, To}
 use Rattle.cli_options.specs.declared.refused.RefusedValue.{RefusedValue}
 use Rattle.cli_options.specs.Values.{Gives, GivesBase, GivesOptional, IsAmong, multiples}
+use Rattle.config_space.specs.SetupView.{SetupView}
 use Rattle.fabric_events.specs.declared.event.LaneName.{LaneName}
 use Rattle.log_pieces.specs.declared.Granularity.{Granularity}
 use Rattle.cli_words.specs.declared.words.Request.{Request}
-use Rattle.cli_words.specs.declared.words.Request.TheVariants.{Tlp, Search, Draw, Chart, Generate, Run}
-use Rattle.cli_words.specs.Options.{Asks, AsksTlp, AsksSearch, AsksDraw, AsksChart, AsksGenerate, AsksRun}
-use Rattle.cli_words.specs.Refusals.{AreRight, IsFirstWrong, Refuses, RefusesOption, RefusesTlp, RefusesSearch, RefusesDraw, RefusesChart, RefusesRun, tlp_values, search_values, draw_values, chart_values, generate_values, run_values}
+use Rattle.cli_words.specs.declared.words.Request.TheVariants.{Tlp, Endpoint, Search, Draw, Chart, Generate, Run}
+use Rattle.cli_words.specs.Options.{Asks, AsksTlp, AsksEndpoint, AsksSearch, AsksDraw, AsksChart, AsksGenerate, AsksRun}
+use Rattle.cli_words.specs.Refusals.{AreRight, IsFirstWrong, Refuses, RefusesOption, RefusesTlp, RefusesEndpoint, RefusesSearch, RefusesDraw, RefusesChart, RefusesRun, tlp_values, search_values, draw_values, chart_values, generate_values, run_values}
 use Rattle.cli_words.proofs.RequestsAsked.{name_of, asks_name, differ}
 
 -- where each is right, none is the first that is wrong
@@ -47,8 +48,9 @@ tlp_size rows x a =
 tlp_right : (rows : List Row) (x : Extent) → AsksTlp rows x → AreRight rows tlp_values
 tlp_right rows x a = ((x.size, tlp_size rows x a), ((x.block, (a.block_read, among_blocks x.block a.memory.in_block)), tt))
 
-search_right : (rows : List Row) (limit : ℕ) (size : Granularity) → AsksSearch rows limit size → AreRight rows search_values
-search_right rows limit size a = ((limit, (a.limit_read, among 1 1000000000 limit a.least a.most)), tt)
+search_right : (rows : List Row) (limit work : ℕ) (size : Granularity) → AsksSearch rows limit work size → AreRight rows search_values
+search_right rows limit work size a =
+    ((limit, (a.limit_read, among 1 1000000000 limit a.least a.most)), ((work, (a.work_read, among 1 1000000000000 work a.some_work a.most_work)), tt))
 
 draw_from : (rows : List Row) (from to : ℕ) → AsksDraw rows from to → Gives From (Some 0) (first_of (codes "from") rows) from
 draw_from rows from to a = (a.from_read, up_to 18446744073709551615 from (omega (arith, a.ordered, a.fits)))
@@ -107,9 +109,9 @@ refused_tlp rows option x (inr (inl h)) a = none_wrong rows tlp_values option (t
 refused_tlp rows option x (inr (inr h)) a =
     h.3 x.base x.size (tlp_base rows x a) (tlp_size rows x a) a.memory.in_base.1
 
-refused_search : (rows : List Row) (option : ValueOption) (limit : ℕ) (size : Granularity) → RefusesSearch rows option → AsksSearch rows limit size → ⊥
-refused_search rows option limit size (inl h) a = none_wrong rows search_values option (search_right rows limit size a) h
-refused_search rows option limit size (inr h) a = h.2 size a.granularity_read
+refused_search : (rows : List Row) (option : ValueOption) (limit work : ℕ) (size : Granularity) → RefusesSearch rows option → AsksSearch rows limit work size → ⊥
+refused_search rows option limit work size (inl h) a = none_wrong rows search_values option (search_right rows limit work size a) h
+refused_search rows option limit work size (inr h) a = h.2 size a.granularity_read
 
 refused_draw : (rows : List Row) (option : ValueOption) (from to : ℕ) → RefusesDraw rows option → AsksDraw rows from to → ⊥
 refused_draw rows option from to (inl h) a = none_wrong rows draw_values option (draw_right rows from to a) h
@@ -131,8 +133,16 @@ tlp_nothing : (p : Text × List Row) (option : ValueOption) → p.0 ≡ codes "t
 tlp_nothing p option e h (Tlp x) a = refused_tlp p.1 option x h a.1
 tlp_nothing p option e h r a = differ (codes "tlp") (name_of r) refl (sym e ∙ asks_name p r a)
 
+refused_endpoint : (rows : List Row) (option : ValueOption) (s : SetupView) → RefusesEndpoint rows option → AsksEndpoint rows s → ⊥
+refused_endpoint rows option s (inl h) a = h.1 s.size a.size_read
+refused_endpoint rows option s (inr h) a = h.2 (s.vendor, s.device) a.id_read
+
+endpoint_nothing : (p : Text × List Row) (option : ValueOption) → p.0 ≡ codes "endpoint" → RefusesEndpoint p.1 option → (r : Request) → Asks (Some p) r → ⊥
+endpoint_nothing p option e h (Endpoint s t) a = refused_endpoint p.1 option s h a.1
+endpoint_nothing p option e h r a = differ (codes "endpoint") (name_of r) refl (sym e ∙ asks_name p r a)
+
 search_nothing : (p : Text × List Row) (option : ValueOption) → p.0 ≡ codes "search" → RefusesSearch p.1 option → (r : Request) → Asks (Some p) r → ⊥
-search_nothing p option e h (Search limit size told) a = refused_search p.1 option limit size h a.1
+search_nothing p option e h (Search limit work size core told) a = refused_search p.1 option limit work size h a.1
 search_nothing p option e h r a = differ (codes "search") (name_of r) refl (sym e ∙ asks_name p r a)
 
 draw_nothing : (p : Text × List Row) (option : ValueOption) → p.0 ≡ codes "draw" → RefusesDraw p.1 option → (r : Request) → Asks (Some p) r → ⊥
@@ -157,7 +167,8 @@ option_nothing p option (inr (inl h)) = draw_nothing p option h.0 h.1
 option_nothing p option (inr (inr (inl h))) = generate_nothing p option h.0 h.1
 option_nothing p option (inr (inr (inr (inl h)))) = run_nothing p option h.0 h.1
 option_nothing p option (inr (inr (inr (inr (inl h))))) = chart_nothing p option h.0 h.1
-option_nothing p option (inr (inr (inr (inr (inr h))))) = search_nothing p option h.0 h.1
+option_nothing p option (inr (inr (inr (inr (inr (inl h)))))) = search_nothing p option h.0 h.1
+option_nothing p option (inr (inr (inr (inr (inr (inr h)))))) = endpoint_nothing p option h.0 h.1
 
 pub refused_nothing : (o : Option (Text × List Row)) (v : RefusedValue) → Refuses o v → (r : Request) → Asks o r → ⊥
 refused_nothing None v h r a = h

@@ -7,10 +7,12 @@ use Rattle.parameters.specs.declared.counting.Counting.{Counting}
 use Rattle.parameters.specs.declared.storm.Storm.{Storm}
 use Rattle.seq_memory.specs.Limits.{Extent}
 use Rattle.cli_words.specs.declared.words.Request.{Request}
-use Rattle.cli_words.specs.declared.words.Request.TheVariants.{Tlp, Decode, Encode, Check, Search, Draw, Upgrade, Step, Chart, Generate, Run}
+use Rattle.cli_words.specs.declared.words.Request.TheVariants.{Tlp, Endpoint, Decode, Encode, Check, Search, Draw, Upgrade, Step, Chart, Generate, Run}
 use Rattle.cli_options.specs.Values.{WritesBase, WritesNumber, WritesGiven, WritesOptional, WritesFlag}
 use Rattle.fabric_events.specs.declared.event.LaneName.{LaneName}
 use Rattle.log_pieces.specs.declared.Granularity.{Granularity}
+use Rattle.config_space.specs.SetupView.{SetupView}
+use Rattle.cli_words.specs.Endpoints.{WritesId, WritesSize}
 use Rattle.cli_words.specs.Granularities.{WritesGranularity}
 use Rattle.cli_words.specs.Lanes.{WritesLane}
 use Rattle.cli_words.specs.Options.{Asks}
@@ -51,10 +53,11 @@ same_storm s t a b e f g h j = record { seed = a j; events = b j; requesters = e
 -- the name of the subcommand
 abbrev pub name_of : Request → Text
 name_of (Tlp x) = codes "tlp"
+name_of (Endpoint s is_traced) = codes "endpoint"
 name_of Decode = codes "decode"
 name_of Encode = codes "encode"
 name_of (Check is_clocked) = codes "check"
-name_of (Search limit size is_told) = codes "search"
+name_of (Search limit work size has_core is_told) = codes "search"
 name_of (Draw from to) = codes "draw"
 name_of Upgrade = codes "upgrade"
 name_of (Step is_traced keeps_going echoes) = codes "step"
@@ -64,10 +67,11 @@ name_of (Run counting is_told) = codes "run"
 
 pub asks_name : (p : Text × List Row) (r : Request) → Asks (Some p) r → p.0 ≡ name_of r
 asks_name p (Tlp x) a = a.0
+asks_name p (Endpoint s is_traced) a = a.0
 asks_name p Decode a = a
 asks_name p Encode a = a
 asks_name p (Check is_clocked) a = a.0
-asks_name p (Search limit size is_told) a = a.0
+asks_name p (Search limit work size has_core is_told) a = a.0
 asks_name p (Draw from to) a = a.0
 asks_name p Upgrade a = a
 asks_name p (Step is_traced keeps_going echoes) a = a.0
@@ -96,6 +100,23 @@ same_granularity (Some t) a b h k = same_Some a b (sym h ∙ k)
     same_Some : (a b : Granularity) → Some a ≡ Some b → a ≡ b
     same_Some a b e = cc
 
+same_size : (t : Option Text) (a b : ℕ) → WritesSize t a → WritesSize t b → a ≡ b
+same_size None a b h k = h ∙ sym k
+same_size (Some t) a b h k = same_Some a b (sym h ∙ k)
+  where
+    same_Some : (a b : ℕ) → Some a ≡ Some b → a ≡ b
+    same_Some a b e = cc
+
+same_id : (t : Option Text) (a b : ℕ × ℕ) → WritesId t a → WritesId t b → a ≡ b
+same_id None a b h k = h ∙ sym k
+same_id (Some t) a b h k = same_Some a b (sym h ∙ k)
+  where
+    same_Some : (a b : ℕ × ℕ) → Some a ≡ Some b → a ≡ b
+    same_Some a b e = cc
+
+same_setup : (s t : SetupView) → s.size ≡ t.size → ◌≡◌ {A = ℕ × ℕ} (s.vendor, s.device) (t.vendor, t.device) → s ≡ t
+same_setup s t e f j = record { size = e j; vendor = (f j).0; device = (f j).1 }
+
 -- words ask for one thing
 pub asks_one : (o : Option (Text × List Row)) (r s : Request) → Asks o r → Asks o s → r ≡ s
 asks_one None r s a b = absurd a
@@ -104,12 +125,19 @@ asks_one (Some p) (Tlp x) (Tlp y) a b =
     let f = same_number 4096 _ x.size y.size a.1.size_read b.1.size_read in
     let g = same_number 64 _ x.block y.block a.1.block_read b.1.block_read in
     ap Tlp (same_extent x y e f g)
+asks_one (Some p) (Endpoint s t) (Endpoint s' u) a b =
+    let x = a.1 in
+    let y = b.1 in
+    ap (λ (z : SetupView). Endpoint z t) (same_setup s s' (same_size _ s.size s'.size x.size_read y.size_read) (same_id _ (s.vendor, s.device) (s'.vendor, s'.device) x.id_read y.id_read))
+    ∙ ap (λ (z : Bool). Endpoint s' z) (same_flag _ t u a.2 b.2)
 asks_one (Some p) Decode Decode a b = refl
 asks_one (Some p) Encode Encode a b = refl
 asks_one (Some p) (Check t) (Check u) a b = ap Check (same_flag _ t u a.1 b.1)
-asks_one (Some p) (Search limit g t) (Search limit' g' u) a b =
-    ap (λ (n : ℕ). Search n g t) (same_number 1000000 _ limit limit' a.1.limit_read b.1.limit_read)
-    ∙ ap (λ (size : Granularity). Search limit' size t) (same_granularity _ g g' a.1.granularity_read b.1.granularity_read) ∙ ap (Search limit' g') (same_flag _ t u a.2 b.2)
+asks_one (Some p) (Search limit work g k t) (Search limit' work' g' l u) a b =
+    ap (λ (n : ℕ). Search n work g k t) (same_number 1000000 _ limit limit' a.1.limit_read b.1.limit_read)
+    ∙ ap (λ (n : ℕ). Search limit' n g k t) (same_number 300000000 _ work work' a.1.work_read b.1.work_read)
+    ∙ ap (λ (size : Granularity). Search limit' work' size k t) (same_granularity _ g g' a.1.granularity_read b.1.granularity_read)
+    ∙ ap (λ (z : Bool). Search limit' work' g' z t) (same_flag _ k l a.2 b.2) ∙ ap (Search limit' work' g' l) (same_flag _ t u a.3 b.3)
 asks_one (Some p) (Draw from to) (Draw from' to') a b =
     let e = same_number 0 _ from from' a.1.from_read b.1.from_read in
     let f = same_number 18446744073709551615 _ to to' a.1.to_read b.1.to_read in

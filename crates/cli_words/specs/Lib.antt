@@ -1,3 +1,4 @@
+pub mod Endpoints
 pub mod Granularities
 pub mod Lanes
 pub mod Options

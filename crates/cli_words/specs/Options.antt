@@ -7,20 +7,23 @@ use Rattle.parameters.specs.Ranges.{IsCounting}
 use Rattle.seq_memory.specs.Limits.{Extent, IsWithinLimits}
 use Rattle.parameters.specs.declared.storm.Storm.{Storm}
 use Rattle.parameters.specs.Ranges.{IsStorm}
-use Rattle.cli_options.specs.declared.options.TheConstants.{MOST_CHOICES}
+use Rattle.cli_options.specs.declared.options.TheConstants.{MOST_CHOICES, MOST_WORK}
 use Rattle.cli_options.specs.Values.{WritesBase, WritesNumber, WritesGiven, WritesOptional, WritesFlag}
 use Rattle.fabric_events.specs.declared.event.LaneName.{LaneName}
 use Rattle.log_pieces.specs.declared.Granularity.{Granularity}
+use Rattle.config_space.specs.SetupView.{SetupView}
+use Rattle.cli_words.specs.Endpoints.{WritesId, WritesSize}
 use Rattle.cli_words.specs.Granularities.{WritesGranularity}
 use Rattle.cli_words.specs.Lanes.{WritesLane}
 use Rattle.cli_words.specs.declared.words.Request.{Request}
 use Rattle.cli_words.specs.declared.words.Subcommand.{Subcommand}
 use Rattle.cli_words.specs.declared.words.Subcommand.TheVariants as kinds
-use Rattle.cli_words.specs.declared.words.Request.TheVariants.{Tlp, Decode, Encode, Check, Search, Draw, Upgrade, Step, Chart, Generate, Run}
+use Rattle.cli_words.specs.declared.words.Request.TheVariants.{Tlp, Endpoint, Decode, Encode, Check, Search, Draw, Upgrade, Step, Chart, Generate, Run}
 
 -- the name of a subcommand
 abbrev pub text_of : Subcommand → Text
 text_of kinds.Tlp = codes "tlp"
+text_of kinds.Endpoint = codes "endpoint"
 text_of kinds.Decode = codes "decode"
 text_of kinds.Encode = codes "encode"
 text_of kinds.Check = codes "check"
@@ -43,11 +46,16 @@ tlp_app = with_rule (with_rule (with_rule (new_app (codes "tlp")) (option (codes
 abbrev pub flag : Text → Rule
 flag name = record (new_rule name) { long = Some name; action = Some SetTrue }
 
+abbrev pub endpoint_app : App
+endpoint_app = with_rule (with_rule (with_rule (new_app (codes "endpoint")) (option (codes "size"))) (option (codes "id"))) (flag (codes "trace"))
+
 abbrev pub check_app : App
 check_app = with_rule (new_app (codes "check")) (flag (codes "clocked"))
 
 abbrev pub search_app : App
-search_app = with_rule (with_rule (with_rule (new_app (codes "search")) (option (codes "limit"))) (option (codes "granularity"))) (flag (codes "progress"))
+search_app =
+    with_rule (with_rule (with_rule (with_rule (with_rule (new_app (codes "search")) (option (codes "limit"))) (option (codes "work"))) (option (codes "granularity"))) (flag (codes "core")))
+    (flag (codes "progress"))
 
 abbrev pub draw_app : App
 draw_app = with_rule (with_rule (new_app (codes "draw")) (option (codes "from"))) (option (codes "to"))
@@ -83,7 +91,8 @@ top_app = record (new_app (codes "pciex")) { top = record ((new_app (codes "pcie
 
 -- with the subcommands for packets, and with those for traces
 abbrev pub with_packets : App → App
-with_packets app = with_subcommand (with_subcommand (with_subcommand app tlp_app.top) (new_app (codes "decode")).top) (new_app (codes "encode")).top
+with_packets app =
+    with_subcommand (with_subcommand (with_subcommand (with_subcommand app tlp_app.top) endpoint_app.top) (new_app (codes "decode")).top) (new_app (codes "encode")).top
 
 abbrev pub with_traces : App → App
 with_traces app =
@@ -101,11 +110,19 @@ pub record AsksTlp (rows : List Row) (x : Extent) : Type 0 where
   pub block_read : WritesNumber 64 (first_of (codes "block") rows) x.block
   pub memory : IsWithinLimits x
 
--- the values of `search` ask to look at so many choices at most, for a history of pieces of that size
-pub record AsksSearch (rows : List Row) (limit : ℕ) (size : Granularity) : Type 0 where
+-- the values of `endpoint` ask for this device
+pub record AsksEndpoint (rows : List Row) (s : SetupView) : Type 0 where
+  pub size_read : WritesSize (first_of (codes "size") rows) s.size
+  pub id_read : WritesId (first_of (codes "id") rows) (s.vendor, s.device)
+
+-- the values of `search` ask to look at so many choices and to do so much work at most, for a history of pieces of that size
+pub record AsksSearch (rows : List Row) (limit work : ℕ) (size : Granularity) : Type 0 where
   pub limit_read : WritesNumber 1000000 (first_of (codes "limit") rows) limit
   pub least : 1 ≤ limit
   pub most : limit ≤ MOST_CHOICES
+  pub work_read : WritesNumber 300000000 (first_of (codes "work") rows) work
+  pub some_work : 1 ≤ work
+  pub most_work : work ≤ MOST_WORK
   pub granularity_read : WritesGranularity (first_of (codes "granularity") rows) size
 
 -- the values of `draw` ask for the points from one to another, numbers of 64 bits
@@ -157,10 +174,12 @@ pub record AsksRun (rows : List Row) (c : Counting) : Type 0 where
 abbrev pub Asks : Option (Text × List Row) → Request → Type 0
 Asks None request = ⊥
 Asks (Some p) (Tlp x) = (p.0 ≡ codes "tlp") × AsksTlp p.1 x
+Asks (Some p) (Endpoint s is_traced) = (p.0 ≡ codes "endpoint") × AsksEndpoint p.1 s × WritesFlag (first_of (codes "trace") p.1) is_traced
 Asks (Some p) Decode = p.0 ≡ codes "decode"
 Asks (Some p) Encode = p.0 ≡ codes "encode"
 Asks (Some p) (Check is_clocked) = (p.0 ≡ codes "check") × WritesFlag (first_of (codes "clocked") p.1) is_clocked
-Asks (Some p) (Search limit size is_told) = (p.0 ≡ codes "search") × AsksSearch p.1 limit size × WritesFlag (first_of (codes "progress") p.1) is_told
+Asks (Some p) (Search limit work size has_core is_told) =
+    (p.0 ≡ codes "search") × AsksSearch p.1 limit work size × WritesFlag (first_of (codes "core") p.1) has_core × WritesFlag (first_of (codes "progress") p.1) is_told
 Asks (Some p) (Draw from to) = (p.0 ≡ codes "draw") × AsksDraw p.1 from to
 Asks (Some p) Upgrade = p.0 ≡ codes "upgrade"
 Asks (Some p) (Step is_traced keeps_going echoes) = (p.0 ≡ codes "step") × AsksStep p.1 is_traced keeps_going echoes

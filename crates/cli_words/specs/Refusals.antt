@@ -4,10 +4,11 @@ use Rattle.std.specs.Prelude.{◌≡◌, ◌≤◌, ◌+◌, ◌^◌, ◌⊎◌,
 use Rattle.clap.specs.Words.{Row, Text, first_of}
 use Rattle.fabric_events.specs.declared.event.LaneName.{LaneName}
 use Rattle.log_pieces.specs.declared.Granularity.{Granularity}
+use Rattle.cli_words.specs.Endpoints.{WritesId, WritesSize}
 use Rattle.cli_words.specs.Granularities.{WritesGranularity}
 use Rattle.cli_words.specs.Lanes.{WritesLane}
 use Rattle.cli_options.specs.declared.options.ValueOption.{ValueOption}
-use Rattle.cli_options.specs.declared.options.ValueOption.TheVariants.{Base, Size, Block, Requesters, Each, Lose, Corrupt, Turns, Workers, From, To, Seed, Events, Lane, Limit, Granularity as the_granularity}
+use Rattle.cli_options.specs.declared.options.ValueOption.TheVariants.{Base, Size, Block, Requesters, Each, Lose, Corrupt, Turns, Workers, From, To, Seed, Events, Lane, Limit, Work, Granularity as the_granularity, EndpointSize, Id}
 use Rattle.cli_options.specs.declared.refused.RefusedValue.{RefusedValue}
 use Rattle.cli_options.specs.Values.{Gives, GivesBase, GivesOptional, name_of}
 
@@ -39,6 +40,16 @@ IsRightGranularity rows = (g : Granularity) × WritesGranularity (first_of (code
 abbrev pub IsWrongGranularity : List Row → Type 0
 IsWrongGranularity rows = (g : Granularity) → WritesGranularity (first_of (codes "granularity") rows) g → ⊥
 
+-- the same of the size of an endpoint's memory, and of its IDs
+abbrev pub IsRightSize : List Row → Type 0
+IsRightSize rows = (n : ℕ) × WritesSize (first_of (codes "size") rows) n
+
+abbrev pub IsWrongSize : List Row → Type 0
+IsWrongSize rows = (n : ℕ) → WritesSize (first_of (codes "size") rows) n → ⊥
+
+abbrev pub IsWrongId : List Row → Type 0
+IsWrongId rows = (id : ℕ × ℕ) → WritesId (first_of (codes "id") rows) id → ⊥
+
 -- the same of a number that need not be given
 abbrev pub IsRightOptional : List Row → ValueOption → Type 0
 IsRightOptional rows option = (n : Option ℕ) × GivesOptional option (first_of (name_of option) rows) n
@@ -61,7 +72,7 @@ abbrev pub tlp_values : List (ValueOption × Option ℕ)
 tlp_values = (Size, Some 4096) ∷ (Block, Some 64) ∷ []
 
 abbrev pub search_values : List (ValueOption × Option ℕ)
-search_values = (Limit, Some 1000000) ∷ []
+search_values = (Limit, Some 1000000) ∷ (Work, Some 300000000) ∷ []
 
 abbrev pub draw_values : List (ValueOption × Option ℕ)
 draw_values = (From, Some 0) ∷ (To, Some 18446744073709551615) ∷ []
@@ -92,6 +103,9 @@ RefusesTlp rows option =
     (option ≡ Base) × IsWrongBase rows ⊎ IsRightBase rows × IsFirstWrong rows tlp_values option
     ⊎ (option ≡ Base) × IsRightBase rows × AreRight rows tlp_values × EndsBeyond rows
 
+abbrev pub RefusesEndpoint : List Row → ValueOption → Type 0
+RefusesEndpoint rows option = (option ≡ EndpointSize) × IsWrongSize rows ⊎ (option ≡ Id) × IsRightSize rows × IsWrongId rows
+
 abbrev pub RefusesSearch : List Row → ValueOption → Type 0
 RefusesSearch rows option = IsFirstWrong rows search_values option ⊎ (option ≡ the_granularity) × AreRight rows search_values × IsWrongGranularity rows
 
@@ -112,6 +126,7 @@ RefusesOption name rows option =
     ⊎ (name ≡ codes "generate") × IsFirstWrong rows generate_values option ⊎ (name ≡ codes "run") × RefusesRun rows option
     ⊎ (name ≡ codes "chart") × RefusesChart rows option
     ⊎ (name ≡ codes "search") × RefusesSearch rows option
+    ⊎ (name ≡ codes "endpoint") × RefusesEndpoint rows option
 
 -- of the subcommand with its values this option is refused, with what is written of it
 abbrev pub Refuses : Option (Text × List Row) → RefusedValue → Type 0

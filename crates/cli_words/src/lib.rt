@@ -1,6 +1,7 @@
 //! The words of a command line, and what they ask for.
 #![tactic(auto)]
 
+mod endpoints;
 mod granularities;
 mod lanes;
 mod subcommands;

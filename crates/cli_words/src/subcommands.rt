@@ -3,7 +3,7 @@ ghost use Rattle.std.specs.Prelude.{◌≡◌, IfOk, false};
 ghost use Rattle.clap.specs.Words.{App, app_of, new_app, with_rule, with_subcommand};
 ghost use Rattle.clap.specs.Walk.{rule_of};
 ghost use Rattle.clap.specs.declared.builder.Command.TheViews.{out-Command};
-ghost use Rattle.cli_words.specs.Options.{the_app, top_app, tlp_app, check_app, search_app, draw_app, step_app, chart_app, generate_app, run_app, with_links, with_packets, with_traces, option, required, flag};
+ghost use Rattle.cli_words.specs.Options.{the_app, top_app, tlp_app, endpoint_app, check_app, search_app, draw_app, step_app, chart_app, generate_app, run_app, with_links, with_packets, with_traces, option, required, flag};
 
 use crate::texts;
 use crate::texts::Help;
@@ -96,6 +96,17 @@ fn tlp_command<'a>(alloc: Global) -> Result<Command<'a>, AllocError>
     with_arg(size, option_of(alloc, "block", "BYTES", texts::BLOCK))
 }
 
+/// The subcommand `endpoint`.
+fn endpoint_command<'a>(alloc: Global) -> Result<Command<'a>, AllocError>
+    ensures app { IfOk result (λ c. app_of c ≡ endpoint_app) }
+    ensures globals { IfOk result (λ c. (out-Command c).has_globals ≡ false) }
+{
+    let endpoint = plain_command(alloc, "endpoint", texts::ENDPOINT);
+    let size = with_arg(endpoint, option_of(alloc, "size", "BYTES", texts::MEMORY))?;
+    let id = with_arg(size, option_of(alloc, "id", "IDS", texts::ID))?;
+    with_arg(id, flag_of(alloc, "trace", texts::RECORD))
+}
+
 /// The subcommand `step`.
 fn step_command<'a>(alloc: Global) -> Result<Command<'a>, AllocError>
     ensures app { IfOk result (λ c. app_of c ≡ step_app) }
@@ -123,11 +134,13 @@ fn search_command<'a>(alloc: Global) -> Result<Command<'a>, AllocError>
 {
     let search = plain_command(alloc, "search", texts::SEARCH);
     let limit = with_arg(search, option_of(alloc, "limit", "CHOICES", texts::LIMIT))?;
+    let work = with_arg(limit, option_of(alloc, "work", "WORK", texts::WORK))?;
     let granularity = with_arg(
-        limit,
+        work,
         option_of(alloc, "granularity", "BYTES", texts::GRANULARITY),
     )?;
-    with_arg(granularity, flag_of(alloc, "progress", texts::STAGES))
+    let core = with_arg(granularity, flag_of(alloc, "core", texts::CORE))?;
+    with_arg(core, flag_of(alloc, "progress", texts::STAGES))
 }
 
 /// The subcommand `draw`.
@@ -216,7 +229,8 @@ fn with_packets<'a>(alloc: Global, top: Command<'a>) -> Result<Command<'a>, Allo
     ensures globals { IfOk result (λ c. (out-Command c).has_globals ≡ false) }
 {
     let with_tlp = with_made(top, tlp_command(alloc))?;
-    let with_decode = with_command(with_tlp, plain_command(alloc, "decode", texts::DECODE))?;
+    let with_endpoint = with_made(with_tlp, endpoint_command(alloc))?;
+    let with_decode = with_command(with_endpoint, plain_command(alloc, "decode", texts::DECODE))?;
     with_command(with_decode, plain_command(alloc, "encode", texts::ENCODE))
 }
 

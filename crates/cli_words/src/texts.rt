@@ -15,8 +15,9 @@ pub(crate) static ABOUT: &str =
     "A proved PCI Express memory device, fabric simulator and history checker";
 
 pub(crate) static AFTER: &str =
-    "Subcommands other than 'generate' and 'run' read standard input. Results are printed on
-standard output, and the reasons of faults and refusals on standard error.
+    "Subcommands other than 'generate' and 'run' read standard input, or the file that the last
+word names. Results are printed on standard output, and the reasons of faults and refusals
+on standard error.
 'pciex <COMMAND> --help' has the details and an example.
 
 Exit status:
@@ -37,6 +38,24 @@ the reason.",
     example: "Example:
   $ echo '4C000001 01000500 00000040 07000000' | pciex tlp
   4A000001 00000004 01000500 00000000",
+};
+
+pub(crate) static ENDPOINT: Help = Help {
+    about: "Act as a memory device that a root complex brings up",
+    long: "Acts as a memory device that a root complex enumerates and uses: a Type 0 function with
+configuration registers and a memory behind BAR 0.
+
+Each line of the input has a result, printed before more is read. 'tlp' and a TLP in
+hexadecimal digits: 'accept', then a word if the TLP is ignored, unsupported, unexpected or
+malformed. A posted request acts at once, the others wait. 'next': the oldest request acts,
+a read by one block of 128 bytes, and the result is 'tlp' and its completion; '-' if none
+waits. 'reset': registers are as at first, and the memory stays. 'trace': what '--trace'
+recorded. Empty lines and lines that begin with '#' are ignored. The result of any other
+line is 'fault Line'.",
+    example: "Example:
+  $ printf 'tlp 04000001 0008630F 01000000\\nnext\\n' | pciex endpoint
+  accept
+  tlp 4A000001 00000004 00086300 34121E7C",
 };
 
 pub(crate) static DECODE: Help = Help {
@@ -85,8 +104,9 @@ pub(crate) static SEARCH: Help = Help {
 The input is one log: what requesters submitted and were answered, in the order of time. A
 trace may stand in its place; its history is ignored. The result is a trace with a history,
 to which 'check' says 'ok'; or one line: 'none' with the place of a record up to which no
-history explains the log; 'limit' if the search was given up and nothing is known; or
-'fault' with the first line that can't be read and the reason.
+history explains the log; 'limit' if the search was given up and nothing is known; 'flaw'
+with the first bookkeeping mistake; or 'fault' with the first line that can't be read and
+the reason. With '--core' a short log may stand in place of 'none'.
 
 Each read and write acts as a whole, which PCI Express doesn't require of several DW. With
 '--granularity' it acts in pieces.",
@@ -185,16 +205,33 @@ pub(crate) static BLOCK: &str =
     "Block size in bytes, 64 or 128; a request that crosses the end of an
 aligned block completes with Completer Abort [default: 64]";
 
+pub(crate) static MEMORY: &str =
+    "Memory size in bytes, a power of two from 4096 to 1048576 [default: 4096]";
+
+pub(crate) static ID: &str =
+    "Vendor ID and Device ID, four hexadecimal digits each [default: 1234:7C1E]";
+
+pub(crate) static RECORD: &str = "Record what acts on the memory, for the line 'trace'";
+
 pub(crate) static LIMIT: &str = "Number of choices to look at, 1 to 1000000000 [default: 1000000]";
+
+pub(crate) static WORK: &str =
+    "Work to do before giving up, 1 to 1000000000000: about as many steps, or requests
+looked at for one; the default takes about half a minute [default: 300000000]";
+
+pub(crate) static CORE: &str =
+    "Print, in place of 'none', a short log of the answers that contradict each other
+and of the requests that have to do with them, if it is proved that this log has no
+history";
 
 pub(crate) static GRANULARITY: &str =
     "Bytes of a read or a write that act at once, in naturally aligned pieces: 4, 8,
 16, 64 or whole; the history that is printed is one of pieces [default: whole]";
 
 pub(crate) static STAGES: &str =
-    "Print on standard error how many records were read, and after each hundredth of
-the limit how many choices were looked at; on by default for 10000 records or more
-if standard error is a terminal";
+    "Print on standard error how many records were read, and after two seconds, then
+ever more rarely, how many choices were looked at; on by default for 10000 records
+or more if standard error is a terminal";
 
 pub(crate) static FROM: &str = "First point to draw, a length of the history [default: 0]";
 
@@ -249,6 +286,5 @@ pub(crate) static WORKERS: &str =
     "Number of threads that the parts other than requesters share, 1 to 64
 [default: twice the number of processors]";
 
-pub(crate) static PROGRESS: &str =
-    "Print the number of answers on standard error about twice a second;
+pub(crate) static PROGRESS: &str = "Print the number of answers on standard error, ever more rarely;
 on by default if standard error is a terminal";

@@ -2,22 +2,26 @@
 ghost use Rattle.std.specs.Prelude.{◌≡◌, IfOk, IfErr, IfSome, IfNone, OnErr, map, true, codes, Some, [], option_map};
 ghost use Rattle.clap.specs.Words.{FailsBy, HasKind, fault_of, kind_of, subcommand_of, subcommand_rows_of, has_subcommand, takes, rows_of, found_of, first_of};
 ghost use Rattle.cli_options.specs.Values.{Gives, GivesBase, GivesOptional, name_of};
-ghost use Rattle.cli_options.specs.declared.options.ValueOption.TheVariants.{Base, Lane, Granularity as the_granularity};
+ghost use Rattle.cli_options.specs.declared.options.ValueOption.TheVariants.{Base, Lane, Granularity as the_granularity, EndpointSize, Id};
 ghost use Rattle.cli_words.specs.declared.words.Request.{Request};
 ghost use Rattle.cli_words.specs.declared.words.RequestFault.TheVariants.{Value};
 ghost use Rattle.cli_words.specs.Faults.{WordsFault, RangeFault, ValueFault, IsRefusal};
+ghost use Rattle.config_space.specs.SetupView.{is_size};
+ghost use Rattle.cli_words.specs.Endpoints.{WritesId, WritesSize};
 ghost use Rattle.cli_words.specs.Granularities.{WritesGranularity};
 ghost use Rattle.cli_words.specs.Lanes.{WritesLane};
 ghost use Rattle.cli_words.specs.Options.{the_app, text_of, Asks};
 ghost use Rattle.cli_words.specs.declared.words.Subcommand.{Subcommand};
-ghost use Rattle.cli_words.specs.Refusals.{IsWrong, IsWrongBase, IsWrongGranularity, IsWrongLane, IsWrongOptional, Refuses};
+ghost use Rattle.cli_words.specs.Refusals.{IsWrong, IsWrongBase, IsWrongGranularity, IsWrongId, IsWrongLane, IsWrongOptional, IsWrongSize, Refuses};
 
+use crate::endpoints::{ids_of, size_of};
 use crate::granularities::granularity_of;
 use crate::lanes::lane_of;
 use crate::subcommands::grammar;
 use clap::ArgMatches;
 use clap::error::ErrorKind;
 use cli_options::{RefusedValue, ValueOption, base_of, is_set, number_of, optional_of};
+use config_space::Setup;
 use fabric_core::LaneName;
 use log_pieces::Granularity;
 use parameters::{Counting, Storm};
@@ -30,6 +34,11 @@ use std::convert::AsStr;
 pub enum Request {
     /// The subcommand `tlp`, over a memory in that place.
     Tlp(Extent),
+    /// The subcommand `endpoint`, of that device, which may be traced.
+    Endpoint {
+        setup: Setup,
+        is_traced: bool,
+    },
     /// The subcommand `decode`.
     Decode,
     /// The subcommand `encode`.
@@ -38,11 +47,13 @@ pub enum Request {
     Check {
         is_clocked: bool,
     },
-    /// The subcommand `search`, which looks at so many choices at most, lets reads and writes act in pieces, and may
-    /// tell how far it is.
+    /// The subcommand `search`, which looks at so many choices and does so much work at most, lets reads and writes act in
+    /// pieces, and may write a log of few answers that has no history, and tell how far it is.
     Search {
         limit: u64,
+        work: u64,
         granularity: Granularity,
+        has_core: bool,
         is_told: bool,
     },
     /// The subcommand `draw`, of the points of a history from one to another.
@@ -160,6 +171,46 @@ fn tlp_of<'a>(tlp: &ArgMatches<'a>) -> Result<Request, RefusedValue<'a>>
     }
 }
 
+/// The size of an endpoint's memory that the values give.
+fn size_in<'a>(values: &ArgMatches<'a>) -> Result<u32, RefusedValue<'a>>
+    ensures ok { IfOk result (WritesSize (first_of (codes "size") (rows_of (found_of values.now)))) }
+    ensures right { IfOk result (λ n. is_size n ≡ true) }
+    ensures err { OnErr result (IsWrongSize (rows_of (found_of values.now))) }
+    ensures refused { IfErr result (λ e. (e.option ≡ EndpointSize) × (option_map (λ t. t.now) e.given ≡ first_of (codes "size") (rows_of (found_of values.now)))) }
+{
+    size_of(values.get_str("size"))
+}
+
+/// The Vendor ID and the Device ID that the values give.
+fn ids_in<'a>(values: &ArgMatches<'a>) -> Result<(u16, u16), RefusedValue<'a>>
+    ensures ok { IfOk result (WritesId (first_of (codes "id") (rows_of (found_of values.now)))) }
+    ensures err { OnErr result (IsWrongId (rows_of (found_of values.now))) }
+    ensures refused { IfErr result (λ e. (e.option ≡ Id) × (option_map (λ t. t.now) e.given ≡ first_of (codes "id") (rows_of (found_of values.now)))) }
+{
+    ids_of(values.get_str("id"))
+}
+
+/// A device of this size, which a device can have, with these IDs.
+fn setup_of(size: u32, ids: (u16, u16)) -> Setup
+    requires { is_size size ≡ true }
+    ensures { result ≡ record { size = size; vendor = ids.0; device = ids.1 } }
+{
+    Setup::new(size, ids.0, ids.1).unwrap()
+}
+
+/// What the values of `endpoint` ask for.
+fn endpoint_of<'a>(endpoint: &ArgMatches<'a>) -> Result<Request, RefusedValue<'a>>
+    ensures ok { IfOk result (Asks (Some (codes "endpoint", rows_of (found_of endpoint.now)))) }
+    ensures err { IfErr result (Refuses (Some (codes "endpoint", rows_of (found_of endpoint.now)))) }
+{
+    let size = size_in(endpoint)?;
+    let ids = ids_in(endpoint)?;
+    Ok(Request::Endpoint {
+        setup: setup_of(size, ids),
+        is_traced: is_set(endpoint.get_str("trace")),
+    })
+}
+
 /// What the values of `check` ask for.
 fn check_of(check: &ArgMatches<'_>) -> Request
     ensures { Asks (Some (codes "check", rows_of (found_of check.now))) result }
@@ -184,10 +235,13 @@ fn search_of<'a>(search: &ArgMatches<'a>) -> Result<Request, RefusedValue<'a>>
     ensures err { IfErr result (Refuses (Some (codes "search", rows_of (found_of search.now)))) }
 {
     let limit = number_in(search, ValueOption::Limit, Some(1_000_000))?;
+    let work = number_in(search, ValueOption::Work, Some(300_000_000))?;
     let granularity = granularity_in(search)?;
     Ok(Request::Search {
         limit,
+        work,
         granularity,
+        has_core: is_set(search.get_str("core")),
         is_told: is_set(search.get_str("progress")),
     })
 }
@@ -305,6 +359,7 @@ fn run_of<'a>(run: &ArgMatches<'a>) -> Result<Request, RefusedValue<'a>>
 #[derive(Clone, Copy)]
 pub(crate) enum Subcommand {
     Tlp,
+    Endpoint,
     Decode,
     Encode,
     Check,
@@ -324,6 +379,8 @@ fn subcommand_named(name: &str) -> Option<Subcommand>
 {
     if name == "tlp" {
         Some(Subcommand::Tlp)
+    } else if name == "endpoint" {
+        Some(Subcommand::Endpoint)
     } else if name == "decode" {
         Some(Subcommand::Decode)
     } else if name == "encode" {
@@ -359,6 +416,7 @@ fn request_of<'a>(
 {
     match subcommand {
         Subcommand::Tlp => tlp_of(values),
+        Subcommand::Endpoint => endpoint_of(values),
         Subcommand::Decode => Ok(Request::Decode),
         Subcommand::Encode => Ok(Request::Encode),
         Subcommand::Check => Ok(check_of(values)),

@@ -5,6 +5,8 @@
 #[cfg(test)]
 mod ended;
 #[cfg(test)]
+mod endpoint_examples;
+#[cfg(test)]
 mod long_lines;
 #[cfg(test)]
 mod packet_examples;

@@ -1,5 +1,7 @@
 //! Runs of the engines. These functions say nothing of what they do: the tests look, and a proof that rests on the exact
 //! calls would be dear.
+use config_space::Setup;
+use endpoint_engine::{EndpointOptions, run_endpoint};
 use line_loop::EngineFault;
 use packet_engine::{run_decode, run_encode};
 use seq_memory::Extent;
@@ -17,6 +19,8 @@ pub(crate) enum Engine {
     TlpOfLargeBlocks,
     /// `tlp` over the last 128 bytes of the addresses, with blocks of 64 bytes.
     TlpOfLastBytes,
+    /// `endpoint --trace` with 4096 bytes.
+    EndpointTraced,
     Decode,
     Encode,
     Check,
@@ -43,6 +47,15 @@ fn run(
         Engine::TlpOfLastBytes => run_tlp(
             alloc,
             Extent::new(0xFFFF_FFFF_FFFF_FF80, 128, 64).unwrap(),
+            reader,
+            out,
+        ),
+        Engine::EndpointTraced => run_endpoint(
+            alloc,
+            EndpointOptions {
+                setup: Setup::new(4096, 0x1234, 0x7C1E).unwrap(),
+                is_traced: true,
+            },
             reader,
             out,
         ),

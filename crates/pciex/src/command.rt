@@ -5,18 +5,36 @@ ghost use Rattle.cli_words.specs.Options.{the_app, Asks};
 ghost use Rattle.cli_commands.specs.Command.{IsDone, AreRefused};
 ghost use Rattle.cli_words.specs.declared.words.Request.{Request};
 
-use cli_commands::{Outcome, ended, on_one_thread};
-use run_engine::run_counting;
+use cli_commands::{Fallible, Host, Outcome, ended, on_one_thread};
+use run_engine::{Progress, run_counting};
 use std::alloc::Global;
 use std::convert::AsStr;
 use std::io::{Read, Write};
 use std::sync::Wait;
 use std::thread::Threads;
+use std::time::Clock;
+
+/// How it is told how far a run is.
+fn progress_of(is_told: bool, is_terminal: bool) -> Progress {
+    if is_terminal {
+        Progress::OneLine
+    } else if is_told {
+        Progress::Lines
+    } else {
+        Progress::Hidden
+    }
+}
 
 /// Does what the words of the command line ask for, the program's name before them, and gives the exit status:
 /// that of [`on_one_thread`], or that of the run, which is 3 for the halt `Turns`. A run tells how far it is where
 /// the words ask for that or the error stream is a terminal.
-pub fn command<T: Threads + Wait + Sync, S: AsStr, R: Read, W: Write, E: Write + Send>(
+pub fn command<
+    T: Threads + Wait + Sync + Clock,
+    S: AsStr,
+    R: Read + Fallible,
+    W: Write + Fallible,
+    E: Write + Send,
+>(
     rt: &T,
     alloc: Global,
     words: &[S],
@@ -29,7 +47,7 @@ pub fn command<T: Threads + Wait + Sync, S: AsStr, R: Read, W: Write, E: Write +
     ensures run { (request : Request) → takes the_app (map S.text words.now) ≡ true → Asks (subcommand_of the_app (map S.text words.now)) request
         → IsDone request (R.remaining reader.old) (R.remaining reader.new) (W.contents writer.old) (W.contents writer.new) result }
 
-    // Words that `clap` takes and that ask for nothing have status 2, or 1 where out of memory, and nothing is written.
+    // Words that `clap` takes and that ask for nothing have status 1 or 2, and nothing is written.
     ensures nothing { takes the_app (map S.text words.now) ≡ true → ((r : Request) → Asks (subcommand_of the_app (map S.text words.now)) r → ⊥)
         → ((result ≡ 1) ⊎ (result ≡ 2)) × (W.contents writer.new ≡ W.contents writer.old) }
 
@@ -37,14 +55,16 @@ pub fn command<T: Threads + Wait + Sync, S: AsStr, R: Read, W: Write, E: Write +
     ensures refused { AreRefused (fault_of the_app (map S.text words.now))
         → ((result ≡ 1) ⊎ (result ≡ 2)) × (W.contents writer.new ≡ W.contents writer.old) }
 {
-    match on_one_thread(alloc, words, is_terminal, reader, writer, errors) {
+    let host = Host {
+        is_terminal,
+        clock: rt,
+    };
+    match on_one_thread(alloc, words, host, reader, writer, errors) {
         Outcome::Ended(status) => status,
         Outcome::Run { counting, is_told } => {
-            let shows = is_told || is_terminal;
-            ended(
-                run_counting(rt, alloc, &counting, shows, writer, errors),
-                errors,
-            )
+            let progress = progress_of(is_told, is_terminal);
+            let run = run_counting(rt, alloc, &counting, progress, writer, errors);
+            ended(run, reader, writer, errors)
         }
     }
 }

@@ -5,9 +5,11 @@ mod command;
 #[cfg(test)]
 mod tests;
 
-use cli_commands::no_words;
+use cli_commands::{Noted, file_place, no_words};
+use command::command;
+use std::fs::File;
 use std::io;
-use std::io::IsTerminal;
+use std::io::{IsTerminal, Write};
 use std::process::ExitCode;
 
 /// The words of the command line, the program's name before them.
@@ -16,19 +18,42 @@ fn words(rt: &HostRuntime) -> io::Result<Vec<String>> {
     Ok(words)
 }
 
+/// Tells that a file can't be opened, and gives the exit status for that.
+fn unopened<E: Write>(name: &str, why: &io::Error, errors: &mut E) -> u8 {
+    let _ = writeln!(errors, "pciex: {name}: {why}");
+    1
+}
+
 fn main(rt: HostRuntime) -> ExitCode {
     let mut errors = rt.stderr();
-    let status = match words(&rt) {
-        Ok(words) => command::command(
+    let is_terminal = errors.is_terminal();
+    let words = match words(&rt) {
+        Ok(words) => words,
+        Err(fault) => return ExitCode::from(no_words(&fault, &mut errors)),
+    };
+    let mut writer = Noted::new(rt.stdout());
+    let status = match file_place(rt.alloc(), words.as_slice()) {
+        None => command(
             &rt,
             rt.alloc(),
             words.as_slice(),
-            errors.is_terminal(),
-            &mut rt.stdin(),
-            &mut rt.stdout(),
+            is_terminal,
+            &mut Noted::new(rt.stdin()),
+            &mut writer,
             &mut errors,
         ),
-        Err(fault) => no_words(&fault, &mut errors),
+        Some(place) => match File::open(&rt, words[place].as_str()) {
+            Ok(file) => command(
+                &rt,
+                rt.alloc(),
+                &words[..place],
+                is_terminal,
+                &mut Noted::new(file),
+                &mut writer,
+                &mut errors,
+            ),
+            Err(why) => unopened(words[place].as_str(), &why, &mut errors),
+        },
     };
     ExitCode::from(status)
 }

@@ -3,6 +3,7 @@ use crate::command::command;
 use std::alloc::Global;
 use std::sync::Wait;
 use std::thread::Threads;
+use std::time::Clock;
 
 /// Words, what standard input has, what is written, and the exit status.
 type Row = (&'static [&'static str], &'static str, &'static str, u8);
@@ -82,7 +83,7 @@ static ROWS: [Row; 8] = [
 ];
 
 /// Whether the words write this, with this exit status.
-fn writes<T: Threads + Wait + Sync>(rt: &T, alloc: Global, row: &Row) -> bool {
+fn writes<T: Threads + Wait + Sync + Clock>(rt: &T, alloc: Global, row: &Row) -> bool {
     let (words, input, want, exit) = *row;
     let mut reader = input.as_bytes();
     let mut out = Vec::new(alloc);
@@ -92,7 +93,7 @@ fn writes<T: Threads + Wait + Sync>(rt: &T, alloc: Global, row: &Row) -> bool {
 }
 
 /// The same of each row.
-fn all_write<T: Threads + Wait + Sync>(rt: &T, alloc: Global, rows: &[Row]) -> bool {
+fn all_write<T: Threads + Wait + Sync + Clock>(rt: &T, alloc: Global, rows: &[Row]) -> bool {
     let mut right = true;
     for row in rows {
         right &= writes(rt, alloc, row);

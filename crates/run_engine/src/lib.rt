@@ -9,4 +9,5 @@ mod plan;
 mod progress;
 mod text;
 
+pub use progress::Progress;
 pub use text::run_counting;

@@ -13,24 +13,68 @@ use std::thread;
 use std::thread::Threads;
 use std::time::Duration;
 
-/// How long it is from line to line, in milliseconds.
-const PAUSE: u64 = 500;
+/// How long it is to the first line, in milliseconds. From line to line it is twice as long as before, and no longer than
+/// the longest.
+const FIRST_PAUSE: u64 = 2000;
 
-/// Tells how many answers of how many were given, until the run is over.
+const LONGEST_PAUSE: u64 = 16_000;
+
+/// How it is told how far a run is.
+#[derive(Clone, Copy, Debug, PartialEq, Eq)]
+pub enum Progress {
+    Hidden,
+    /// In lines, for a file.
+    Lines,
+    /// In one line that is written anew each time, for a terminal.
+    OneLine,
+}
+
+/// How it is told how many of these answers were given.
+#[derive(Clone, Copy)]
+struct Telling {
+    progress: Progress,
+    all: u64,
+}
+
+impl Telling {
+    /// Tells that so many were given.
+    fn tell<E: Write>(self, given: u64, errors: &mut E) {
+        let all = self.all;
+        let _ = match self.progress {
+            Progress::Hidden => Ok(()),
+            Progress::Lines => writeln!(errors, "{given} of {all}"),
+            Progress::OneLine => write!(errors, "\r{given} of {all}"),
+        };
+    }
+
+    /// Ends the line that was written anew.
+    fn end<E: Write>(self, errors: &mut E) {
+        if self.progress == Progress::OneLine {
+            let _ = writeln!(errors);
+        }
+    }
+}
+
+/// Tells how far a run is, until it is over.
 fn tell<R: Wait, E: Write>(
     rt: &R,
     answered: &AtomicU64,
     over: &AtomicU64,
-    all: u64,
+    telling: Telling,
     errors: &mut E,
 ) {
+    let mut pause = FIRST_PAUSE;
     for _ in rt.forever() {
-        over.park_timeout(rt, 0, Duration::from_millis(PAUSE));
+        over.park_timeout(rt, 0, Duration::from_millis(pause));
         if over.load(Ordering::SeqCst) != 0 {
             break;
         }
         let given = answered.load(Ordering::SeqCst);
-        let _ = writeln!(errors, "{given} of {all}");
+        telling.tell(given, errors);
+        pause = pause.saturating_mul(2).min(LONGEST_PAUSE);
+    }
+    if pause > FIRST_PAUSE {
+        telling.end(errors);
     }
 }
 
@@ -57,6 +101,7 @@ pub(crate) fn watched<R: Threads + Wait + Sync, E: Write + Send>(
     rt: &R,
     alloc: Global,
     counting: &Counting,
+    progress: Progress,
     errors: &mut E,
 ) -> (ArrayString<512>, u8)
     requires { IsCounting counting.now }
@@ -64,10 +109,13 @@ pub(crate) fn watched<R: Threads + Wait + Sync, E: Write + Send>(
 {
     let answered = AtomicU64::new(0);
     let over = AtomicU64::new(0);
-    let all = counting.each.saturating_mul(counting.requesters);
+    let telling = Telling {
+        progress,
+        all: counting.each.saturating_mul(counting.requesters),
+    };
     let ((), done) = thread::join(
         rt,
-        || tell(rt, &answered, &over, all, errors),
+        || tell(rt, &answered, &over, telling, errors),
         || -> (ArrayString<512>, u8)
             requires { IsCounting counting.now }
             ensures { IsOutput counting.entry.now result.0.bytes result.1 }

@@ -11,7 +11,7 @@ ghost use Rattle.run_engine.specs.Counting.{scripts_of, config_of};
 ghost use Rattle.run_engine.specs.Text.{number_line, is_answer, answers_in, first_word, report_text, halt_text, halt_status, IsOutput, IsWhole, IsPart};
 
 use crate::plan::{plan_of, threads_of};
-use crate::progress::watched;
+use crate::progress::{Progress, watched};
 use arrayvec::ArrayString;
 use byteorder::{ByteOrder, LittleEndian};
 use history_check::Record;
@@ -142,13 +142,13 @@ pub(crate) fn output<R: Threads + Wait + Sync>(
 
 /// Runs the counting and writes what came of it: the answers, the history's length, the first word and
 /// `check ok`, or the halt. `Ok` is the exit status, 0 for a report, 3 for the halt `Turns` and 1 for any
-/// other. After an `Err` what was written is a beginning of the output. Where `shows` is true, a line on
-/// `errors` tells about twice a second how many answers of how many were given.
+/// other. After an `Err` what was written is a beginning of the output. If `progress` isn't hidden, it is told on
+/// `errors` after two seconds, and then more rarely, how many answers of how many were given.
 pub fn run_counting<R: Threads + Wait + Sync, W: Write, E: Write + Send>(
     rt: &R,
     alloc: Global,
     counting: &Counting,
-    shows: bool,
+    progress: Progress,
     writer: &mut W,
     errors: &mut E,
 ) -> Result<u8, EngineFault>
@@ -157,10 +157,9 @@ pub fn run_counting<R: Threads + Wait + Sync, W: Write, E: Write + Send>(
     ensures fault { IfErr result (λ f. f ≡ EngineFault.Write) }
     ensures part { OnErr result (IsPart counting.now (W.contents writer.old) (W.contents writer.new)) }
 {
-    let (text, status) = if shows {
-        watched(rt, alloc, counting, errors)
-    } else {
-        output(rt, alloc, counting, &AtomicU64::new(0))
+    let (text, status) = match progress {
+        Progress::Hidden => output(rt, alloc, counting, &AtomicU64::new(0)),
+        _ => watched(rt, alloc, counting, progress, errors),
     };
     write_out(writer, text.as_bytes())?;
     Ok(status)

@@ -1,6 +1,6 @@
 //! What a run writes.
 use parameters::Counting;
-use run_engine::run_counting;
+use run_engine::{Progress, run_counting};
 use std::alloc::Global;
 use std::sync::Wait;
 use std::thread::Threads;
@@ -17,7 +17,14 @@ fn counts_nothing<T: Threads + Wait + Sync>(rt: &T, alloc: Global) -> bool {
     };
     let mut out = Vec::new(alloc);
     let mut errors = Vec::new(alloc);
-    let result = run_counting(rt, alloc, &counting, false, &mut out, &mut errors);
+    let result = run_counting(
+        rt,
+        alloc,
+        &counting,
+        Progress::Hidden,
+        &mut out,
+        &mut errors,
+    );
     result == Ok(0)
         && out.as_slice() == b"answered 0\nhistory 0\nword 0\ncheck ok\n".as_slice()
         && errors.is_empty()

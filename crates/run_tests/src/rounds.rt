@@ -7,7 +7,7 @@ ghost use Rattle.hall_core.specs.Views.{IsSeatOf, AreSeatsOf};
 
 use crate::rows::{ANSWER, CREDITS, Call, IN, OUT, ROWS, Row, UP, UP_TWO};
 use dllp_core::Class;
-use fabric_core::{Config, Fabric, LaneName};
+use fabric_core::{ANSWER_ROOM, Config, Fabric, LaneName};
 use fault_plan::Plan;
 use hall_core::laws::{Place, put_back, take};
 use hall_core::{Hall, Part, ReqSeat, WorkEvent, WorkSeat};
@@ -111,7 +111,8 @@ fn works(hall: &Hall, seat: WorkSeat, holder: WorkSeat, row: &Row, count: u64) -
 fn follow(fabric: &mut Fabric, calls: &[Call]) {
     for call in calls {
         if let Call::Event(event) = call {
-            let _ = fabric.step(&worked(*event));
+            let mut room = ANSWER_ROOM;
+            let _ = fabric.step(&worked(*event).lend(), &mut room);
         }
     }
 }

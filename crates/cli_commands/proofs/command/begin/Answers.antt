@@ -1,10 +1,10 @@
-use Rattle.std.proofs.Common.{◌≡◌, ◌∙◌, List, ℕ, Option, Result, Ok, Err, IfOk, OnOk, OnErr, sym, subst, inl, inr, refl}
+use Rattle.std.proofs.Common.{◌≡◌, ◌∙◌, Bool, List, ℕ, Option, Result, Ok, Err, IfOk, OnOk, OnErr, sym, subst, inl, inr, refl}
 use Rattle.line_loop.specs.declared.fault.EngineFault.{EngineFault}
 use Rattle.parameters.specs.declared.storm.Storm.{Storm}
 use Rattle.generate_engine.specs.Script.{IsWhole as IsWholeScript, IsPart as IsPartOfScript}
 use Rattle.line_loop.specs.Run.{Run, IsRun, IsWhole, IsPart as IsPartOf}
 use Rattle.log_pieces.specs.declared.Granularity.{Granularity}
-use Rattle.search_engine.specs.Search.{IsWholeWith as IsWholeSearch, IsPartWith as IsPartOfSearch, IsSearchedWith}
+use Rattle.search_engine.specs.Search.{IsWholeFor as IsWholeSearch, IsPartFor as IsPartOfSearch, IsSearchedFor}
 use Rattle.cli_commands.specs.Command.{IsGenerated}
 use Rattle.cli_commands.proofs.command.begin.Goals as goal
 
@@ -22,15 +22,21 @@ generated s (Ok status) out out' exit ok err is whole part = inl (ok ∙ is, who
 generated s (Err fault) out out' exit ok err is whole part = inr (err, part)
 
 -- a search, whole or stopped
-searched : (size : Granularity) (limit : ℕ) (r : Result ℕ EngineFault) (input rest out out' : Option (List ℕ)) (exit : ℕ)
+searched : (core : Bool) (size : Granularity) (limit : ℕ) (r : Result ℕ EngineFault) (input rest out out' : Option (List ℕ)) (exit : ℕ)
     → IfOk r (λ status. exit ≡ status) → OnErr r (exit ≡ 1)
-    → IfOk r (IsWholeSearch size limit input rest out out') → OnErr r (IsPartOfSearch size limit input rest out out') → IsSearchedWith size limit input rest out out' exit
-searched size limit (Ok status) input rest out out' exit ok err whole part = inl (subst (λ (n : ℕ). IsWholeSearch size limit input rest out out' n) (sym ok) whole)
-searched size limit (Err fault) input rest out out' exit ok err whole part = inr (err, part)
+    → IfOk r (IsWholeSearch core size limit input rest out out') → OnErr r (IsPartOfSearch core size limit input rest out out') → IsSearchedFor core size limit input rest out out' exit
+searched core size limit (Ok status) input rest out out' exit ok err whole part = inl (subst (λ (n : ℕ). IsWholeSearch core size limit input rest out out' n) (sym ok) whole)
+searched core size limit (Err fault) input rest out out' exit ok err whole part = inr (err, part)
 
 pub returns-in-Tlp : goal.returns-in-Tlp
 returns-in-Tlp g c = record {
   begun = rw c.in-Tlp.is (run_done _ c.run_tlp_with_reasons-run.result _ _ _ _ _ c.ended.ensures.ok c.ended.ensures.err c.run_tlp_with_reasons-run.ensures.ok c.run_tlp_with_reasons-run.ensures.err);
+  right = tt;
+}
+
+pub returns-in-Endpoint : goal.returns-in-Endpoint
+returns-in-Endpoint g c = record {
+  begun = rw c.in-Endpoint.is (run_done _ c.run_endpoint_with_reasons-run.result _ _ _ _ _ c.ended-in-Endpoint.ensures.ok c.ended-in-Endpoint.ensures.err c.run_endpoint_with_reasons-run.ensures.ok c.run_endpoint_with_reasons-run.ensures.err);
   right = tt;
 }
 
@@ -42,13 +48,13 @@ returns-in-Check g c = record {
 
 pub returns-in-Search : goal.returns-in-Search
 returns-in-Search g c = record {
-  begun = rw c.in-Search.is (searched c.in-Search.granularity c.in-Search.limit c.run_search_with-run.result _ _ _ _ _ c.ended-in-Search.ensures.ok c.ended-in-Search.ensures.err c.run_search_with-run.ensures.ok c.run_search_with-run.ensures.err);
+  begun = rw c.in-Search.is (searched c.in-Search.has_core c.in-Search.granularity c.in-Search.limit c.run_search_for-run.result _ _ _ _ _ c.ended-in-Search.ensures.ok c.ended-in-Search.ensures.err c.run_search_for-run.ensures.ok c.run_search_for-run.ensures.err);
   right = tt;
 }
 
 pub returns-in-Draw : goal.returns-in-Draw
 returns-in-Draw g c = record {
-  begun = rw c.in-Draw.is (run_done _ c.run_draw.result _ _ _ _ _ c.ended-in-Draw.ensures.ok c.ended-in-Draw.ensures.err c.run_draw.ensures.ok c.run_draw.ensures.err);
+  begun = rw c.in-Draw.is (run_done _ c.run_draw_with_reasons-run.result _ _ _ _ _ c.ended-in-Draw.ensures.ok c.ended-in-Draw.ensures.err c.run_draw_with_reasons-run.ensures.ok c.run_draw_with_reasons-run.ensures.err);
   right = tt;
 }
 
@@ -60,12 +66,12 @@ returns-in-Step g c = record {
 
 pub returns-in-Chart : goal.returns-in-Chart
 returns-in-Chart g c = record {
-  begun = rw c.in-Chart.is (run_done _ c.run_chart.result _ _ _ _ _ c.ended-in-Chart.ensures.ok c.ended-in-Chart.ensures.err c.run_chart.ensures.ok c.run_chart.ensures.err);
+  begun = rw c.in-Chart.is (run_done _ c.run_chart_with_reasons-run.result _ _ _ _ _ c.ended-in-Chart.ensures.ok c.ended-in-Chart.ensures.err c.run_chart_with_reasons-run.ensures.ok c.run_chart_with_reasons-run.ensures.err);
   right = tt;
 }
 
 pub returns-in-Generate : goal.returns-in-Generate
 returns-in-Generate g c = record {
-  begun = rw c.in-Generate.is ((refl, generated c.in-Generate.storm c.run_generate.result _ _ _ c.ended-in-Generate.ensures.ok c.ended-in-Generate.ensures.err c.run_generate.ensures.status c.run_generate.ensures.ok c.run_generate.ensures.part));
+  begun = rw c.in-Generate.is ((refl, generated c.in-Generate.storm c.run_generate-run.result _ _ _ c.ended-in-Generate.ensures.ok c.ended-in-Generate.ensures.err c.run_generate-run.ensures.status c.run_generate-run.ensures.ok c.run_generate-run.ensures.part));
   right = tt;
 }

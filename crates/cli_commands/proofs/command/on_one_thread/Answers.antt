@@ -1,11 +1,11 @@
-use Rattle.std.proofs.Common.{◌≡◌, ◌≢◌, ◌⊎◌, ◌∙◌, List, ℕ, [], ◌∷◌, Option, Some, None, IfSome, map, sym, subst, inl, inr, refl}
+use Rattle.std.proofs.Common.{◌≡◌, ◌≢◌, ◌⊎◌, ◌∙◌, Bool, List, ℕ, [], ◌∷◌, Option, Some, None, IfSome, map, sym, subst, inl, inr, refl}
 use Rattle.std.proofs.lemmas.List.{append-nil}
 use Rattle.std.specs.Io.KnownBytes.{Appends, Consumes}
 use Rattle.clap.specs.Words.{HasKind, IsAmong, Kinds, Row, Text, kind_of, subcommand_of}
 use Rattle.clap.specs.declared.error.kind.ErrorKind.{ErrorKind}
 use Rattle.clap.specs.declared.error.kind.ErrorKind.TheVariants as kinds
 use Rattle.cli_words.specs.declared.words.Request.{Request}
-use Rattle.cli_words.specs.declared.words.Request.TheVariants.{Tlp, Decode, Encode, Check, Search, Draw, Upgrade, Step, Chart, Generate, Run as run_words}
+use Rattle.cli_words.specs.declared.words.Request.TheVariants.{Tlp, Endpoint, Decode, Encode, Check, Search, Draw, Upgrade, Step, Chart, Generate, Run as run_words}
 use Rattle.cli_words.specs.declared.words.RequestFault.{RequestFault}
 use Rattle.cli_words.specs.declared.words.RequestFault.TheVariants as faults
 use Rattle.cli_words.specs.Faults.{WordsFault, RangeFault, IsMemoryFault}
@@ -15,7 +15,7 @@ use Rattle.parameters.specs.declared.counting.Counting.{Counting}
 use Rattle.worker_report.specs.declared.halt.RunHalt.TheVariants as halts
 use Rattle.run_engine.specs.Text.{IsPart, halt_text}
 use Rattle.log_pieces.specs.declared.Granularity.{Granularity}
-use Rattle.search_engine.specs.Search.{IsPartWith as IsPartOfSearch}
+use Rattle.search_engine.specs.Search.{IsPartFor as IsPartOfSearch}
 use Rattle.cli_commands.specs.Command.{IsBegun, IsDone, IsRightRequest, AskForNoText, AreRefused}
 use Rattle.cli_commands.proofs.command.on_one_thread.Goals as goal
 
@@ -63,16 +63,17 @@ nothing-counted counting w = record {
 }
 
 -- nothing was read, and nothing written
-nothing-searched : (size : Granularity) (limit : ℕ) (u w : Option (List ℕ)) → IsPartOfSearch size limit u u w w
-nothing-searched size limit u w = record { read = []; consumed = consumes-nothing u; done = []; begins = inl refl; written = appends w }
+nothing-searched : (core : Bool) (size : Granularity) (limit : ℕ) (u w : Option (List ℕ)) → IsPartOfSearch core size limit u u w w
+nothing-searched core size limit u w = record { read = []; consumed = consumes-nothing u; done = []; begins = inl refl; written = appends w }
 
 -- nothing was done, and status 1 tells it
 undone : (r : Request) (input out : Option (List ℕ)) (exit : ℕ) → exit ≡ 1 → IsDone r input input out out exit
 undone (Tlp x) input out exit e = inr (e, nothing-done _ input out)
+undone (Endpoint setup is_traced) input out exit e = inr (e, nothing-done _ input out)
 undone Decode input out exit e = inr (e, nothing-done _ input out)
 undone Encode input out exit e = inr (e, nothing-done _ input out)
 undone (Check is_clocked) input out exit e = inr (e, nothing-done _ input out)
-undone (Search limit size is_told) input out exit e = inr (e, nothing-searched size limit input out)
+undone (Search limit work size has_core is_told) input out exit e = inr (e, nothing-searched has_core size limit input out)
 undone Upgrade input out exit e = inr (e, nothing-done _ input out)
 undone (Draw from to) input out exit e = inr (e, nothing-done _ input out)
 undone (Step is_traced keeps_going echoes) input out exit e = inr (e, nothing-done _ input out)

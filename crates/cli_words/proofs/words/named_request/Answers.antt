@@ -11,10 +11,11 @@ use Rattle.cli_words.proofs.words.named_request.Goals as goal
 -- the subcommand that asks for the request
 abbrev kind_of : Request → Subcommand
 kind_of (requests.Tlp x) = kinds.Tlp
+kind_of (requests.Endpoint setup is_traced) = kinds.Endpoint
 kind_of requests.Decode = kinds.Decode
 kind_of requests.Encode = kinds.Encode
 kind_of (requests.Check is_clocked) = kinds.Check
-kind_of (requests.Search limit granularity is_told) = kinds.Search
+kind_of (requests.Search limit work granularity has_core is_told) = kinds.Search
 kind_of (requests.Draw from to) = kinds.Draw
 kind_of requests.Upgrade = kinds.Upgrade
 kind_of (requests.Step is_traced keeps_going echoes) = kinds.Step
@@ -24,10 +25,11 @@ kind_of (requests.Run counting is_told) = kinds.Run
 
 named : (r : Request) → name_of r ≡ text_of (kind_of r)
 named (requests.Tlp x) = refl
+named (requests.Endpoint setup is_traced) = refl
 named requests.Decode = refl
 named requests.Encode = refl
 named (requests.Check is_clocked) = refl
-named (requests.Search limit granularity is_told) = refl
+named (requests.Search limit work granularity has_core is_told) = refl
 named (requests.Draw from to) = refl
 named requests.Upgrade = refl
 named (requests.Step is_traced keeps_going echoes) = refl

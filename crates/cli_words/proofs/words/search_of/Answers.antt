@@ -6,8 +6,18 @@ use Rattle.cli_words.proofs.words.search_of.Goals as goal
 
 pub returns-clause-ok : goal.returns-clause-ok
 returns-clause-ok c =
-    let limit = c.in_ok-limit.ensures.ok in (
+    let limit = c.in_ok-limit.ensures.ok in
+    let work = c.in_ok-work.ensures.ok in (
       refl,
-      record { limit_read = limit.0; least = limit.1.least; most = limit.1.most; granularity_read = c.in_ok-granularity.ensures.ok },
-      subst (λ (t : Option Text). WritesFlag t c.is_set.result) (c.get_str.ensures ∙ first_value-rows (found_of c.args.search.now) (codes "progress")) c.is_set.ensures,
+      record {
+        limit_read = limit.0;
+        least = limit.1.least;
+        most = limit.1.most;
+        work_read = work.0;
+        some_work = work.1.least;
+        most_work = work.1.most;
+        granularity_read = c.in_ok-granularity.ensures.ok;
+      },
+      subst (λ (t : Option Text). WritesFlag t c.is_set.result) (c.get_str.ensures ∙ first_value-rows (found_of c.args.search.now) (codes "core")) c.is_set.ensures,
+      subst (λ (t : Option Text). WritesFlag t c.is_set-2.result) (c.get_str-2.ensures ∙ first_value-rows (found_of c.args.search.now) (codes "progress")) c.is_set-2.ensures,
     )

@@ -12,14 +12,14 @@ ran : (c : Counting) (r : Result ℕ EngineFault) (out out' : Option (List ℕ))
 ran c (Ok status) out out' exit ok err whole part = inl (subst (λ (n : ℕ). IsWhole c out out' n) (sym ok) whole)
 ran c (Err fault) out out' exit ok err whole part = inr (err, part)
 
-pub returns-after-is_told : goal.returns-after-is_told
-returns-after-is_told g c =
+pub returns-in-Run : goal.returns-in-Run
+returns-in-Run g c =
     let input = g.R.Read.remaining c.args.reader.now in
     let rest = g.R.Read.remaining c.on_one_thread.new.reader in
     let out = g.W.Write.contents c.args.writer.now in
-    let after = g.W.Write.contents c.run_counting.new.writer in
+    let after = g.W.Write.contents c.run_counting-run.new.writer in
     let done : IsRan c.in-Run.counting (g.W.Write.contents c.on_one_thread.new.writer) after c.ended.result =
-    ran c.in-Run.counting c.run_counting.result _ after c.ended.result c.ended.ensures.ok c.ended.ensures.err c.run_counting.ensures.ok c.run_counting.ensures.part in record {
+    ran c.in-Run.counting c.run_counting-run.result _ after c.ended.result c.ended.ensures.ok c.ended.ensures.err c.run_counting-run.ensures.ok c.run_counting-run.ensures.part in record {
       run = λ request takes asks.
           let begun = c.in-Run.ensures.run request takes asks in
           subst (λ (r : Request). IsDone r input rest out after c.ended.result) (sym begun.0) (begun.1, subst (λ (o : Option (List ℕ)). IsRan c.in-Run.counting o after c.ended.result) begun.2 done);

@@ -1,0 +1,19 @@
+use Rattle.std.proofs.Common.{◌≡◌, ◌∙◌, ◌++◌, ◌∷◌, [], ap, refl}
+use Rattle.endpoint_core.specs.declared.endpoint.Handled.{Handled}
+use Rattle.endpoint_core.specs.Steps.{handled}
+use Rattle.endpoint_engine.specs.Texts.{handled_text}
+use Rattle.endpoint_engine.specs.Lines.{DeviceLines, taken}
+use Rattle.endpoint_engine.proofs.lines.Lines.take.Goals as goal
+
+pub returns-clause-ok : goal.returns-clause-ok
+returns-clause-ok c =
+    let tlp = c.args.tlp.now in
+    let before : DeviceLines = record { endpoint = c.self.inside.endpoint; log = c.self.inside.log } in
+    let after : DeviceLines = record { endpoint = c.take.new.self; log = c.record_coming.new.log } in
+    let same : after ≡ taken before tlp = λ j. record { endpoint = c.in_ok-handled.ensures.ok j; log = c.in_ok-record_coming.ensures j } in
+    let is : c.in_ok-handled.handled ≡ handled c.args.self.now.endpoint tlp = c.in_ok-handled.ensures.answer ∙ ap (λ (u : DeviceLines). handled u.endpoint tlp) c.self.view_is in
+    record {
+      state = same ∙ ap (λ (u : DeviceLines). taken u tlp) c.self.view_is;
+      text = c.in_ok-put_handled.ensures.ok ∙ ap (λ (h : Handled). c.args.out.now.items ++ (handled_text h ++ 10 ∷ [])) is;
+      is_fault = refl;
+    }

@@ -1,0 +1,13 @@
+//! The engine of `endpoint`: TLPs in, and what becomes of them; completions out, when they are asked for.
+//!
+//! Each line has one answer, which is written before more is read: `tlp` and the bytes of a TLP that comes, `next` for the
+//! next completion, `reset`, and `trace` for what the memory did. Any other line is a fault, which changes nothing.
+#![tactic(auto)]
+
+mod lines;
+mod options;
+mod reasons;
+mod texts;
+
+pub use lines::{run_endpoint, run_endpoint_with_reasons};
+pub use options::EndpointOptions;

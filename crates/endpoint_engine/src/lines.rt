@@ -1,0 +1,329 @@
+//! The subcommand `endpoint`: TLPs of a root complex, line by line.
+ghost use Rattle.std.specs.Prelude.{◌≡◌, ◌≤◌, ◌++◌, codes, length, if◌then◌else◌, Some, None, Ok, option_map, option_and_then, IfOk, IfErr, OnOk, OnErr};
+ghost use Rattle.hex.specs.Hex.{decode_of};
+ghost use Rattle.hex_text.specs.Line.{digits_of};
+ghost use Rattle.endpoint_packets.specs.Classes.{becomes};
+ghost use Rattle.endpoint_log.specs.Steps as log_steps;
+ghost use Rattle.line_loop.specs.Run.{IsAnswer, IsCaughtUp, IsWhole, IsPart};
+ghost use Rattle.endpoint_engine.specs.Lines as spec;
+
+use crate::options::EndpointOptions;
+use crate::reasons::reason_of;
+use crate::texts::{put_completion, put_handled};
+use diagnostics::tell_long_line;
+use endpoint_core::{Endpoint, Room};
+use endpoint_log::Log;
+use hex_text::{HexLine, HexText};
+use line_loop::{EngineFault, Responder, Verdict, run};
+use std::alloc::{AllocError, Global};
+use std::io::{Read, Write, sink};
+use std::marker::Model;
+use text_lines::is_skipped;
+use tlp_core::TlpRef;
+use trace_engine::tell_trace;
+
+/// A device whose TLPs come line by line.
+#[derive(Drop)]
+struct Lines {
+    alloc: Global,
+    endpoint: Endpoint,
+    log: Option<Log>,
+    rooms: Rooms,
+}
+
+/// Room for lines, for TLPs that are read, and for completions. What they hold counts for nothing.
+#[derive(Drop)]
+struct Rooms {
+    device: Room,
+    record: endpoint_packets::Room,
+    text: HexText,
+}
+
+impl Model for Lines {
+    ghost use Rattle.endpoint_engine.specs.Lines.{DeviceLines};
+
+    ghost Value = { DeviceLines };
+
+    ghost view = { λ l. record { endpoint = l.endpoint; log = l.log } };
+}
+
+/// Adds the line of a fault.
+fn no_line(out: &mut Vec<u8>) -> Result<Verdict, AllocError>
+    ensures ok { IfOk result (λ verdict. (verdict ≡ Verdict.Fault) × (out.new.items ≡ out.old.items ++ codes "fault Line\n")) }
+    ensures err { OnErr result (out.new.items ≡ out.old.items) }
+{
+    out.extend_from_slice(b"fault Line\n")?;
+    Ok(Verdict::Fault)
+}
+
+/// What is recorded of a new device.
+fn new_log(alloc: Global, options: EndpointOptions) -> Option<Log>
+    ensures { result ≡ (if options.is_traced then Some (log_steps.new_log options.setup) else None) }
+{
+    if options.is_traced {
+        Some(Log::new(alloc, options.setup))
+    } else {
+        None
+    }
+}
+
+/// Records that a TLP of these bytes comes to the device, if it is traced.
+fn record_coming(
+    log: &mut Option<Log>,
+    endpoint: &Endpoint,
+    tlp: &[u8],
+    room: &mut endpoint_packets::Room,
+) -> Result<(), AllocError>
+    ensures { OnOk result (log.new ≡ option_map (log_steps.came endpoint.now.device (becomes tlp.now)) log.old) }
+{
+    match log {
+        Some(log) => log.come(endpoint, tlp, room),
+        None => Ok(()),
+    }
+}
+
+/// Records that the oldest request of the device acts, if it is traced. The number of its block request, if it is recorded.
+fn record_acting(log: &mut Option<Log>, endpoint: &Endpoint) -> Result<Option<u32>, AllocError>
+    ensures number { IfOk result (λ k. k ≡ option_and_then (log_steps.number_entered endpoint.now) log.old) }
+    ensures log { OnOk result (log.new ≡ option_map (log_steps.entered endpoint.now) log.old) }
+{
+    match log {
+        Some(log) => log.act(endpoint),
+        None => Ok(None),
+    }
+}
+
+/// Records the answer of the block request with that number, if it is recorded.
+fn record_answer(
+    log: &mut Option<Log>,
+    number: Option<u32>,
+    completion: &Option<TlpRef<'_>>,
+) -> Result<(), AllocError>
+    ensures { OnOk result (log.new ≡ option_map (λ l. log_steps.answered_by l number completion.now) log.old) }
+{
+    let Some(log) = log else {
+        return Ok(());
+    };
+    match (number, completion) {
+        (Some(number), Some(completion)) => log.answer(number, completion),
+        _ => Ok(()),
+    }
+}
+
+impl Lines {
+    /// A new device, before its first line.
+    fn new(alloc: Global, options: EndpointOptions) -> Result<Lines, AllocError>
+        ensures { IfOk result (λ l. l ≡ spec.new_device options.setup options.is_traced) }
+    {
+        Ok(Lines {
+            alloc,
+            endpoint: Endpoint::new(alloc, options.setup)?,
+            log: new_log(alloc, options),
+            rooms: Rooms {
+                device: Room::new(),
+                record: endpoint_packets::Room::new(),
+                text: HexText::new(),
+            },
+        })
+    }
+
+    /// A TLP of these bytes comes.
+    fn take(&mut self, tlp: &[u8], out: &mut Vec<u8>) -> Result<Verdict, AllocError>
+        ensures ok { IfOk result (λ verdict. IsAnswer self.new out.old.items out.new.items verdict (spec.answer_tlp self.old (Ok tlp.now))) }
+        ensures err { OnErr result (out.new.items ≡ out.old.items) }
+    {
+        record_coming(&mut self.log, &self.endpoint, tlp, &mut self.rooms.record)?;
+        let handled = self.endpoint.take(tlp, &mut self.rooms.device)?;
+        put_handled(handled, out)?;
+        Ok(Verdict::Fine)
+    }
+
+    /// The oldest request acts, and its completion is written.
+    #[tactic(auto, using(crate::proofs::Logging::acted_log))]
+    fn next(&mut self, out: &mut Vec<u8>) -> Result<Verdict, AllocError>
+        ensures ok { IfOk result (λ verdict. IsAnswer self.new out.old.items out.new.items verdict (spec.answer_next self.old)) }
+        ensures err { OnErr result (out.new.items ≡ out.old.items) }
+    {
+        let number = record_acting(&mut self.log, &self.endpoint)?;
+        let completion = self.endpoint.act(&mut self.rooms.device);
+        record_answer(&mut self.log, number, &completion)?;
+        put_completion(&completion, &mut self.rooms.text, out)?;
+        Ok(Verdict::Fine)
+    }
+
+    /// The device is reset.
+    fn reset(&mut self, out: &mut Vec<u8>) -> Result<Verdict, AllocError>
+        ensures ok { IfOk result (λ verdict. IsAnswer self.new out.old.items out.new.items verdict (spec.answer_reset self.old)) }
+        ensures err { OnErr result (out.new.items ≡ out.old.items) }
+    {
+        out.extend_from_slice(b"reset\n")?;
+        self.endpoint.reset();
+        if let Some(log) = &mut self.log {
+            log.reset();
+        }
+        Ok(Verdict::Fine)
+    }
+
+    /// Adds what was recorded, if the device is traced.
+    fn trace(&mut self, out: &mut Vec<u8>) -> Result<Verdict, AllocError>
+        ensures ok { IfOk result (λ verdict. IsAnswer self.new out.old.items out.new.items verdict (spec.answer_trace self.old self.old.log)) }
+        ensures err { OnErr result (out.new.items ≡ out.old.items) }
+    {
+        let Some(log) = &self.log else {
+            return no_line(out);
+        };
+        let (trace, history) = log.to_owned(self.alloc)?;
+        tell_trace(self.alloc, &trace, history.as_slice(), out)
+    }
+
+    /// Answers a line that is no TLP.
+    fn answer_word(&mut self, line: &[u8], out: &mut Vec<u8>) -> Result<Verdict, AllocError>
+        ensures ok { IfOk result (λ verdict. IsAnswer self.new out.old.items out.new.items verdict (spec.answer_word self.old line.now)) }
+        ensures err { OnErr result (out.new.items ≡ out.old.items) }
+    {
+        if line == b"next".as_slice() {
+            self.next(out)
+        } else if line == b"reset".as_slice() {
+            self.reset(out)
+        } else if line == b"trace".as_slice() {
+            self.trace(out)
+        } else {
+            no_line(out)
+        }
+    }
+}
+
+/// A device that is asked line by line, with the bytes of the last TLP.
+#[derive(Drop)]
+struct Asked {
+    lines: Lines,
+    line: HexLine,
+}
+
+impl Model for Asked {
+    ghost use Rattle.endpoint_engine.specs.Lines.{DeviceLines};
+
+    ghost Value = { DeviceLines };
+
+    ghost view = { λ a. a.lines };
+}
+
+impl Asked {
+    /// A new device, before its first line.
+    fn new(alloc: Global, options: EndpointOptions) -> Result<Asked, AllocError>
+        ensures { IfOk result (λ a. a ≡ spec.new_device options.setup options.is_traced) }
+    {
+        Ok(Asked {
+            lines: Lines::new(alloc, options)?,
+            line: HexLine::new(),
+        })
+    }
+
+    /// A TLP of these digits comes.
+    #[tactic(auto, using(crate::proofs::Reading::unread))]
+    fn take(&mut self, digits: &[u8], out: &mut Vec<u8>) -> Result<Verdict, AllocError>
+        requires { length digits.now ≤ 512 }
+        ensures ok { IfOk result (λ verdict. IsAnswer self.new out.old.items out.new.items verdict (spec.answer_tlp self.old (decode_of (digits_of digits.now)))) }
+        ensures err { OnErr result (out.new.items ≡ out.old.items) }
+    {
+        if !self.line.read(digits) {
+            return no_line(out);
+        }
+        self.lines.take(self.line.bytes(), out)
+    }
+
+    /// Answers a line.
+    fn answer(&mut self, line: &[u8], out: &mut Vec<u8>) -> Result<Verdict, AllocError>
+        requires { length line.now ≤ 512 }
+        ensures ok { IfOk result (λ verdict. IsAnswer self.new out.old.items out.new.items verdict (spec.answer_line self.old line.now)) }
+        ensures err { OnErr result (out.new.items ≡ out.old.items) }
+    {
+        if is_skipped(line) {
+            return Ok(Verdict::Fine);
+        }
+        match line.strip_prefix(b"tlp ") {
+            Some(digits) => self.take(digits, out),
+            None => self.lines.answer_word(line, out),
+        }
+    }
+}
+
+/// A device that is asked line by line, and the stream on which reasons are told.
+#[derive(Drop)]
+struct Explained<E> {
+    device: Asked,
+    /// How many lines were answered.
+    count: u64,
+    errors: E,
+}
+
+impl<E> Model for Explained<E> {
+    ghost use Rattle.endpoint_engine.specs.Lines.{DeviceLines};
+
+    ghost Value = { DeviceLines };
+
+    ghost view = { λ e. e.device };
+}
+
+impl<E: Write + Drop> Responder for Explained<E> {
+    ghost use Rattle.endpoint_engine.specs.Lines.{endpoint_responses};
+
+    ghost responses = { endpoint_responses };
+
+    fn on_line(&mut self, line: &[u8], out: &mut Vec<u8>) -> Result<Verdict, AllocError> {
+        self.count = self.count.saturating_add(1);
+        let verdict = self.device.answer(line, out)?;
+        if verdict.is_fault() {
+            let _ = reason_of(line).tell_at(self.count, &mut self.errors);
+        }
+        Ok(verdict)
+    }
+
+    fn on_long_line(&mut self, out: &mut Vec<u8>) -> Result<Verdict, AllocError> {
+        self.count = self.count.saturating_add(1);
+        let verdict = no_line(out)?;
+        let _ = tell_long_line(Some(self.count), &mut self.errors);
+        Ok(verdict)
+    }
+
+    fn on_end(&mut self, _out: &mut Vec<u8>) -> Result<Verdict, AllocError> {
+        Ok(Verdict::Fine)
+    }
+}
+
+/// Does what [`run_endpoint`] does, and tells on `errors` why it answers faults, a line each.
+pub fn run_endpoint_with_reasons<R: Read, W: Write, E: Write>(
+    alloc: Global,
+    options: EndpointOptions,
+    reader: &mut R,
+    writer: &mut W,
+    errors: &mut E,
+) -> Result<u8, EngineFault>
+    ensures ok { IfOk result (IsWhole (spec.out_endpoint options.setup options.is_traced) (R.remaining reader.old) (R.remaining reader.new) (W.contents writer.old) (W.contents writer.new)) }
+    ensures err { OnErr result (IsPart (spec.out_endpoint options.setup options.is_traced) (R.remaining reader.old) (R.remaining reader.new) (W.contents writer.old) (W.contents writer.new)) }
+    ensures read { IfErr result (λ f. f ≡ EngineFault.Read → IsCaughtUp spec.endpoint_responses (spec.new_device options.setup options.is_traced) (R.remaining reader.old) (R.remaining reader.new) (W.contents writer.old) (W.contents writer.new)) }
+{
+    let device = Asked::new(alloc, options)?;
+    let explained = Explained {
+        device,
+        count: 0,
+        errors,
+    };
+    run(alloc, explained, reader, writer)
+}
+
+/// Answers each line of the reader's input with one line, but `trace` with a trace: TLPs that come to a memory device, and
+/// its completions. `Ok` is the exit status, 1 if a line was a fault. After an `Err` what was written is a prefix of the
+/// whole output. The memory that it takes grows only with requests that wait and what is recorded.
+pub fn run_endpoint<R: Read, W: Write>(
+    alloc: Global,
+    options: EndpointOptions,
+    reader: &mut R,
+    writer: &mut W,
+) -> Result<u8, EngineFault>
+    ensures ok { IfOk result (IsWhole (spec.out_endpoint options.setup options.is_traced) (R.remaining reader.old) (R.remaining reader.new) (W.contents writer.old) (W.contents writer.new)) }
+    ensures err { OnErr result (IsPart (spec.out_endpoint options.setup options.is_traced) (R.remaining reader.old) (R.remaining reader.new) (W.contents writer.old) (W.contents writer.new)) }
+    ensures read { IfErr result (λ f. f ≡ EngineFault.Read → IsCaughtUp spec.endpoint_responses (spec.new_device options.setup options.is_traced) (R.remaining reader.old) (R.remaining reader.new) (W.contents writer.old) (W.contents writer.new)) }
+{
+    run_endpoint_with_reasons(alloc, options, reader, writer, &mut sink())
+}

@@ -1,0 +1,10 @@
+//! What is asked of a device.
+use config_space::Setup;
+
+/// Which device is made, and whether it is traced.
+#[derive(Clone, Copy, Debug, PartialEq, Eq)]
+pub struct EndpointOptions {
+    pub setup: Setup,
+    /// Records what the memory does, for the line `trace`.
+    pub is_traced: bool,
+}
