@@ -1,0 +1,5 @@
+mod Counting
+mod Growing
+mod Alone
+mod ByTlp
+mod Settling
