@@ -1,12 +1,12 @@
 -- The verdict on the text of a trace: what is returned, and the line of `pciex check` in the caller's buffer.
-use Rattle.std.specs.Prelude.{ℕ, ⊤, Bool, true, false, nat_lt, if◌then◌else◌, List, length, Option, Some, None, Result, Ok, Err}
+use Rattle.std.specs.Prelude.{ℕ, ⊤, ◌≡◌, ◌≤◌, ◌⊎◌, Bool, true, false, nat_lt, if◌then◌else◌, List, length, Option, Some, None, Result, Ok, Err}
 use Rattle.history_check.specs.declared.flaws.FlawKind.{FlawKind}
 use Rattle.history_check.specs.Claim.{Claim}
 use Rattle.history_check.specs.Clocks.{IsClocked, KeepsRealTimeOrder}
 use Rattle.history_check.specs.Flaws.{first_flaw, first_flaw_clocked}
 use Rattle.history_check.specs.Trace.{Explains}
 use Rattle.record_text.specs.declared.fault.ReadFault.{ReadFault}
-use Rattle.trace_text.specs.TraceReaderView.{read_of}
+use Rattle.trace_text.specs.TraceReaderView.{read_of, IsRefused}
 use Rattle.record_text.specs.Names.{fault_line}
 use Rattle.flaw_places.specs.Places.{flaw_line}
 use Rattle.c_buffer.specs.declared.outcome.Failure.TheVariants.{SmallBuffer}
@@ -38,3 +38,11 @@ checked is_clocked buffer (Ok c) = judged buffer (flaw_by is_clocked c)
 
 abbrev pub verdict : Bool → List ℕ → List ℕ → Told ⊤
 verdict is_clocked text buffer = if nat_lt (length buffer) 512 then untold buffer (Err SmallBuffer) else checked is_clocked buffer (read_of text)
+
+-- memory is wanted for a record or an entry, before which the text has no fault; or to check what was read
+abbrev pub WantsMemory : List ℕ → Type 0
+WantsMemory text = ((f : ReadFault) × IsRefused text f) ⊎ ((c : Claim) × (read_of text ≡ Ok c))
+
+-- there is nothing to refuse but memory: the buffer is large enough, and memory is wanted
+abbrev pub IsCheckCall : List ℕ → List ℕ → Type 0
+IsCheckCall text buffer = (512 ≤ length buffer) × WantsMemory text

@@ -8,12 +8,13 @@ ghost use Rattle.record_text.specs.Names.{fault_line};
 ghost use Rattle.flaw_places.specs.Places.{flaw_line};
 ghost use Rattle.c_buffer.specs.declared.outcome.Failure.TheVariants.{Text, SmallBuffer, NoMemory};
 ghost use Rattle.c_buffer.specs.Buffer.{filled, is_silent};
-ghost use Rattle.c_check.specs.Verdict.{judged, verdict, flaw_by, IsOrdered, IsRight};
+ghost use Rattle.c_check.specs.Verdict.{judged, verdict, flaw_by, IsOrdered, IsRight, IsCheckCall};
 
 use arrayvec::ArrayString;
 use c_buffer::{Failure, LINE_BUFFER, tell_fault};
 use flaw_places::write_flaw;
 use history_check::{Flaw, FlawKind, check_claim, check_claim_clocked};
+use log_text::no_fault_is_out_of_memory;
 use record_text::{ReadFault, ReadFaultKind, write_fault};
 use std::alloc::Global;
 use trace_store::TraceStore;
@@ -81,8 +82,8 @@ fn judge(
 /// Whether the history of the text explains its trace, and, if `is_clocked` is set, its `n` are those of a
 /// history that grew: Ok if so. If not, or if the text is none of a trace, the line of `pciex check`, or of
 /// `pciex check --clocked`, without its line feed stands at the front of `buffer`. `SmallBuffer` for fewer
-/// than 512 bytes, which is tested first, or `NoMemory`, where nothing is known; with these, and Ok, the
-/// buffer stays as it was.
+/// than 512 bytes, which is tested first, or `NoMemory`, where nothing is known: never for a text whose
+/// first fault comes before its records and entries. With these, and Ok, the buffer stays as it was.
 pub fn check_text(
     alloc: Global,
     text: &[u8],
@@ -91,7 +92,7 @@ pub fn check_text(
 ) -> Result<(), Failure>
     ensures outcome { ¬ (result ≡ Err NoMemory) → result ≡ (verdict is_clocked text.now buffer.old).outcome }
     ensures buffer { ¬ (result ≡ Err NoMemory) → buffer.new ≡ (verdict is_clocked text.now buffer.old).buffer }
-    ensures no_memory { result ≡ Err NoMemory → 512 ≤ length buffer.old }
+    ensures no_memory { result ≡ Err NoMemory → IsCheckCall text.now buffer.old }
     ensures unchanged { IsOk result ⊎ (is_silent result ≡ true) → buffer.new ≡ buffer.old }
     ensures explained { IsOk result → (c : Claim) × (read_of text.now ≡ Ok c) × Explains c }
     ensures ordered { IsOk result → is_clocked ≡ true → (c : Claim) × (read_of text.now ≡ Ok c) × IsOrdered c }
@@ -100,6 +101,7 @@ pub fn check_text(
     if buffer.len() < LINE_BUFFER {
         return Err(Failure::SmallBuffer);
     }
+    no_fault_is_out_of_memory();
     match read_trace(alloc, text) {
         Ok(claim) => judge(alloc, &claim, is_clocked, buffer),
         Err(fault) if fault.kind == ReadFaultKind::Memory => Err(Failure::NoMemory),

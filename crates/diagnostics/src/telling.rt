@@ -64,6 +64,32 @@ fn has_line_feed(text: &[u8]) -> bool
     text.contains(&b'\n')
 }
 
+/// The words with which a text of each kind begins, and what reads it.
+static BEGINNINGS: [(&str, &str); 3] = [
+    ("fabric", "a script, which 'pciex step' reads"),
+    ("pciex-log", "a log, which 'pciex search' reads"),
+    (
+        "pciex-trace",
+        "a trace, which 'pciex check', 'draw' and 'search' read",
+    ),
+];
+
+/// What begins with this word, and what reads it, where the beginning of a text of another kind is expected.
+fn text_begun(word: &[u8], expected: Expected) -> Option<&'static str> {
+    let Expected::Of(name, values) = expected else {
+        return None;
+    };
+    if name != "the head" && name != "a fabric" {
+        return None;
+    }
+    for (beginning, text) in &BEGINNINGS {
+        if word == beginning.as_bytes() && !values.contains(*beginning) {
+            return Some(*text);
+        }
+    }
+    None
+}
+
 /// The line of a reason.
 fn line_of(number: u64, why: &[u8]) -> ArrayVec<u8, 1057>
     requires { length why.now ≤ 1024 }
@@ -98,6 +124,11 @@ impl Reason {
             reason.put_word(cut(rest).0);
         }
         reason.put_expected(misfit.expected);
+        if column == 1
+            && let Some(text) = text_begun(cut(rest).0, misfit.expected)
+        {
+            reason.put(format_args!("; so begins {text}"));
+        }
         reason
     }
 

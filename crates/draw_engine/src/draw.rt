@@ -1,8 +1,8 @@
 //! The subcommand `draw`: a picture of a history.
-ghost use Rattle.std.specs.Prelude.{◌≡◌, ◌++◌, Some, None, Ok, Err, IfOk, IfErr, OnErr, OnOk, is_some};
+ghost use Rattle.std.specs.Prelude.{◌≡◌, ◌++◌, IfOk, OnErr, OnOk, is_some};
 ghost use Rattle.history_check.specs.Flaws.{first_flaw};
 ghost use Rattle.history_picture.specs.Picture.{picture_text, line_text};
-ghost use Rattle.trace_text.specs.TraceReaderView.{nothing_read, at_end};
+ghost use Rattle.trace_text.specs.TraceReaderView.{nothing_read};
 ghost use Rattle.record_text.specs.Names.{fault_line};
 ghost use Rattle.line_loop.specs.Run.{IsWhole, IsPart, is_fault};
 ghost use Rattle.draw_engine.specs.Draw.{DrawerView, WritesDocument, flaw_of, out_draw};
@@ -14,11 +14,11 @@ use history_picture::{Window, put_line_picture, put_picture};
 use line_loop::{EngineFault, Responder, Verdict, run};
 use record_text::{ReadFault, write_fault};
 use std::alloc::{AllocError, Global};
-use std::io::{Read, Write};
+use std::io::{Read, Write, sink};
 use std::marker::Model;
-use std::mem;
+use trace_diagnostics::TraceLines;
+use trace_engine::TraceInput;
 use trace_store::TraceStore;
-use trace_text::TraceReader;
 
 /// The first flaw of the trace and its history, if there is one.
 fn flaw_in(alloc: Global, claim: &TraceStore) -> Result<Option<Flaw>, AllocError>
@@ -31,19 +31,18 @@ fn flaw_in(alloc: Global, claim: &TraceStore) -> Result<Option<Flaw>, AllocError
     }
 }
 
-/// Adds the picture of a trace and its history. The verdict tells whether there is a flaw.
+/// Adds the picture of a trace and its history, whose first flaw this is. The verdict tells whether there is one.
 fn show(
     alloc: Global,
     window: Window,
     claim: &TraceStore,
+    flaw: Option<Flaw>,
     out: &mut Vec<u8>,
 ) -> Result<Verdict, AllocError>
-    ensures text { OnOk result (out.new.items ≡ out.old.items
-        ++ picture_text window claim.now (flaw_of (first_flaw claim.now))) }
-    ensures verdict { IfOk result (λ verdict. is_fault verdict ≡ is_some (first_flaw claim.now)) }
+    ensures text { OnOk result (out.new.items ≡ out.old.items ++ picture_text window claim.now flaw) }
+    ensures verdict { IfOk result (λ verdict. is_fault verdict ≡ is_some flaw) }
     ensures err { OnErr result (out.new.items ≡ out.old.items) }
 {
-    let flaw = flaw_in(alloc, claim)?;
     let (trace, history) = claim.to_owned(alloc)?;
     put_picture(alloc, &trace, history.as_slice(), flaw, window, out)?;
     match flaw {
@@ -66,62 +65,68 @@ fn show_fault(alloc: Global, fault: ReadFault, out: &mut Vec<u8>) -> Result<Verd
 
 /// A trace that is read, and then drawn.
 #[derive(Drop)]
-struct Drawer {
-    alloc: Global,
+struct Drawer<E: Write> {
     window: Window,
-    reader: TraceReader,
+    input: TraceInput<E>,
+    lines: TraceLines,
 }
 
-impl Model for Drawer {
+impl<E: Write> Model for Drawer<E> {
     ghost use Rattle.draw_engine.specs.Draw.{DrawerView};
 
     ghost Value = { DrawerView };
 
-    ghost view = { λ d. record { window = d.window; reading = d.reader } };
+    ghost view = { λ d. record { window = d.window; reading = d.input } };
 }
 
-impl Drawer {
-    fn new(alloc: Global, window: Window) -> Drawer
+impl<E: Write + Drop> Drawer<E> {
+    fn new(alloc: Global, window: Window, errors: E) -> Drawer<E>
         ensures { result ≡ record { window = window; reading = nothing_read } }
     {
-        let reader = TraceReader::new(alloc);
         Drawer {
-            alloc,
             window,
-            reader,
+            input: TraceInput::new(alloc, errors),
+            lines: TraceLines::new(alloc),
         }
     }
 
-    /// Takes what was read: a trace and its history, or the first fault.
-    fn end(&mut self) -> Result<TraceStore, ReadFault>
-        ensures ok { IfOk result (λ t. at_end self.old.reading ≡ Ok t) }
-        ensures err { IfErr result (λ f. at_end self.old.reading ≡ Err f) }
-        ensures gone { self.new ≡ record { window = self.old.window; reading = nothing_read } }
+    /// Adds the picture of what was read, and tells the reason of its first flaw.
+    fn draw(&mut self, claim: &TraceStore, out: &mut Vec<u8>) -> Result<Verdict, AllocError>
+        ensures same { self.new ≡ self.old }
+        ensures text { OnOk result (out.new.items ≡ out.old.items
+            ++ picture_text self.old.window claim.now (flaw_of (first_flaw claim.now))) }
+        ensures verdict { IfOk result (λ verdict. is_fault verdict ≡ is_some (first_flaw claim.now)) }
+        ensures err { OnErr result (out.new.items ≡ out.old.items) }
     {
-        let reader = mem::replace(&mut self.reader, TraceReader::new(self.alloc));
-        reader.end()
+        let alloc = self.input.alloc();
+        let flaw = flaw_in(alloc, claim)?;
+        if let Some(flaw) = flaw {
+            self.input.tell_flaw(claim, flaw, &self.lines);
+        }
+        show(alloc, self.window, claim, flaw, out)
     }
 }
 
-impl Responder for Drawer {
+impl<E: Write + Drop> Responder for Drawer<E> {
     ghost use Rattle.draw_engine.specs.Draw.{draw_responses};
 
     ghost responses = { draw_responses };
 
     fn on_line(&mut self, line: &[u8], _out: &mut Vec<u8>) -> Result<Verdict, AllocError> {
-        self.reader.line(line)?;
+        self.lines.note(line)?;
+        self.input.line(line)?;
         Ok(Verdict::Fine)
     }
 
     fn on_long_line(&mut self, _out: &mut Vec<u8>) -> Result<Verdict, AllocError> {
-        self.reader.long_line();
+        self.input.long_line();
         Ok(Verdict::Fine)
     }
 
     fn on_end(&mut self, out: &mut Vec<u8>) -> Result<Verdict, AllocError> {
-        match self.end() {
-            Ok(claim) => show(self.alloc, self.window, &claim, out),
-            Err(fault) => show_fault(self.alloc, fault, out),
+        match self.input.end() {
+            Ok(claim) => self.draw(&claim, out),
+            Err(fault) => show_fault(self.input.alloc(), fault, out),
         }
     }
 }
@@ -129,7 +134,28 @@ impl Responder for Drawer {
 /// Reads the text of a trace and writes a picture of its history in SVG: the points of the window,
 /// and the first flaw that `check` finds, or `ok`. Where the text can't be read, the picture has the
 /// line of the fault. `Ok` is the exit status, 0 for `ok` and else 1. After an `Err` what was written
-/// is a beginning of the whole output.
+/// is a beginning of the whole output. The reason of a flaw or a fault is told on `errors`, in a line; a stream that
+/// fails there changes nothing.
+pub fn run_draw_with_reasons<R: Read, W: Write, E: Write>(
+    alloc: Global,
+    window: Window,
+    reader: &mut R,
+    writer: &mut W,
+    errors: &mut E,
+) -> Result<u8, EngineFault>
+    ensures ok { IfOk result (IsWhole (out_draw window) (R.remaining reader.old) (R.remaining reader.new) (W.contents writer.old) (W.contents writer.new)) }
+    ensures err { OnErr result (IsPart (out_draw window) (R.remaining reader.old) (R.remaining reader.new) (W.contents writer.old) (W.contents writer.new)) }
+
+    // Whatever the input is, what is written is a well-formed document of XML.
+    ensures document { OnOk result (WritesDocument (W.contents writer.old) (W.contents writer.new)) }
+{
+    let drawer = Drawer::new(alloc, window, errors);
+    let status = run(alloc, drawer, reader, writer)?;
+    pictures_are_well_formed();
+    Ok(status)
+}
+
+/// Does what [`run_draw_with_reasons`] does, and tells no reason.
 pub fn run_draw<R: Read, W: Write>(
     alloc: Global,
     window: Window,
@@ -138,12 +164,7 @@ pub fn run_draw<R: Read, W: Write>(
 ) -> Result<u8, EngineFault>
     ensures ok { IfOk result (IsWhole (out_draw window) (R.remaining reader.old) (R.remaining reader.new) (W.contents writer.old) (W.contents writer.new)) }
     ensures err { OnErr result (IsPart (out_draw window) (R.remaining reader.old) (R.remaining reader.new) (W.contents writer.old) (W.contents writer.new)) }
-
-    // Whatever the input is, what is written is a well-formed document of XML.
     ensures document { OnOk result (WritesDocument (W.contents writer.old) (W.contents writer.new)) }
 {
-    let drawer = Drawer::new(alloc, window);
-    let status = run(alloc, drawer, reader, writer)?;
-    pictures_are_well_formed();
-    Ok(status)
+    run_draw_with_reasons(alloc, window, reader, writer, &mut sink())
 }

@@ -13,7 +13,7 @@ use Rattle.history_check.specs.declared.Record.{Record}
 use Rattle.history_check.specs.declared.Record.TheVariants as records
 use Rattle.history_check.specs.Trace.{submissions, submission, IsNumbered, Explains}
 use Rattle.log_runs.specs.Explainable.{without_n}
-use Rattle.log_pieces.specs.Pieces.{parts}
+use Rattle.op_pieces.specs.Pieces.{parts}
 use Rattle.log_pieces.specs.InPieces.{width, numbered, subs, answers, answers_by, next_number, split, split_all}
 use Rattle.log_pieces.proofs.Chunks.{take_get}
 use Rattle.log_pieces.proofs.Shapes.{first, width_is, numbered_at, first_stays}

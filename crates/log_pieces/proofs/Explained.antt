@@ -20,7 +20,7 @@ use Rattle.history_check.specs.Claim.{Claim}
 use Rattle.history_check.specs.Clocks.{IsClocked}
 use Rattle.history_check.specs.Flaws.{moment}
 use Rattle.history_check.specs.Trace.{submissions, submission, answers_to, is_request, stands, IsNumbered, IsLawful, IsLegal, IsLinear, Explains}
-use Rattle.log_pieces.specs.Pieces.{parts}
+use Rattle.op_pieces.specs.Pieces.{parts}
 use Rattle.log_pieces.specs.InPieces.{width, numbered, subs, answers, answers_by}
 use Rattle.log_pieces.proofs.Chunks.{get_add, concat, start, placed, start_rises, start_next, one_place, start_below, take_placed, take_map, get_map, In, found, take_get, get_take, any_from, any_is, none_from, apart, get_left}
 use Rattle.log_pieces.proofs.Shapes.{acts, acts_get, get_acts, length_acts, subs_get, get_subs, length_subs, answers_get, first, numbered_at, same_subs, other_subs, no_subs, take_subs}

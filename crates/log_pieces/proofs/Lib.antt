@@ -1,10 +1,8 @@
 pub mod RowLemmas
 pub mod EndLemmas
 pub mod Chunks
-pub mod Effects
 pub mod Shapes
 pub mod Explained
 pub mod Alike
 pub mod PieceLemmas
-pub mod CutLemmas
 pub mod PrefixLemmas

@@ -97,7 +97,7 @@ rows_answer p rows rs i k n reply old = record {
 
 -- ---- what a record adds
 
-row_there : (p : Op → List Op) (rows : List RowView) (rs : List Record) (i : ℕ) (row d : RowView) → AreRows p rows rs → i < 256 → row ≡ get_or rows i d → row ≡ row_of p (submissions rs i)
+pub row_there : (p : Op → List Op) (rows : List RowView) (rs : List Record) (i : ℕ) (row d : RowView) → AreRows p rows rs → i < 256 → row ≡ get_or rows i d → row ≡ row_of p (submissions rs i)
 row_there p rows rs i row d known small is =
     let inside : i < length rows = omega (arith, known.len, small) in
     same_Some row (row_of p (submissions rs i)) (ap Some is ∙ sym (slice_get-get_or rows i d inside) ∙ known.at i small)
@@ -134,9 +134,13 @@ answer_records p rows rs i k n reply row d item old new known small at is grown 
 pub answer_rows : (p : Op → List Op) (rows : List RowView) (rs : List Record) (i k n : ℕ) (reply : Reply) (item : Record) → AreRows p rows rs → item ≡ records.Ans i k reply n → AreRows p rows (rs ++ item ∷ [])
 answer_rows p rows rs i k n reply item known is = subst (λ (r : Record). AreRows p rows (rs ++ r ∷ [])) (sym is) (rows_answer p rows rs i k n reply known)
 
-pub on_ok : {P Q E : Type 0} → (r : Result (Unit {0}) E) → OnOk r P → (P → Q) → OnOk r Q
+pub on_ok : {X P Q E : Type 0} → (r : Result X E) → OnOk r P → (P → Q) → OnOk r Q
 on_ok (Ok x) h f = f h
 on_ok (Err e) h f = tt
+
+pub if_ok : {X Q E : Type 0} → (r : Result X E) → Q → OnOk r Q
+if_ok (Ok x) q = q
+if_ok (Err e) q = tt
 
 pub refit : {X : Type 0} → (new items : List X) (n : ℕ) → n ≡ length new → take n (new ++ drop (length new) items) ≡ new
 refit new items n e = ap (λ k. take k (new ++ drop (length new) items)) e ∙ take_at new (drop (length new) items) (length new) refl

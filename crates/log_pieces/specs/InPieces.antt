@@ -9,7 +9,8 @@ use Rattle.history_check.specs.TraceView.{TraceView, observed}
 use Rattle.log_runs.specs.Explainable.{IsExplainable}
 use Rattle.log_pieces.specs.declared.Granularity.{Granularity}
 use Rattle.log_pieces.specs.declared.Granularity.TheVariants as sizes
-use Rattle.log_pieces.specs.Pieces.{pieces, parts}
+use Rattle.op_pieces.specs.Pieces.{parts}
+use Rattle.log_pieces.specs.Pieces.{pieces}
 
 -- how many pieces the operations have, cut by p
 abbrev pub width : (Op → List Op) → List Op → ℕ

@@ -4,7 +4,8 @@ ghost use Rattle.log_pieces.specs.InPieces.{IsExplainableIn};
 ghost use Rattle.log_pieces.specs.declared.Granularity.{Granularity};
 ghost use Rattle.log_runs.specs.Explainable.{IsExplainable};
 
-use seq_memory::laws::{only_the_place_changes, refused_and_read_change_nothing};
+use op_pieces::laws::pieces_act_as_their_request;
+use seq_memory::laws::only_the_place_changes;
 
 /// What a history of whole requests explains, a history of pieces explains too: a device whose reads and writes act as
 /// a whole is right at each granularity.
@@ -12,5 +13,5 @@ pub fn whole_requests_are_right_in_pieces()
     ensures { (size : Granularity) (t : TraceView) → IsExplainable t → IsExplainableIn size t }
 {
     only_the_place_changes();
-    refused_and_read_change_nothing();
+    pieces_act_as_their_request();
 }

@@ -8,13 +8,15 @@
 //! pieces.
 #![tactic(auto)]
 
+mod counting;
 mod cutting;
 pub mod laws;
 mod replies;
 mod rows;
 mod splitting;
 
-pub use splitting::{ends_of, in_pieces, records_of};
+pub use counting::{ends_of, records_of};
+pub use splitting::in_pieces;
 
 /// How many bytes of a read or a write act at once: naturally aligned pieces.
 #[derive(Clone, Copy, Debug, PartialEq, Eq)]

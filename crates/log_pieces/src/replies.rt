@@ -1,9 +1,20 @@
 //! A reply in parts, one for each piece of its request.
-ghost use Rattle.std.specs.Prelude.{◌≡◌, min};
-ghost use Rattle.log_pieces.specs.Pieces as spec;
+ghost use Rattle.std.specs.Prelude.{◌≡◌, ◌≤◌, length, min};
+ghost use Rattle.op_pieces.specs.Pieces as spec;
 
-use crate::cutting::payload;
+use arrayvec::ArrayVec;
 use seq_memory::Reply;
+use tlp_core::MAX_PAYLOAD;
+
+/// A payload of these bytes.
+fn payload(bytes: &[u8]) -> ArrayVec<u8, MAX_PAYLOAD>
+    requires { length bytes.now ≤ 128 }
+    ensures { result.items ≡ bytes.now }
+{
+    let mut copy = ArrayVec::new();
+    let _ = copy.try_extend_from_slice(bytes);
+    copy
+}
 
 /// The lesser of the two.
 fn within(count: usize, all: usize) -> usize

@@ -1,9 +1,9 @@
 //! A log in pieces.
-ghost use Rattle.std.specs.Prelude.{ℕ, ◌≡◌, ◌+◌, ◌<◌, ◌≤◌, ◌++◌, ◌∷◌, ◌==◌, [], List, IfOk, IfSome, IfNone, OnOk, Some, length, slice_get, take};
+ghost use Rattle.std.specs.Prelude.{◌≡◌, ◌+◌, ◌≤◌, ◌++◌, ◌∷◌, ◌==◌, [], List, IfOk, IfSome, IfNone, OnOk, length, slice_get};
 ghost use Rattle.history_check.specs.declared.Record.{Record};
 ghost use Rattle.history_check.specs.TraceView.{TraceView};
-ghost use Rattle.log_runs.specs.Explainable.{IsExplainable, prefix};
-ghost use Rattle.log_pieces.specs.Pieces.{pieces, parts};
+ghost use Rattle.op_pieces.specs.Pieces.{parts};
+ghost use Rattle.log_pieces.specs.Pieces.{pieces};
 ghost use Rattle.log_pieces.specs.InPieces as spec;
 ghost use Rattle.log_pieces.specs.InPieces.{next_number};
 ghost use Rattle.log_pieces.specs.RowView.{AreRows};
@@ -13,7 +13,6 @@ use crate::cutting::Splitter;
 use crate::replies::{back_of, front_of};
 use crate::rows::{Row, rows};
 use history_check::{Record, Trace};
-use log_runs::laws::prefix_is_explainable;
 use seq_memory::Reply;
 use std::alloc::{AllocError, Global};
 use tlp_core::{Op, copy_of};
@@ -223,7 +222,7 @@ fn cut_log(alloc: Global, bytes: u64, trace: &Trace) -> Result<Trace, AllocError
 }
 
 /// How many bytes a piece has; none of whole requests.
-fn bytes_of(granularity: Granularity) -> Option<u64>
+pub(crate) fn bytes_of(granularity: Granularity) -> Option<u64>
     ensures some { IfSome result (λ n. (4 ≤ n) × (n ≤ 64)) }
     ensures pieces { IfSome result (λ n. (t : TraceView) → spec.in_pieces granularity t ≡ spec.cut_log n t) }
     ensures whole { IfNone result (granularity ≡ Granularity.Whole) }
@@ -250,94 +249,5 @@ pub fn in_pieces(
     match bytes_of(granularity) {
         Some(bytes) => Ok(Some(cut_log(alloc, bytes, trace)?)),
         None => Ok(None),
-    }
-}
-
-/// How many records have that many pieces, or more: the least number.
-fn reach(
-    alloc: Global,
-    cut: &Splitter,
-    records: &[Record],
-    count: usize,
-) -> Result<usize, AllocError>
-    requires some { 4 ≤ cut.now.bytes }
-    requires few { cut.now.bytes ≤ 64 }
-    requires reached { count ≤ length (spec.split_all (pieces cut.now.bytes cut.now.extent) [] records.now) }
-    ensures within { IfOk result (λ n. n ≤ length records.now) }
-    ensures reaches { IfOk result (λ n. count ≤ length (spec.split_all (pieces cut.now.bytes cut.now.extent) [] (take n records.now))) }
-{
-    let mut pieces = Vec::new(alloc);
-    let mut table = rows(alloc)?;
-    for at in 0..records.len() {
-        if count <= pieces.len() {
-            return Ok(at);
-        }
-        add(alloc, &mut pieces, &mut table, cut, &records[at])?;
-    }
-    Ok(records.len())
-}
-
-/// How many pieces the records up to each one have.
-fn ends(alloc: Global, cut: &Splitter, records: &[Record]) -> Result<Vec<usize>, AllocError>
-    requires some { 4 ≤ cut.now.bytes }
-    requires few { cut.now.bytes ≤ 64 }
-    ensures len { IfOk result (λ v. length v.items ≡ length records.now) }
-    ensures each { IfOk result (λ v. (a : ℕ) → a < length records.now → slice_get v.items a ≡ Some (length (spec.split_all (pieces cut.now.bytes cut.now.extent) [] (take (a + 1) records.now)))) }
-{
-    let mut pieces = Vec::new(alloc);
-    let mut ends = Vec::new(alloc);
-    let mut table = rows(alloc)?;
-    for item in records {
-        add(alloc, &mut pieces, &mut table, cut, item)?;
-        ends.push(pieces.len())?;
-    }
-    Ok(ends)
-}
-
-/// How many records the log in pieces of that size has of the records up to each one; none of whole requests, where
-/// each record is one. Fails where [`in_pieces`] does.
-pub fn ends_of(
-    alloc: Global,
-    trace: &Trace,
-    granularity: Granularity,
-) -> Result<Option<Vec<usize>>, AllocError>
-    ensures len { IfOk result (λ o. IfSome o (λ v. length v.items ≡ length trace.now.records)) }
-    ensures each { IfOk result (λ o. IfSome o (λ v. (a : ℕ) → a < length trace.now.records → slice_get v.items a ≡ Some (length (spec.in_pieces granularity (prefix (a + 1) trace.now)).records))) }
-    ensures whole { IfOk result (λ o. IfNone o (granularity ≡ Granularity.Whole)) }
-{
-    match bytes_of(granularity) {
-        Some(bytes) => {
-            let cut = Splitter {
-                bytes,
-                extent: trace.extent,
-            };
-            Ok(Some(ends(alloc, &cut, &trace.records)?))
-        }
-        None => Ok(None),
-    }
-}
-
-/// How many of the first records have the first `count` records of the log in pieces among their own: where those have
-/// no history, these have none in pieces.
-pub fn records_of(
-    alloc: Global,
-    trace: &Trace,
-    granularity: Granularity,
-    count: usize,
-) -> Result<usize, AllocError>
-    requires { count ≤ length (spec.in_pieces granularity trace.now).records }
-    ensures within { IfOk result (λ n. n ≤ length trace.now.records) }
-    ensures unexplained { IfOk result (λ n. (IsExplainable (prefix count (spec.in_pieces granularity trace.now)) → ⊥) → spec.IsExplainableIn granularity (prefix n trace.now) → ⊥) }
-{
-    prefix_is_explainable();
-    match bytes_of(granularity) {
-        Some(bytes) => {
-            let cut = Splitter {
-                bytes,
-                extent: trace.extent,
-            };
-            reach(alloc, &cut, &trace.records, count)
-        }
-        None => Ok(count),
     }
 }

@@ -19,5 +19,5 @@ mod laws;
 mod line;
 mod reading;
 
-pub use laws::what_is_seen_can_be_told;
+pub use laws::{no_fault_is_out_of_memory, what_is_seen_can_be_told};
 pub use reading::{read_log, read_seen, read_seen_with_cause};

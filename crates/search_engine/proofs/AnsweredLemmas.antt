@@ -1,5 +1,5 @@
 -- What is answered with status 0 is found.
-use Rattle.std.proofs.Common.{◌≡◌, ℕ, List, refl, subst, arith, inl, inr, Result, Ok, Err}
+use Rattle.std.proofs.Common.{◌≡◌, ℕ, Bool, List, refl, arith, inl, inr, Result, Ok, Err}
 use Rattle.history_check.specs.TraceView.{TraceView}
 use Rattle.record_text.specs.declared.fault.ReadFault.{ReadFault}
 use Rattle.log_pieces.specs.declared.Granularity.{Granularity}
@@ -12,8 +12,10 @@ pub record Answered (size : Granularity) (r : Result TraceView ReadFault) (text 
   pub read : r ≡ Ok log
   pub found : IsFoundIn (in_pieces size log) text 0
 
-pub answered : (size : Granularity) (limit : ℕ) (r : Result TraceView ReadFault) (text : List ℕ) → IsAnswerTo size limit r text 0 → Answered size r text
-answered size limit (Ok t) text (inl found) = record { log = t; read = refl; found = found }
-answered size limit (Ok t) text (inr (inl none)) = absurd (let e = none.tells in omega (arith, e))
-answered size limit (Ok t) text (inr (inr given_up)) = absurd (omega (arith, given_up.1))
-answered size limit (Err f) text h = absurd (omega (arith, h.1))
+pub answered : (core : Bool) (size : Granularity) (limit : ℕ) (r : Result TraceView ReadFault) (text : List ℕ) → IsAnswerTo core size limit r text 0 → Answered size r text
+answered core size limit (Ok t) text (inl flawed) = absurd (let e = flawed.tells in omega (arith, e))
+answered core size limit (Ok t) text (inr (formed, inl found)) = record { log = t; read = refl; found = found }
+answered core size limit (Ok t) text (inr (formed, inr (inl none))) = absurd (let e = none.tells in omega (arith, e))
+answered core size limit (Ok t) text (inr (formed, inr (inr (inl given_up)))) = absurd (omega (arith, given_up.1))
+answered core size limit (Ok t) text (inr (formed, inr (inr (inr few)))) = absurd (let e = few.tells in omega (arith, e))
+answered core size limit (Err f) text h = absurd (omega (arith, h.1))

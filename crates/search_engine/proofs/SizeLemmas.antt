@@ -29,5 +29,6 @@ pub of_log : (size : Granularity) (t : TraceView) (f : Finding) → IsFindingOf 
     → ((u : TraceView) (count : ℕ) (pieces : Option Pieces) → f ≡ findings.None u count pieces → ⊥) → IsFindingOf size t f
 of_log size t (findings.Found trace history) h none = (subst (λ (v : TraceView). SeenAlike v trace) (whole_is (in_pieces size t)) h.0, h.1, h.2, h.3)
 of_log size t (findings.None trace count pieces) h none = absurd (none trace count pieces refl)
-of_log size t findings.Limit h none = tt
+of_log size t (findings.Limit trace far pieces) h none = tt
+of_log size t (findings.Flaw trace flaw) h none = h
 of_log size t (findings.Fault f) h none = h

@@ -1,12 +1,10 @@
 -- Lines can tell what is found, if they can tell the log.
-use Rattle.std.proofs.Common.{◌≡◌, ◌∙◌, ℕ, zero, suc, ◌<◌, ◌≤◌, ◌^◌, List, [], ◌∷◌, Some, length, map, All, refl, sym, ap, subst, arith}
+use Rattle.std.proofs.Common.{◌≡◌, ℕ, zero, suc, ◌<◌, ◌^◌, List, [], ◌∷◌, Some, map, All, refl, subst, arith}
 use Rattle.std.specs.Prelude.{slice_get}
 use Rattle.std.proofs.lemmas.List.Elements.{All-nil, All-cons, All-head, All-tail}
 use Rattle.std.proofs.lemmas.Option.{same_Some}
 use Rattle.tlp_core.specs.declared.operation.Op.{Op}
-use Rattle.seq_memory.specs.Limits.{Extent, IsWithinLimits}
-use Rattle.seq_memory.specs.declared.Entry.{Entry}
-use Rattle.seq_memory.specs.declared.Reply.{Reply}
+use Rattle.seq_memory.specs.Limits.{IsWithinLimits}
 use Rattle.history_check.specs.declared.Record.{Record}
 use Rattle.history_check.specs.declared.Record.TheVariants as records
 use Rattle.history_check.specs.TraceView.{TraceView, observed}
@@ -15,7 +13,7 @@ use Rattle.history_check.specs.Flaws.{moment}
 use Rattle.history_check.specs.Trace.{submissions, IsNumbered}
 use Rattle.operation_text.specs.Operations.{IsSpelledOp, IsSpelledReply}
 use Rattle.trace_text.specs.Tellable.{IsRequest, IsTellableRecord, IsTellableEntry, IsTellable}
-use Rattle.log_runs.specs.Explainable.{without_n, SeenAlike}
+use Rattle.log_runs.specs.Explainable.{without_n}
 use Rattle.search_engine.specs.Search.{IsFoundIn}
 
 all_at : {X : Type 0} → (P : X → Type 0) (xs : List X) (i : ℕ) (x : X) → All P xs → slice_get xs i ≡ Some x → P x

@@ -1,5 +1,5 @@
 -- What comes of a text, before it is written.
-use Rattle.std.specs.Prelude.{ℕ, ◌≡◌, ◌<◌, ◌≤◌, ◌^◌, Bool, true, false, length, Result, Ok, Err}
+use Rattle.std.specs.Prelude.{ℕ, ◌≡◌, ◌<◌, ◌≤◌, ◌^◌, Bool, true, false, List, length, Result, Ok, Err}
 use Rattle.history_check.specs.TraceView.{TraceView}
 use Rattle.history_check.specs.Claim.{claim_of}
 use Rattle.history_check.specs.Trace.{Explains}
@@ -10,8 +10,12 @@ use Rattle.record_text.specs.declared.fault.ReadFaultKind.TheVariants as faults
 use Rattle.log_runs.specs.Explainable.{SeenAlike, prefix as first}
 use Rattle.log_pieces.specs.declared.Granularity.{Granularity}
 use Rattle.log_pieces.specs.InPieces.{in_pieces, IsExplainableIn}
+use Rattle.log_events.specs.Formed.{AreFormed}
+use Rattle.search_engine.specs.Flaws.{IsFirstFlaw}
 use Rattle.search_engine.specs.declared.answering.Finding.{Finding}
 use Rattle.search_engine.specs.declared.answering.Finding.TheVariants as findings
+use Rattle.search_engine.specs.declared.answering.OutcomeText.{OutcomeText}
+use Rattle.search_engine.specs.declared.answering.OutcomeText.TheVariants as texts
 
 abbrev pub is_memory : ReadFaultKind → Bool
 is_memory faults.Memory = true
@@ -22,18 +26,35 @@ pub record AreUnexplained (size : Granularity) (t : TraceView) (count : ℕ) : T
   pub within : count ≤ length t.records
   pub unexplained : IsExplainableIn size (first count t) → ⊥
 
--- of a log that was seen
+-- of a log that was searched
 abbrev pub IsFindingOf : Granularity → TraceView → Finding → Type 0
 IsFindingOf size t (findings.Found trace history) =
     SeenAlike (in_pieces size t) trace × Explains (claim_of trace history.items) × IsClocked (claim_of trace history.items) × (length history.items < 2 ^ 64)
 IsFindingOf size t (findings.None trace prefix pieces) = AreUnexplained size t prefix
-IsFindingOf size t findings.Limit = Unit {0}
+IsFindingOf size t (findings.Limit trace far pieces) = Unit {0}
+IsFindingOf size t (findings.Flaw trace flaw) = ⊥
 IsFindingOf size t (findings.Fault f) = ⊥
+
+-- of a log that was read: its first flaw, or what comes of a search, if its form is right
+abbrev pub IsJudged : Granularity → TraceView → Finding → Type 0
+IsJudged size t (findings.Flaw trace flaw) = IsFirstFlaw t.records flaw
+IsJudged size t finding = AreFormed t.records (length t.records) × IsFindingOf size t finding
 
 -- of what was read
 abbrev pub IsFinding : Granularity → Result TraceView ReadFault → Finding → Type 0
-IsFinding size (Ok t) finding = IsFindingOf size t finding
+IsFinding size (Ok t) finding = IsJudged size t finding
 IsFinding size (Err f) (findings.Found trace history) = ⊥
 IsFinding size (Err f) (findings.None trace prefix pieces) = ⊥
-IsFinding size (Err f) findings.Limit = ⊥
+IsFinding size (Err f) (findings.Limit trace far pieces) = ⊥
+IsFinding size (Err f) (findings.Flaw trace flaw) = ⊥
 IsFinding size (Err f) (findings.Fault g) = f ≡ g.fault
+
+-- of a log that has no history
+abbrev pub IsNoneFinding : Finding → Type 0
+IsNoneFinding (findings.None trace prefix pieces) = Unit {0}
+IsNoneFinding _ = ⊥
+
+-- what is written
+abbrev pub text_of : OutcomeText → List ℕ
+text_of (texts.Line line) = line.bytes
+text_of (texts.Trace text) = text.items

@@ -1,5 +1,5 @@
 -- What `search` answers to a text.
-use Rattle.std.specs.Prelude.{ℕ, ◌≡◌, ◌+◌, ◌^◌, ◌<◌, ◌⊎◌, List, [], ◌∷◌, ◌++◌, length, codes, Option, Result, Ok, Err}
+use Rattle.std.specs.Prelude.{ℕ, ◌≡◌, ◌+◌, ◌^◌, ◌<◌, ◌≤◌, ◌⊎◌, Bool, true, false, List, [], ◌∷◌, ◌++◌, length, codes, Option, Result, Ok, Err}
 use Rattle.std.specs.Fmt.{decimal}
 use Rattle.std.specs.Io.KnownBytes.{Appends, Consumes, IsAtEnd}
 use Rattle.line_loop.specs.Run.{IsBeginning}
@@ -11,11 +11,15 @@ use Rattle.history_check.specs.Clocks.{IsClocked}
 use Rattle.record_text.specs.declared.fault.ReadFault.{ReadFault}
 use Rattle.trace_text.specs.Texts.{trace_text}
 use Rattle.record_text.specs.Names.{fault_line}
-use Rattle.log_runs.specs.Explainable.{SeenAlike, prefix}
+use Rattle.log_runs.specs.Explainable.{SeenAlike, IsExplainable, prefix}
 use Rattle.log_pieces.specs.declared.Granularity.{Granularity}
 use Rattle.log_pieces.specs.declared.Granularity.TheVariants.{Whole}
 use Rattle.log_pieces.specs.InPieces.{in_pieces, IsExplainableIn}
+use Rattle.log_events.specs.Formed.{AreFormed}
 use Rattle.log_text.specs.LogReaderView.{seen_of}
+use Rattle.log_text.specs.LogReaderView as logs
+use Rattle.trace_text.specs.TraceReaderView as traces
+use Rattle.search_engine.specs.Flaws.{IsFlawIn}
 
 abbrev pub none_line : ℕ → List ℕ
 none_line place = codes "none " ++ decimal place
@@ -42,47 +46,84 @@ pub record IsNoneIn (size : Granularity) (t : TraceView) (text : List ℕ) (stat
   pub says : text ≡ none_line place ++ 10 ∷ []
   pub tells : status ≡ 1
 
+-- the text is one of a log, or a trace, that no history explains
+pub record IsUnexplainedText (text : List ℕ) : Type 0 where
+  pub log : TraceView
+  pub reads : seen_of text ≡ Ok log
+  pub unexplained : IsExplainable log → ⊥
+
+-- where it is asked for, the text is one of a log that no history explains, in place of `none`: nor does any, with pieces of
+-- that size, the first records of what was read
+pub record IsCoreIn (core : Bool) (size : Granularity) (t : TraceView) (text : List ℕ) (status : ℕ) : Type 0 where
+  pub asked : core ≡ true
+  pub count : ℕ
+  pub within : count ≤ length t.records
+  pub unexplained : IsExplainableIn size (prefix count t) → ⊥
+  pub says : IsUnexplainedText text
+  pub tells : status ≡ 1
+
 -- the text is `limit` and the limit: nothing is known
 abbrev pub IsLimit : ℕ → List ℕ → ℕ → Type 0
 IsLimit limit text status = (text ≡ limit_line limit ++ 10 ∷ []) × (status ≡ 3)
 
--- an answer to what was read, and its exit status; what is found is a history of the log in pieces of that size
-abbrev pub IsAnswerTo : Granularity → ℕ → Result TraceView ReadFault → List ℕ → ℕ → Type 0
-IsAnswerTo size limit (Ok t) text status = IsFoundIn (in_pieces size t) text status ⊎ IsNoneIn size t text status ⊎ IsLimit limit text status
-IsAnswerTo size limit (Err f) text status = (text ≡ fault_line f ++ 10 ∷ []) × (status ≡ 1)
+-- what a search says of a log, and the exit status; what is found is a history of the log in pieces of that size. `core` says
+-- whether a log of few answers is asked for
+abbrev pub IsJudgmentOf : Bool → Granularity → ℕ → TraceView → List ℕ → ℕ → Type 0
+IsJudgmentOf core size limit t text status =
+    IsFoundIn (in_pieces size t) text status ⊎ IsNoneIn size t text status ⊎ IsLimit limit text status ⊎ IsCoreIn core size t text status
+
+-- an answer to what was read, and its exit status: the first flaw of a log whose form is wrong, and what a search says of
+-- any other
+abbrev pub IsAnswerTo : Bool → Granularity → ℕ → Result TraceView ReadFault → List ℕ → ℕ → Type 0
+IsAnswerTo core size limit (Ok t) text status =
+    IsFlawIn t text status ⊎ (AreFormed t.records (length t.records) × IsJudgmentOf core size limit t text status)
+IsAnswerTo core size limit (Err f) text status = (text ≡ fault_line f ++ 10 ∷ []) × (status ≡ 1)
 
 -- the answer to a text, and its exit status; a text may have many
-abbrev pub OutSearchWith : Granularity → ℕ → List ℕ → List ℕ → ℕ → Type 0
-OutSearchWith size limit input text status = IsAnswerTo size limit (seen_of input) text status
+abbrev pub OutSearchFor : Bool → Granularity → ℕ → List ℕ → List ℕ → ℕ → Type 0
+OutSearchFor core size limit input text status = IsAnswerTo core size limit (seen_of input) text status
 
 -- the input was read to its end, and an answer to it was written
-pub record IsWholeWith (size : Granularity) (limit : ℕ) (input rest out out' : Option (List ℕ)) (status : ℕ) : Type 0 where
+pub record IsWholeFor (core : Bool) (size : Granularity) (limit : ℕ) (input rest out out' : Option (List ℕ)) (status : ℕ) : Type 0 where
   pub read : List ℕ
   pub consumed : Consumes input rest read
   pub at_end : IsAtEnd rest
   pub text : List ℕ
-  pub answers : OutSearchWith size limit read text status
+  pub answers : OutSearchFor core size limit read text status
   pub written : Appends out out' text
 
 -- a first part of an answer to the whole input
-pub record BeginsAnswerWith (size : Granularity) (limit : ℕ) (read : List ℕ) (rest : Option (List ℕ)) (done : List ℕ) : Type 0 where
+pub record BeginsAnswerFor (core : Bool) (size : Granularity) (limit : ℕ) (read : List ℕ) (rest : Option (List ℕ)) (done : List ℕ) : Type 0 where
   pub at_end : IsAtEnd rest
   pub text : List ℕ
   pub status : ℕ
-  pub answers : OutSearchWith size limit read text status
+  pub answers : OutSearchFor core size limit read text status
   pub begins : IsBeginning done text
 
 -- nothing was written, or a first part of an answer to the whole input
-pub record IsPartWith (size : Granularity) (limit : ℕ) (input rest out out' : Option (List ℕ)) : Type 0 where
+pub record IsPartFor (core : Bool) (size : Granularity) (limit : ℕ) (input rest out out' : Option (List ℕ)) : Type 0 where
   pub read : List ℕ
   pub consumed : Consumes input rest read
   pub done : List ℕ
-  pub begins : (done ≡ []) ⊎ BeginsAnswerWith size limit read rest done
+  pub begins : (done ≡ []) ⊎ BeginsAnswerFor core size limit read rest done
   pub written : Appends out out' done
 
 -- the answer was written, with its exit status; or part of one, with status 1
+abbrev pub IsSearchedFor : Bool → Granularity → ℕ → Option (List ℕ) → Option (List ℕ) → Option (List ℕ) → Option (List ℕ) → ℕ → Type 0
+IsSearchedFor core size limit input rest out out' status = IsWholeFor core size limit input rest out out' status ⊎ ((status ≡ 1) × IsPartFor core size limit input rest out out')
+
+-- the same where no log of few answers is asked for
+abbrev pub OutSearchWith : Granularity → ℕ → List ℕ → List ℕ → ℕ → Type 0
+OutSearchWith size limit = OutSearchFor false size limit
+
+abbrev pub IsWholeWith : Granularity → ℕ → Option (List ℕ) → Option (List ℕ) → Option (List ℕ) → Option (List ℕ) → ℕ → Type 0
+IsWholeWith size limit = IsWholeFor false size limit
+
+abbrev pub IsPartWith : Granularity → ℕ → Option (List ℕ) → Option (List ℕ) → Option (List ℕ) → Option (List ℕ) → Type 0
+IsPartWith size limit = IsPartFor false size limit
+
 abbrev pub IsSearchedWith : Granularity → ℕ → Option (List ℕ) → Option (List ℕ) → Option (List ℕ) → Option (List ℕ) → ℕ → Type 0
-IsSearchedWith size limit input rest out out' status = IsWholeWith size limit input rest out out' status ⊎ ((status ≡ 1) × IsPartWith size limit input rest out out')
+IsSearchedWith size limit = IsSearchedFor false size limit
 
 -- the same of requests that act as a whole
 abbrev pub OutSearch : ℕ → List ℕ → List ℕ → ℕ → Type 0
@@ -96,3 +137,8 @@ IsPart limit = IsPartWith Whole limit
 
 abbrev pub IsSearched : ℕ → Option (List ℕ) → Option (List ℕ) → Option (List ℕ) → Option (List ℕ) → ℕ → Type 0
 IsSearched limit = IsSearchedWith Whole limit
+
+-- memory is wanted for a record or an entry, before which the text has no fault; or to search for a history of what was
+-- read
+abbrev pub WantsMemory : List ℕ → Type 0
+WantsMemory text = ((f : ReadFault) × (logs.IsRefused text f ⊎ traces.IsRefused text f)) ⊎ ((t : TraceView) × (seen_of text ≡ Ok t))

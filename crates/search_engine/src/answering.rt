@@ -1,25 +1,29 @@
 //! What is answered to a text.
-ghost use Rattle.std.specs.Prelude.{◌≡◌, IfOk, Result};
+ghost use Rattle.std.specs.Prelude.{◌≡◌, false, IfOk, OnErr, None, Result, Ok};
 ghost use Rattle.log_pieces.specs.declared.Granularity.{Granularity};
 ghost use Rattle.history_check.specs.Claim.{claim_of};
 ghost use Rattle.history_check.specs.TraceView.{TraceView};
 ghost use Rattle.record_text.specs.declared.fault.ReadFault.{ReadFault};
 ghost use Rattle.trace_text.specs.Texts.{trace_text};
 ghost use Rattle.log_text.specs.LogReaderView.{seen_of};
-ghost use Rattle.search_engine.specs.Findings.{is_memory, IsFinding, IsFindingOf};
-ghost use Rattle.search_engine.specs.Search.{IsAnswerTo, OutSearch};
+ghost use Rattle.search_engine.specs.Findings.{is_memory, text_of, IsFinding, IsFindingOf};
+ghost use Rattle.search_engine.specs.Search.{IsAnswerTo, OutSearch, OutSearchWith, WantsMemory};
 
-use crate::granularity::{Pieces, sought_in};
-use crate::lines::{fault_text, limit_text, none_text};
-use crate::options::SearchOptions;
-use crate::stages::Progress;
-use history_check::Trace;
-use log_text::read_seen_with_cause;
+use crate::flaws::judged;
+use crate::granularity::Pieces;
+use crate::lines::{fault_text, flaw_text, limit_text, none_text};
+use crate::options::{SearchDemand, SearchOptions};
+use crate::stages::{NoClock, Progress};
+use crate::telling::tell;
+use arrayvec::ArrayString;
+use history_check::{Flaw, Trace};
+use log_text::{no_fault_is_out_of_memory, read_seen_with_cause};
 use record_text::{Misread, ReadFaultKind};
-use search_history::{Sought, search_watched};
+use search_history::{Bounds, Sought, Spot, search_watched};
 use seq_memory::Entry;
 use std::alloc::{AllocError, Global};
 use std::io::{Write, sink};
+use std::time::Clock;
 use trace_text::write_trace;
 
 /// The exit status of a search that was given up.
@@ -39,32 +43,76 @@ pub(crate) enum Finding {
         prefix: usize,
         pieces: Option<Pieces>,
     },
-    /// A log of which nothing is known.
-    Limit,
+    /// A log of which nothing is known, the farthest choice that was looked at, and the pieces that were searched.
+    Limit {
+        trace: Trace,
+        far: Option<Spot>,
+        pieces: Option<Pieces>,
+    },
+    /// A log with a bookkeeping mistake, and the first one.
+    Flaw {
+        trace: Trace,
+        flaw: Flaw,
+    },
     /// A text that can't be read.
     Fault(Misread),
+}
+
+/// What is written: a line, for which no memory is needed, or the text of a trace.
+#[derive(Drop)]
+pub enum OutcomeText {
+    Line(ArrayString<512>),
+    Trace(Vec<u8>),
+}
+
+impl OutcomeText {
+    pub fn as_slice(&self) -> &[u8]
+        ensures { result.now ≡ text_of self.now }
+    {
+        match self {
+            OutcomeText::Line(line) => line.as_bytes(),
+            OutcomeText::Trace(text) => text.as_slice(),
+        }
+    }
 }
 
 /// What is written of a text, and the exit status.
 #[derive(Drop)]
 pub struct Outcome {
-    pub text: Vec<u8>,
+    pub text: OutcomeText,
     pub status: u8,
 }
 
+/// Nothing is known of the log.
+fn given_up(trace: Trace, far: Option<Spot>) -> Finding
+    ensures { result ≡ Finding.Limit trace far None }
+{
+    Finding::Limit {
+        trace,
+        far,
+        pieces: None,
+    }
+}
+
 /// Looks for a history.
-pub(crate) fn sought<E: Write>(
+pub(crate) fn sought<C: Clock, E: Write>(
     alloc: Global,
     mut trace: Trace,
-    options: SearchOptions,
+    demand: SearchDemand,
+    clock: &C,
     errors: &mut E,
 ) -> Result<Finding, AllocError>
     ensures { IfOk result (IsFindingOf Granularity.Whole trace) }
 {
     let records = trace.records.len();
-    let mut progress = Progress::new(options.stages, records, options.limit, errors);
-    let (sought, choices) = search_watched(alloc, &mut trace, options.limit, &mut progress)?;
+    let mut progress = Progress::new(demand, records, clock, errors);
+    let bounds = Bounds {
+        choices: demand.options.limit,
+        work: demand.work,
+    };
+    let (sought, choices) = search_watched(alloc, &mut trace, bounds, &mut progress)?;
     progress.end(choices);
+    let far = progress.far();
     match sought {
         Sought::Found(history) => Ok(Finding::Found { trace, history }),
         Sought::None { prefix } => Ok(Finding::None {
@@ -72,7 +120,7 @@ pub(crate) fn sought<E: Write>(
             prefix,
             pieces: None,
         }),
-        Sought::Limit => Ok(Finding::Limit),
+        Sought::Limit => Ok(given_up(trace, far)),
     }
 }
 
@@ -83,16 +131,19 @@ fn is_memory(kind: ReadFaultKind) -> bool
 }
 
 /// Reads the text, and looks for a history.
-pub(crate) fn find<E: Write>(
+pub(crate) fn find<C: Clock, E: Write>(
     alloc: Global,
     text: &[u8],
-    options: SearchOptions,
+    demand: SearchDemand,
+    clock: &C,
     errors: &mut E,
 ) -> Result<Finding, AllocError>
-    ensures { IfOk result (IsFinding options.granularity (seen_of text.now)) }
+    ensures ok { IfOk result (IsFinding demand.options.granularity (seen_of text.now)) }
+    ensures err { OnErr result (WantsMemory text.now) }
 {
+    no_fault_is_out_of_memory();
     match read_seen_with_cause(alloc, text) {
-        Ok(trace) => sought_in(alloc, trace, options, errors),
+        Ok(trace) => judged(alloc, trace, demand, clock, errors),
         Err(misread) if is_memory(misread.fault.kind) => Err(AllocError),
         Err(misread) => Ok(Finding::Fault(misread)),
     }
@@ -112,39 +163,75 @@ pub(crate) fn outcome_of(
     finding: &Finding,
     limit: u64,
 ) -> Result<Outcome, AllocError>
-    ensures { (size : Granularity) (r : Result TraceView ReadFault) → IsFinding size r finding.now → IfOk result (λ o. IsAnswerTo size limit r o.text.items o.status) }
+    ensures ok { (size : Granularity) (r : Result TraceView ReadFault) → IsFinding size r finding.now → IfOk result (λ o. IsAnswerTo false size limit r (text_of o.text) o.status) }
+    ensures err { (size : Granularity) (r : Result TraceView ReadFault) → IsFinding size r finding.now → OnErr result ((t : TraceView) × (r ≡ Ok t)) }
 {
     match finding {
         Finding::Found { trace, history } => {
             let text = found_text(alloc, trace, history)?;
-            Ok(Outcome { text, status: 0 })
+            Ok(Outcome {
+                text: OutcomeText::Trace(text),
+                status: 0,
+            })
         }
         Finding::None { prefix, .. } => {
-            let text = none_text(alloc, prefix.saturating_sub(1))?;
-            Ok(Outcome { text, status: 1 })
-        }
-        Finding::Limit => {
-            let text = limit_text(alloc, limit)?;
+            let line = none_text(prefix.saturating_sub(1));
             Ok(Outcome {
-                text,
+                text: OutcomeText::Line(line),
+                status: 1,
+            })
+        }
+        Finding::Limit { .. } => {
+            let line = limit_text(limit);
+            Ok(Outcome {
+                text: OutcomeText::Line(line),
                 status: LIMIT_STATUS,
             })
         }
+        Finding::Flaw { flaw, .. } => {
+            let line = flaw_text(*flaw);
+            Ok(Outcome {
+                text: OutcomeText::Line(line),
+                status: 1,
+            })
+        }
         Finding::Fault(misread) => {
-            let text = fault_text(alloc, misread.fault)?;
-            Ok(Outcome { text, status: 1 })
+            let line = fault_text(misread.fault);
+            Ok(Outcome {
+                text: OutcomeText::Line(line),
+                status: 1,
+            })
         }
     }
 }
 
 /// The answer to the text of a log or a trace: a trace with a history that explains what was seen, and
-/// status 0; `none` and the place of a record up to which no history explains it, or `fault` with the line
-/// that can't be read and why, and status 1; or `limit` and the limit, and status 3. No more than `limit`
-/// choices are looked at. Fails where memory can't be allocated; nothing is known then.
+/// status 0; `none` and the place of a record up to which no history explains it, `flaw` with the first
+/// bookkeeping mistake and its place, or `fault` with the line that can't be read and why, and status 1; or
+/// `limit` and the limit, and status 3. No more than `limit` choices are looked at. Fails where memory can't be
+/// allocated; nothing is known then. A text whose first fault comes before its records and entries needs none.
 pub fn answer_of(alloc: Global, text: &[u8], limit: u64) -> Result<Outcome, AllocError>
-    ensures { IfOk result (λ o. OutSearch limit text.now o.text.items o.status) }
+    ensures ok { IfOk result (λ o. OutSearch limit text.now (text_of o.text) o.status) }
+    ensures err { OnErr result (WantsMemory text.now) }
 {
     let options = SearchOptions::of_whole_requests(limit);
-    let finding = find(alloc, text, options, &mut sink())?;
+    let finding = find(alloc, text, options.plain(), &NoClock, &mut sink())?;
     outcome_of(alloc, &finding, limit)
+}
+
+/// What [`answer_of`] returns, for a history of pieces of the size that is asked for. Once it is known, adds to `reasons`
+/// the lines that tell why there is no history, or why the text can't be read, as far as there is memory for them.
+pub fn answer_with_reasons(
+    alloc: Global,
+    text: &[u8],
+    options: SearchOptions,
+    reasons: &mut Vec<u8>,
+) -> Result<Outcome, AllocError>
+    ensures ok { IfOk result (λ o. OutSearchWith options.granularity options.limit text.now (text_of o.text) o.status) }
+    ensures err { OnErr result (WantsMemory text.now) }
+{
+    let finding = find(alloc, text, options.plain(), &NoClock, &mut sink())?;
+    let outcome = outcome_of(alloc, &finding, options.limit)?;
+    tell(alloc, text, &finding, options.limit, reasons);
+    Ok(outcome)
 }

@@ -5,19 +5,38 @@ ghost use Rattle.log_pieces.specs.declared.Granularity.TheVariants.{Whole};
 ghost use Rattle.search_engine.specs.Findings.{IsFindingOf};
 
 use crate::answering::{Finding, sought};
-use crate::options::SearchOptions;
+use crate::options::SearchDemand;
 use history_check::Trace;
 use log_pieces::{Granularity, ends_of, in_pieces, records_of};
 use std::alloc::{AllocError, Global};
 use std::io::Write;
+use std::time::Clock;
 
-/// A log in pieces of which so many records have no history.
+/// A log in pieces, of which so many records are looked at.
 #[derive(Drop)]
 pub(crate) struct Pieces {
     pub(crate) trace: Trace,
     pub(crate) prefix: usize,
     /// How many records it has of those of the log up to each one.
     pub(crate) ends: Vec<usize>,
+}
+
+/// The pieces of the log that were searched, of which so many are looked at.
+fn pieces_of(
+    alloc: Global,
+    trace: &Trace,
+    granularity: Granularity,
+    searched: Trace,
+    prefix: usize,
+) -> Result<Option<Pieces>, AllocError> {
+    match ends_of(alloc, trace, granularity)? {
+        Some(ends) => Ok(Some(Pieces {
+            trace: searched,
+            prefix,
+            ends,
+        })),
+        None => Ok(None),
+    }
 }
 
 /// What came of a log, by what came of it in pieces.
@@ -37,38 +56,42 @@ fn of_records(
             ..
         } => {
             let prefix = records_of(alloc, &trace, granularity, count)?;
-            let pieces = match ends_of(alloc, &trace, granularity)? {
-                Some(ends) => Some(Pieces {
-                    trace: searched,
-                    prefix: count,
-                    ends,
-                }),
-                None => None,
-            };
+            let pieces = pieces_of(alloc, &trace, granularity, searched, count)?;
             Ok(Finding::None {
                 trace,
                 prefix,
                 pieces,
             })
         }
+        Finding::Limit {
+            trace: searched,
+            far,
+            ..
+        } => {
+            let count = searched.records.len();
+            let pieces = pieces_of(alloc, &trace, granularity, searched, count)?;
+            Ok(Finding::Limit { trace, far, pieces })
+        }
         found => Ok(found),
     }
 }
 
 /// Looks for a history of pieces.
-pub(crate) fn sought_in<E: Write>(
+pub(crate) fn sought_in<C: Clock, E: Write>(
     alloc: Global,
     trace: Trace,
-    options: SearchOptions,
+    demand: SearchDemand,
+    clock: &C,
     errors: &mut E,
 ) -> Result<Finding, AllocError>
-    ensures { IfOk result (IsFindingOf options.granularity trace) }
+    ensures { IfOk result (IsFindingOf demand.options.granularity trace) }
 {
-    match in_pieces(alloc, &trace, options.granularity)? {
-        None => sought(alloc, trace, options, errors),
+    let granularity = demand.options.granularity;
+    match in_pieces(alloc, &trace, granularity)? {
+        None => sought(alloc, trace, demand, clock, errors),
         Some(pieces) => {
-            let finding = sought(alloc, pieces, options, errors)?;
-            of_records(alloc, trace, options.granularity, finding)
+            let finding = sought(alloc, pieces, demand, clock, errors)?;
+            of_records(alloc, trace, granularity, finding)
         }
     }
 }

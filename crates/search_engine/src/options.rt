@@ -1,5 +1,5 @@
 //! What a search is asked for.
-ghost use Rattle.std.specs.Prelude.{◌≡◌};
+ghost use Rattle.std.specs.Prelude.{◌≡◌, false};
 ghost use Rattle.log_pieces.specs.declared.Granularity.TheVariants.{Whole};
 ghost use Rattle.search_engine.specs.declared.stages.Stages.TheVariants.{Hidden};
 
@@ -17,7 +17,28 @@ pub struct SearchOptions {
     pub stages: Stages,
 }
 
+/// A search, its bounds, and what is written where there is no history.
+#[derive(Clone, Copy, Debug, PartialEq, Eq)]
+pub struct SearchDemand {
+    pub options: SearchOptions,
+    /// The most work that is done: about as many steps, or requests that are looked at for one.
+    pub work: u64,
+    /// Whether a log of few answers that has no history is written in place of `none`, if it is found.
+    pub has_core: bool,
+}
+
 impl SearchOptions {
+    /// This search, which only its choices bound, and `none` where there is no history.
+    pub(crate) fn plain(self) -> SearchDemand
+        ensures { result ≡ record { options = self; work = 18446744073709551615; has_core = false } }
+    {
+        SearchDemand {
+            options: self,
+            work: u64::MAX,
+            has_core: false,
+        }
+    }
+
     /// A search in which each request acts as a whole, and of which it isn't told how far it is.
     pub(crate) fn of_whole_requests(limit: u64) -> SearchOptions
         ensures { result ≡ record { limit = limit; granularity = Whole; stages = Hidden } }

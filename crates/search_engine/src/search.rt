@@ -1,20 +1,26 @@
 //! The subcommand `search`.
-ghost use Rattle.std.specs.Prelude.{IfOk, OnErr};
-ghost use Rattle.search_engine.specs.Search.{IsWhole, IsWholeWith, IsPart, IsPartWith, OutSearchWith};
+ghost use Rattle.std.specs.Prelude.{IfOk, OnErr, Result};
+ghost use Rattle.history_check.specs.TraceView.{TraceView};
+ghost use Rattle.record_text.specs.declared.fault.ReadFault.{ReadFault};
+ghost use Rattle.search_engine.specs.Findings.{text_of, IsFinding};
+ghost use Rattle.search_engine.specs.Search.{IsAnswerTo, IsWhole, IsWholeFor, IsWholeWith, IsPart, IsPartFor, IsPartWith, OutSearchFor};
 
-use crate::answering::{Finding, Outcome, find, outcome_of};
+use crate::answering::{Finding, Outcome, OutcomeText, find, outcome_of};
+use crate::cores::core_text;
 use crate::input::read_rest;
-use crate::options::SearchOptions;
+use crate::options::{SearchDemand, SearchOptions};
+use crate::stages::NoClock;
 use crate::telling::tell;
 use line_loop::{EngineFault, write_out};
 use std::alloc::{AllocError, Global};
 use std::io::{Read, Write, sink};
+use std::time::Clock;
 
-/// The text, if it is needed to tell why there is no history, or why it can't be read.
+/// The text, if it is needed to tell why there is no history, how far the search came, or what is wrong with it.
 fn kept(text: Vec<u8>, finding: &Finding) -> Option<Vec<u8>> {
     match finding {
-        Finding::None { .. } | Finding::Fault(_) => Some(text),
-        _ => None,
+        Finding::Found { .. } => None,
+        _ => Some(text),
     }
 }
 
@@ -26,17 +32,37 @@ struct Answer {
     text: Option<Vec<u8>>,
 }
 
+/// What is written of what came of a text: a log of few answers without a history in place of `none`, if it is asked for and
+/// found.
+fn outcome_with_core(
+    alloc: Global,
+    finding: &Finding,
+    demand: SearchDemand,
+) -> Result<Outcome, AllocError>
+    ensures { (r : Result TraceView ReadFault) → IsFinding demand.options.granularity r finding.now → IfOk result (λ o. IsAnswerTo demand.has_core demand.options.granularity demand.options.limit r (text_of o.text) o.status) }
+{
+    let core = core_text(alloc, finding, demand)?;
+    match core {
+        Some(text) => Ok(Outcome {
+            text: OutcomeText::Trace(text),
+            status: 1,
+        }),
+        None => outcome_of(alloc, finding, demand.options.limit),
+    }
+}
+
 /// The answer to the text.
-fn answered<E: Write>(
+fn answered<C: Clock, E: Write>(
     alloc: Global,
     text: Vec<u8>,
-    options: SearchOptions,
+    demand: SearchDemand,
+    clock: &C,
     errors: &mut E,
 ) -> Result<Answer, AllocError>
-    ensures { IfOk result (λ a. OutSearchWith options.granularity options.limit text.items a.outcome.text.items a.outcome.status) }
+    ensures { IfOk result (λ a. OutSearchFor demand.has_core demand.options.granularity demand.options.limit text.items (text_of a.outcome.text) a.outcome.status) }
 {
-    let finding = find(alloc, &text, options, errors)?;
-    let outcome = outcome_of(alloc, &finding, options.limit)?;
+    let finding = find(alloc, &text, demand, clock, errors)?;
+    let outcome = outcome_with_core(alloc, &finding, demand)?;
     let text = kept(text, &finding);
     Ok(Answer {
         outcome,
@@ -52,10 +78,31 @@ fn tell_reason<E: Write>(alloc: Global, answer: &Answer, limit: u64, errors: &mu
     }
 }
 
+/// Does what [`run_search_with`] does, within the bounds. In place of `none` it writes a log of few answers that has no
+/// history, if that is asked for and found. How many choices were looked at is also told while the search goes on: after
+/// about two seconds by the clock, and then in pauses that are twice as long each time, 16 seconds at most.
+pub fn run_search_for<C: Clock, R: Read, W: Write, E: Write>(
+    alloc: Global,
+    demand: SearchDemand,
+    clock: &C,
+    reader: &mut R,
+    writer: &mut W,
+    errors: &mut E,
+) -> Result<u8, EngineFault>
+    ensures ok { IfOk result (IsWholeFor demand.has_core demand.options.granularity demand.options.limit (R.remaining reader.old) (R.remaining reader.new) (W.contents writer.old) (W.contents writer.new)) }
+    ensures err { OnErr result (IsPartFor demand.has_core demand.options.granularity demand.options.limit (R.remaining reader.old) (R.remaining reader.new) (W.contents writer.old) (W.contents writer.new)) }
+{
+    let text = read_rest(alloc, reader)?;
+    let answer = answered(alloc, text, demand, clock, errors)?;
+    write_out(writer, answer.outcome.text.as_slice())?;
+    tell_reason(alloc, &answer, demand.options.limit, errors);
+    Ok(answer.outcome.status)
+}
+
 /// Does what [`run_search_with_reasons`] does, for a history of pieces: each read and write acts in naturally aligned
 /// pieces of the size that is asked for. A trace that is written is of pieces; places and reasons name the records and
 /// lines of what was read. Before the answer it tells on `errors` how far the search is, if that is asked for: how many
-/// records were read, then after each hundredth of the limit, and at the end, how many choices were looked at.
+/// records were read, and at the end how many choices were looked at.
 pub fn run_search_with<R: Read, W: Write, E: Write>(
     alloc: Global,
     options: SearchOptions,
@@ -66,15 +113,11 @@ pub fn run_search_with<R: Read, W: Write, E: Write>(
     ensures ok { IfOk result (IsWholeWith options.granularity options.limit (R.remaining reader.old) (R.remaining reader.new) (W.contents writer.old) (W.contents writer.new)) }
     ensures err { OnErr result (IsPartWith options.granularity options.limit (R.remaining reader.old) (R.remaining reader.new) (W.contents writer.old) (W.contents writer.new)) }
 {
-    let text = read_rest(alloc, reader)?;
-    let answer = answered(alloc, text, options, errors)?;
-    write_out(writer, &answer.outcome.text)?;
-    tell_reason(alloc, &answer, options.limit, errors);
-    Ok(answer.outcome.status)
+    run_search_for(alloc, options.plain(), &NoClock, reader, writer, errors)
 }
 
 /// Does what [`run_search`] does. Once the answer is written and flushed, it tells on `errors` why there is no
-/// history, or why the input can't be read.
+/// history, what the first bookkeeping mistake is, or why the input can't be read.
 pub fn run_search_with_reasons<R: Read, W: Write, E: Write>(
     alloc: Global,
     limit: u64,
@@ -91,9 +134,9 @@ pub fn run_search_with_reasons<R: Read, W: Write, E: Write>(
 
 /// Reads a log, or a trace whose n's and history say nothing, and writes the answer: a trace with a history
 /// that explains what was seen; or one line: `none` with the place of a record up to which no history
-/// explains it, `limit` with the limit, or `fault` with the line that can't be read and why. No more than
-/// `limit` choices are looked at. `Ok` is the exit status: 0 for a trace, 3 for `limit`, else 1. After an
-/// `Err` what was written is nothing or a beginning of an answer.
+/// explains it, `limit` with the limit, `flaw` with the first bookkeeping mistake and its place, or `fault` with
+/// the line that can't be read and why. No more than `limit` choices are looked at. `Ok` is the exit status: 0 for
+/// a trace, 3 for `limit`, else 1. After an `Err` what was written is nothing or a beginning of an answer.
 pub fn run_search<R: Read, W: Write>(
     alloc: Global,
     limit: u64,

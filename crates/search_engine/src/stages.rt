@@ -1,12 +1,18 @@
 //! How far a search is, told while it goes on.
-use search_history::Watch;
+use crate::options::SearchDemand;
+use search_history::{Spot, Watch};
+use std::io;
 use std::io::Write;
+use std::time::{Clock, Duration};
 
 /// The least number of records of a long log.
 const LONG: usize = 10_000;
 
-/// How often the choices are told, until the limit is reached.
-const LINES: u64 = 100;
+/// How long it is to the first line, in milliseconds. From line to line it is twice as long as before, and no longer than
+/// the longest.
+const FIRST_PAUSE: u64 = 2000;
+
+const LONGEST_PAUSE: u64 = 16_000;
 
 /// Whether it is told how far a search is.
 #[derive(Clone, Copy, Debug, PartialEq, Eq)]
@@ -28,38 +34,108 @@ impl Stages {
     }
 }
 
-/// Tells how many records were read, and of how many choices were looked at so far: after each hundredth of the limit,
-/// and at the end.
+/// A clock that stands still: by it nothing is told while a search goes on.
+#[derive(Clone, Copy, Debug, PartialEq, Eq)]
+pub struct NoClock;
+
+impl Clock for NoClock {
+    fn monotonic(&self) -> io::Result<Duration> {
+        Ok(Duration::ZERO)
+    }
+
+    fn since_1970(&self) -> io::Result<Duration> {
+        Ok(Duration::ZERO)
+    }
+}
+
+/// The time of the clock in milliseconds, 0 if it can't be read.
+fn now<C: Clock>(clock: &C) -> u64 {
+    match clock.monotonic() {
+        Ok(time) => u64::try_from(time.as_millis()).unwrap_or(u64::MAX),
+        Err(_) => 0,
+    }
+}
+
+/// When it is told next how far a search is.
+#[derive(Clone, Copy, Debug)]
+struct Pause {
+    /// The time of the clock, and how long it was to that, in milliseconds.
+    end: u64,
+    length: u64,
+}
+
+impl Pause {
+    /// The first one, which begins at that time.
+    fn first(time: u64) -> Pause {
+        Pause {
+            end: time.saturating_add(FIRST_PAUSE),
+            length: FIRST_PAUSE,
+        }
+    }
+
+    /// The next one, which begins at that time.
+    fn next(self, time: u64) -> Pause {
+        let length = self.length.saturating_mul(2).min(LONGEST_PAUSE);
+        Pause {
+            end: time.saturating_add(length),
+            length,
+        }
+    }
+}
+
+/// Tells how many records were read, and of how many choices were looked at so far: by time, and at the end.
 #[derive(Drop)]
-pub(crate) struct Progress<'e, E> {
+pub(crate) struct Progress<'e, E, C> {
     errors: &'e mut E,
+    clock: &'e C,
     is_shown: bool,
     limit: u64,
     choices: u64,
-    /// How many choices were told last, and are told next.
+    /// How many choices were told last.
     told: Option<u64>,
-    next: u64,
+    pause: Pause,
+    /// The farthest choice: of the whole log, or of cells alone until that is searched.
+    far: Option<Spot>,
 }
 
-impl<'e, E: Write> Progress<'e, E> {
+impl<'e, E: Write, C: Clock> Progress<'e, E, C> {
     /// A search of so many records begins.
     pub(crate) fn new(
-        stages: Stages,
+        demand: SearchDemand,
         records: usize,
-        limit: u64,
+        clock: &'e C,
         errors: &'e mut E,
-    ) -> Progress<'e, E> {
-        let is_shown = stages.are_shown(records);
+    ) -> Progress<'e, E, C> {
+        let limit = demand.options.limit;
+        let is_shown = demand.options.stages.are_shown(records);
         if is_shown {
             let _ = writeln!(errors, "{records} records");
         }
         Progress {
             errors,
+            clock,
             is_shown,
             limit,
             choices: 0,
             told: None,
-            next: (limit / LINES).max(1),
+            pause: Pause::first(now(clock)),
+            far: None,
+        }
+    }
+
+    /// The farthest choice that was looked at, of the whole log if that was searched.
+    pub(crate) fn far(&self) -> Option<Spot> {
+        self.far
+    }
+
+    /// Notes how far the search is.
+    fn note(&mut self, spot: Spot) {
+        let is_farther = match self.far {
+            Some(far) => { far.event <= spot.event || far.range.is_some() && spot.range.is_none() }
+            None => true,
+        };
+        if is_farther {
+            self.far = Some(spot);
         }
     }
 
@@ -72,19 +148,28 @@ impl<'e, E: Write> Progress<'e, E> {
         }
     }
 
+    /// Tells how many choices were looked at, if it is time.
+    fn tell_in_time(&mut self) {
+        let time = now(self.clock);
+        if time >= self.pause.end {
+            let choices = self.choices;
+            self.tell(choices);
+            self.pause = self.pause.next(time);
+        }
+    }
+
     /// The search is over, after so many choices.
     pub(crate) fn end(&mut self, choices: u64) {
         self.tell(choices);
     }
 }
 
-impl<'e, E: Write> Watch for Progress<'e, E> {
-    fn choice(&mut self) {
+impl<'e, E: Write, C: Clock> Watch for Progress<'e, E, C> {
+    fn choice(&mut self, spot: Spot) {
+        self.note(spot);
         self.choices = self.choices.saturating_add(1);
-        if self.choices == self.next {
-            let choices = self.choices;
-            self.tell(choices);
-            self.next = self.next.saturating_add((self.limit / LINES).max(1));
+        if self.is_shown {
+            self.tell_in_time();
         }
     }
 }

@@ -1,13 +1,14 @@
-//! Why there is no history, or why the input can't be read, for people.
+//! Why there is no history, how far a search came that was given up, what is wrong with a log's form, or why the input
+//! can't be read, for people.
 use crate::answering::Finding;
 use crate::granularity::Pieces;
 use history_check::Trace;
-use search_reasons::{Case, Prefix, tell_fault, tell_none};
+use search_reasons::{Case, Prefix, tell_fault, tell_flaw, tell_limit, tell_none};
 use std::alloc::Global;
 use std::io::Write;
 
-/// A log of which so many records have no history, and where it was searched in pieces, those.
-fn case_of<'a>(trace: &'a Trace, prefix: usize, pieces: &'a Option<Pieces>) -> Case<'a> {
+/// A log of which so many records are looked at, and where it was searched in pieces, those.
+pub(crate) fn case_of<'a>(trace: &'a Trace, prefix: usize, pieces: &'a Option<Pieces>) -> Case<'a> {
     let read = Prefix {
         trace,
         count: prefix,
@@ -29,8 +30,8 @@ fn case_of<'a>(trace: &'a Trace, prefix: usize, pieces: &'a Option<Pieces>) -> C
     }
 }
 
-/// Tells why there is no history, or why the text can't be read. If memory for that can't be allocated, or the stream
-/// fails, no more is told.
+/// Tells why there is no history, how far the search came, what is wrong with the log's form, or why the text can't be
+/// read. If memory for that can't be allocated, or the stream fails, no more is told.
 pub(crate) fn tell<E: Write>(
     alloc: Global,
     text: &[u8],
@@ -44,6 +45,15 @@ pub(crate) fn tell<E: Write>(
             prefix,
             pieces,
         } => tell_none(alloc, text, case_of(trace, *prefix, pieces), limit, errors),
+        Finding::Limit {
+            trace,
+            far: Some(far),
+            pieces,
+        } => {
+            let case = case_of(trace, trace.records.len(), pieces);
+            tell_limit(alloc, text, case, *far, limit, errors)
+        }
+        Finding::Flaw { trace, flaw } => tell_flaw(alloc, text, trace, *flaw, errors),
         Finding::Fault(misread) => tell_fault(text, *misread, errors),
         _ => Ok(()),
     };

@@ -1,4 +1,5 @@
 pub mod Prefixes
 pub mod Answers
 pub mod Contradictions
+pub mod Expected
 pub mod Runs

@@ -3,6 +3,7 @@ ghost use Rattle.std.specs.Prelude.{◌≡◌, ◌≤◌, IfOk, IsSome};
 ghost use Rattle.log_runs.specs.Runs.{Dead, start};
 ghost use Rattle.log_cells.specs.Places.{ArePlaces};
 
+use crate::within::Within;
 use log_cells::{Cells, part};
 use log_runs::{Log, Step};
 use search_choices::{NO_PART, Turn};
@@ -51,7 +52,12 @@ pub(crate) fn explored_on<W: Watch>(
             names: Vec::new(alloc),
         });
     };
-    let mut found = explore_watched(alloc, &part.log, Way::Part, bounds, watch)?;
+    let mut within = Within {
+        watch,
+        names: &part.names,
+        range: Some(range),
+    };
+    let mut found = explore_watched(alloc, &part.log, Way::Part, bounds, &mut within)?;
     found.reach = part.names.get(found.reach).copied().unwrap_or(log.len());
     Ok(Explored {
         found,
@@ -254,7 +260,12 @@ fn each_within<W: Watch>(
         ranges: task.ranges,
         places: Some(&group.names),
     };
-    each_of(alloc, within, turns, bounds, watch)
+    let mut seen = Within {
+        watch,
+        names: &group.names,
+        range: None,
+    };
+    each_of(alloc, within, turns, bounds, &mut seen)
 }
 
 /// How many ranges a part of a log has at least that is found by way of a part on several.

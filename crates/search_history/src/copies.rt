@@ -2,27 +2,19 @@
 ghost use Rattle.std.specs.Prelude.{◌≡◌, ◌≤◌, ◌++◌, ◌∷◌, [], IfOk, OnOk, length, take};
 ghost use Rattle.search_history.specs.Contradictions as contradictions;
 ghost use Rattle.search_history.specs.Contradictions.{keeping_from};
+ghost use Rattle.search_history.specs.Expected as expected;
 
-use arrayvec::ArrayVec;
 use history_check::{Record, Trace};
-use seq_memory::Reply;
+use seq_memory::{Reply, ReplyForm};
 use std::alloc::{AllocError, Global};
-use tlp_core::{MAX_PAYLOAD, copy_of};
+use tlp_core::copy_of;
 
-fn copy_of_data(bytes: &ArrayVec<u8, MAX_PAYLOAD>) -> ArrayVec<u8, MAX_PAYLOAD>
-    ensures { result ≡ bytes.now }
-{
-    let mut copy = ArrayVec::new();
-    let _ = copy.try_extend_from_slice(bytes.as_slice());
-    copy
-}
-
-fn copy_of_reply(reply: &Reply) -> Reply
+pub(crate) fn copy_of_reply(reply: &Reply) -> Reply
     ensures { result ≡ reply.now }
 {
     match reply {
         Reply::Done => Reply::Done,
-        Reply::Data(data) => Reply::Data(copy_of_data(data)),
+        Reply::Data(data) => ReplyForm::Data(data.as_slice()).to_owned(),
         Reply::Unsupported => Reply::Unsupported,
         Reply::Aborted => Reply::Aborted,
     }
@@ -55,6 +47,36 @@ fn copy_of_record(item: &Record) -> Record
             n: *n,
         },
     }
+}
+
+/// The record with that reply, if it is an answer.
+pub(crate) fn with_reply(item: &Record, told: &Reply) -> Record
+    ensures { result ≡ expected.with_reply item.now told.now }
+{
+    match item {
+        Record::Sub { .. } => copy_of_record(item),
+        Record::Ans {
+            requester,
+            number,
+            n,
+            ..
+        } => Record::Ans {
+            requester: *requester,
+            number: *number,
+            reply: copy_of_reply(told),
+            n: *n,
+        },
+    }
+}
+
+pub(crate) fn copies_of(alloc: Global, records: &[Record]) -> Result<Vec<Record>, AllocError>
+    ensures { IfOk result (λ v. v.items ≡ records.now) }
+{
+    let mut copies = Vec::with_capacity(alloc, records.len())?;
+    for place in 0..records.len() {
+        copies.push(copy_of_record(&records[place]))?;
+    }
+    Ok(copies)
 }
 
 /// Adds a copy of the record at the place, if it is no answer or its place is one of these.

@@ -1,5 +1,5 @@
 //! Whether a run leads through the first records.
-ghost use Rattle.std.specs.Prelude.{◌≡◌, ◌≤◌, true, IfOk, length, take};
+ghost use Rattle.std.specs.Prelude.{◌≡◌, ◌≤◌, true, IfOk, IfSome, length, take};
 ghost use Rattle.log_events.specs.Joined.{ArePartners};
 ghost use Rattle.log_runs.specs.Runs.{Dead, start};
 ghost use Rattle.log_runs.specs.Explainable.{IsExplainable, prefix};
@@ -11,10 +11,10 @@ use crate::alone::{Field, explored_on, parts_of};
 use history_check::Trace;
 use log_cells::Cells;
 use log_events::{Partners, form_of, log_of};
-use log_runs::Log;
 use log_runs::laws::{
     a_run_is_a_history, explainable_has_a_run, explainable_is_well_formed, prefix_is_explainable,
 };
+use log_runs::{Log, Step};
 use search_rules::first_unanswerable;
 use search_run::{Bounds, Outcome, Unwatched, Watch, Way, explore_watched};
 use std::alloc::{AllocError, Global};
@@ -74,7 +74,7 @@ fn dead(states: u64, range: Option<(u64, u64)>, reach: usize) -> Judgment
 }
 
 /// Looks for a run through the log, first through its part on each cell of the memory, with a tenth of
-/// the choices. The runs through its parts are a guide to the whole.
+/// the choices and half of the work. The runs through its parts are a guide to the whole.
 fn explored_parts<W: Watch>(
     alloc: Global,
     log: &Log<'_>,
@@ -87,7 +87,7 @@ fn explored_parts<W: Watch>(
 {
     let few = Bounds {
         choices: bounds.choices / 10,
-        work: bounds.work,
+        work: bounds.work / 2,
     };
     let parts = parts_of(alloc, log, few, watch)?;
     if let Some(by) = parts.dead {
@@ -95,7 +95,7 @@ fn explored_parts<W: Watch>(
     }
     let rest = Bounds {
         choices: bounds.choices - parts.states,
-        work: parts.work,
+        work: (bounds.work - few.work).saturating_add(parts.work),
     };
     let found = explore_watched(alloc, log, Way::Whole(&parts.turns), rest, watch)?;
     let clue = Clue {
@@ -178,6 +178,26 @@ pub(crate) fn judged_on(
     let log = log_of(alloc, records.trace, records.partners, records.count)?;
     let found = explored_by(alloc, &log, range, bounds)?;
     Ok(found)
+}
+
+/// A run through the records, if it is found: a history explains them. What is said to belong together does, and their form
+/// is right.
+pub(crate) fn run_of(
+    alloc: Global,
+    records: Records<'_>,
+    bounds: Bounds,
+) -> Result<Option<Vec<Step>>, AllocError>
+    requires within { records.count ≤ length records.trace.now.records }
+    requires joined { ArePartners records.partners.now (take records.count records.trace.now.records) }
+    requires formed { IsWellFormed (take records.count records.trace.now.records) }
+    ensures { IfOk result (λ o. IfSome o (λ steps. IsExplainable (prefix records.entry.count records.entry.trace.now))) }
+{
+    a_run_is_a_history();
+    let judgment = judged(alloc, records, bounds, &mut Unwatched)?;
+    match judgment.outcome {
+        Outcome::Run(steps) => Ok(Some(steps)),
+        _ => Ok(None),
+    }
 }
 
 /// A history explains the records; false where it isn't found. What is said to belong together does, and their form is

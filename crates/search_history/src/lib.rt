@@ -4,19 +4,23 @@
 //! n's. [`search`] looks for n's and a history that make it a trace that the history explains: a run
 //! through the log is one. Where it says that there is none, no history explains
 //! the log; it then looks for a prefix that has none either, and is as short as it can prove.
-//! [`explained_before`] says that the prefix that is one shorter has one, and [`contradiction`] looks for few answers of such a prefix that no history explains together.
+//! [`explained_before`] says that the prefix that is one shorter has one, and which reply a history has in place of the last
+//! one. [`contradiction`] looks for few answers of such a prefix that no history explains together, [`contradict`] finds out
+//! whether some do.
 #![tactic(auto)]
 
 mod alone;
 mod copies;
+mod expecting;
 mod judging;
 pub mod laws;
 mod moments;
 mod searching;
 mod shortest;
 mod thinning;
+mod within;
 
-pub use search_run::{Unwatched, Watch};
+pub use search_run::{Bounds, Spot, Unwatched, Watch};
 pub use searching::{Sought, search, search_watched};
-pub use shortest::explained_before;
-pub use thinning::contradiction;
+pub use shortest::{Before, explained_before, is_explained};
+pub use thinning::{contradict, contradiction};

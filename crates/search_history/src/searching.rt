@@ -57,19 +57,15 @@ enum Verdict {
 fn well_formed<W: Watch>(
     alloc: Global,
     records: Records<'_>,
-    limit: u64,
+    bounds: Bounds,
     watch: &mut W,
 ) -> Result<(Verdict, u64), AllocError>
     requires { records.count ≤ length records.trace.now.records }
     ensures run { IfOk result (λ r. ArePartners records.entry.partners.now (take records.entry.count records.entry.trace.now.records) → IsWellFormed (take records.entry.count records.entry.trace.now.records) → IsVerdictOf (prefix records.entry.count records.entry.trace.now) r.0) }
     ensures none { IfOk result (λ r. (prefix : ℕ) → r.0 ≡ Verdict.None prefix → IsUnexplained records.entry.trace.now prefix) }
-    ensures limit { IfOk result (λ r. r.0 ≡ Verdict.Limit → r.1 ≡ limit) }
-    ensures states { IfOk result (λ r. r.1 ≤ limit) }
+    ensures limit { IfOk result (λ r. r.0 ≡ Verdict.Limit → r.1 ≡ bounds.choices) }
+    ensures states { IfOk result (λ r. r.1 ≤ bounds.choices) }
 {
-    let bounds = Bounds {
-        choices: limit,
-        work: u64::MAX,
-    };
     let Judgment {
         outcome,
         states,
@@ -79,7 +75,7 @@ fn well_formed<W: Watch>(
     match outcome {
         Outcome::Run(steps) => Ok((Verdict::Run(steps), states)),
         Outcome::Dead => {
-            let prefix = shortened(alloc, records, clue, limit)?;
+            let prefix = shortened(alloc, records, clue, bounds.choices)?;
             Ok((Verdict::None(prefix), states))
         }
         Outcome::Limit => Ok((Verdict::Limit, states)),
@@ -91,15 +87,15 @@ fn well_formed<W: Watch>(
 fn misformed<W: Watch>(
     alloc: Global,
     records: Records<'_>,
-    limit: u64,
+    bounds: Bounds,
     watch: &mut W,
 ) -> Result<(usize, u64), AllocError>
     requires { MisformedAt records.trace.now.records records.count }
     ensures none { IfOk result (λ r. IsUnexplained records.entry.trace.now r.0) }
-    ensures states { IfOk result (λ r. r.1 ≤ limit) }
+    ensures states { IfOk result (λ r. r.1 ≤ bounds.choices) }
 {
     explainable_is_well_formed();
-    let (before, states) = well_formed(alloc, records, limit, watch)?;
+    let (before, states) = well_formed(alloc, records, bounds, watch)?;
     if let Verdict::None(prefix) = before {
         return Ok((prefix, states));
     }
@@ -110,13 +106,13 @@ fn misformed<W: Watch>(
 fn searched<W: Watch>(
     alloc: Global,
     trace: &Trace,
-    limit: u64,
+    bounds: Bounds,
     watch: &mut W,
 ) -> Result<(Verdict, u64), AllocError>
     ensures run { IfOk result (λ r. IsVerdictOf trace.now r.0) }
     ensures none { IfOk result (λ r. (prefix : ℕ) → r.0 ≡ Verdict.None prefix → IsUnexplained trace.now prefix) }
-    ensures limit { IfOk result (λ r. r.0 ≡ Verdict.Limit → r.1 ≡ limit) }
-    ensures states { IfOk result (λ r. r.1 ≤ limit) }
+    ensures limit { IfOk result (λ r. r.0 ≡ Verdict.Limit → r.1 ≡ bounds.choices) }
+    ensures states { IfOk result (λ r. r.1 ≤ bounds.choices) }
 {
     let form = form_of(alloc, &trace.records)?;
     let records = Records {
@@ -126,11 +122,11 @@ fn searched<W: Watch>(
     };
     match form.flaw {
         Some(flaw) => {
-            let (prefix, states) = misformed(alloc, records.first(flaw), limit, watch)?;
+            let (prefix, states) = misformed(alloc, records.first(flaw), bounds, watch)?;
             Ok((Verdict::None(prefix), states))
         }
         None => {
-            let found = well_formed(alloc, records, limit, watch)?;
+            let found = well_formed(alloc, records, bounds, watch)?;
             Ok(found)
         }
     }
@@ -154,30 +150,30 @@ fn answered(alloc: Global, trace: &mut Trace, verdict: Verdict) -> Result<Sought
 }
 
 /// Looks for a history that explains the log: what the trace's requesters submitted and were
-/// answered, in the order of its records, whatever its n's are. Looks at no more than `limit`
-/// choices, each of which `watch` sees; the second number is how many there were. The searches for a
-/// shorter prefix have a limit of their own and aren't counted or seen.
+/// answered, in the order of its records, whatever its n's are. Keeps within the bounds: `watch` sees each choice, and
+/// the second number is how many there were. Where the work ends it, that is as many as the bounds allow. The searches for a
+/// shorter prefix have bounds of their own and aren't counted or seen.
 ///
 /// Only n's of the trace change. Fails where memory can't be allocated; nothing is known then.
 pub fn search_watched<W: Watch>(
     alloc: Global,
     trace: &mut Trace,
-    limit: u64,
+    bounds: Bounds,
     watch: &mut W,
 ) -> Result<(Sought, u64), AllocError>
     ensures alike { SeenAlike trace.old trace.new }
     ensures found { IfOk result (λ r. IsFound trace.new r.0) }
     ensures none { IfOk result (λ r. IsNone trace.old r.0) }
-    ensures limit { IfOk result (λ r. r.0 ≡ Sought.Limit → r.1 ≡ limit) }
-    ensures states { IfOk result (λ r. r.1 ≤ limit) }
+    ensures limit { IfOk result (λ r. r.0 ≡ Sought.Limit → r.1 ≡ bounds.choices) }
+    ensures states { IfOk result (λ r. r.1 ≤ bounds.choices) }
 {
     prefix_is_explainable();
-    let (verdict, states) = searched(alloc, trace, limit, watch)?;
+    let (verdict, states) = searched(alloc, trace, bounds, watch)?;
     let sought = answered(alloc, trace, verdict)?;
     Ok((sought, states))
 }
 
-/// [`search_watched`], which nobody sees.
+/// [`search_watched`], at no more than `limit` choices, which nobody sees.
 pub fn search(alloc: Global, trace: &mut Trace, limit: u64) -> Result<(Sought, u64), AllocError>
     ensures alike { SeenAlike trace.old trace.new }
     ensures found { IfOk result (λ r. IsFound trace.new r.0) }
@@ -185,5 +181,9 @@ pub fn search(alloc: Global, trace: &mut Trace, limit: u64) -> Result<(Sought, u
     ensures limit { IfOk result (λ r. r.0 ≡ Sought.Limit → r.1 ≡ limit) }
     ensures states { IfOk result (λ r. r.1 ≤ limit) }
 {
-    search_watched(alloc, trace, limit, &mut Unwatched)
+    let bounds = Bounds {
+        choices: limit,
+        work: u64::MAX,
+    };
+    search_watched(alloc, trace, bounds, &mut Unwatched)
 }

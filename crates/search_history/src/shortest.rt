@@ -1,12 +1,16 @@
 //! The shortest prefix that has no history, as far as it is found.
-ghost use Rattle.std.specs.Prelude.{◌≤◌, ◌<◌, ◌+◌, IfOk, IfSome, length};
+ghost use Rattle.std.specs.Prelude.{◌≡◌, ◌≤◌, ◌<◌, ◌+◌, true, IfOk, IfSome, length};
+ghost use Rattle.log_runs.specs.Explainable.{IsExplainable, prefix};
+ghost use Rattle.search_history.specs.Expected.{IsExpected};
 ghost use Rattle.search_history.specs.Prefixes.{IsUnexplained, IsExplainedBefore};
 
-use crate::judging::{Clue, Records, is_explainable, judged_on};
+use crate::expecting::expected_at;
+use crate::judging::{Clue, Records, is_explainable, judged_on, run_of};
 use history_check::{Record, Trace};
 use log_events::form_of;
 use log_runs::laws::prefix_is_explainable;
 use search_run::{Bounds, Outcome};
+use seq_memory::Reply;
 use std::alloc::{AllocError, Global};
 use tlp_core::Op;
 
@@ -22,7 +26,7 @@ const LONG: usize = 10_000;
 /// How much work is done for each record of a prefix that is searched, and for all of them at least.
 const WORK: u64 = 32;
 
-const LEAST: u64 = 200_000;
+const LEAST: u64 = 10_000_000;
 
 /// What the search of so many records may do.
 fn bounds_for(count: usize, limit: u64) -> Bounds {
@@ -125,29 +129,66 @@ pub(crate) fn shortened(
     )
 }
 
+/// A history explains the first `count` records; false where it isn't found. Looks at no more than `limit` choices.
+pub fn is_explained(
+    alloc: Global,
+    trace: &Trace,
+    count: usize,
+    limit: u64,
+) -> Result<bool, AllocError>
+    requires { count ≤ length trace.now.records }
+    ensures { IfOk result (λ yes. yes ≡ true → IsExplainable (prefix count trace.now)) }
+{
+    let form = form_of(alloc, &trace.records[..count])?;
+    if form.flaw.is_some() {
+        return Ok(false);
+    }
+    let records = Records {
+        trace,
+        partners: &form.partners,
+        count,
+    };
+    is_explainable(alloc, records, bounds_for(count, limit))
+}
+
+/// What is known of the records but for the last one.
+#[derive(Debug, Drop)]
+pub struct Before {
+    /// How many of them a history explains: all.
+    pub count: usize,
+    /// With this reply in place of the last record's, a history explains the last one with them.
+    pub expected: Option<Reply>,
+}
+
 /// How many of the first records a history explains, if `prefix` records have none and that is found: as many
-/// but one.
+/// but one. And if that is found, too, a reply with which in place of the last one a history explains all.
 pub fn explained_before(
     alloc: Global,
     trace: &Trace,
     prefix: usize,
     limit: u64,
-) -> Result<Option<usize>, AllocError>
+) -> Result<Option<Before>, AllocError>
     requires { prefix ≤ length trace.now.records }
-    ensures { IfOk result (λ o. IfSome o (IsExplainedBefore trace.now prefix)) }
+    ensures explained { IfOk result (λ o. IfSome o (λ b. IsExplainedBefore trace.now prefix b.count)) }
+    ensures next { IfOk result (λ o. IfSome o (λ b. b.count + 1 ≡ prefix)) }
+    ensures expected { IfOk result (λ o. IfSome o (λ b. IfSome b.expected (IsExpected trace.now b.count))) }
 {
     let Some(count) = prefix.checked_sub(1) else {
         return Ok(None);
     };
     let form = form_of(alloc, &trace.records[..count])?;
+    if form.flaw.is_some() {
+        return Ok(None);
+    }
     let bounds = bounds_for(count, limit);
     let records = Records {
         trace,
         partners: &form.partners,
         count,
     };
-    if form.flaw.is_some() || !is_explainable(alloc, records, bounds)? {
+    let Some(steps) = run_of(alloc, records, bounds)? else {
         return Ok(None);
-    }
-    Ok(Some(count))
+    };
+    let expected = expected_at(alloc, trace, count, &steps, bounds)?;
+    Ok(Some(Before { count, expected }))
 }

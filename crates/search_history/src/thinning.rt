@@ -4,8 +4,10 @@
 //! with any reply, or not. So answers are left out, as long as what is left has no history: first those
 //! whose requests are in other cells of the memory than the last one, of which then nothing is looked at any
 //! more; then halves, quarters and so on, and single ones, the oldest first.
-ghost use Rattle.std.specs.Prelude.{◌≤◌, IfOk, length};
+ghost use Rattle.std.specs.Prelude.{◌≡◌, ◌≤◌, true, IfOk, length};
+ghost use Rattle.log_runs.specs.Explainable.{IsExplainable};
 ghost use Rattle.search_history.specs.Contradictions.{Contradict};
+ghost use Rattle.search_history.specs.Contradictions as contradictions;
 
 use crate::copies::keeping;
 use crate::judging::is_unexplained;
@@ -24,12 +26,12 @@ const EACH: u64 = 2_000;
 const ALL: u64 = 200_000;
 
 /// How often answers are left out, at most.
-const SEARCHES: u32 = 64;
+const SEARCHES: u32 = 400;
 
-/// How much work all of them do for each record, and at least.
+/// How much work all of them do for each record, and at least: a second or two, in which the answer stands already.
 const WORK: u64 = 12;
 
-const LEAST: u64 = 100_000;
+const LEAST: u64 = 10_000_000;
 
 /// How much work it is to make a log, for each of its events.
 const EVENT: u64 = 4;
@@ -284,6 +286,33 @@ fn found(alloc: Global, trace: &Trace, prefix: usize, bounds: Bounds) -> Result<
     few_of(alloc, &log, bounds)
 }
 
+/// What the searches for answers that contradict each other may do: in all so many choices, and work in proportion to the
+/// records.
+fn bounds_for(prefix: usize, choices: u64) -> Bounds {
+    Bounds {
+        choices,
+        work: (prefix as u64).saturating_mul(WORK).max(LEAST),
+    }
+}
+
+/// Whether no history explains these answers of the first `prefix` records together, as far as it is found out. It looks at
+/// no more than `limit` choices, and does work in proportion to the records.
+pub fn contradict(
+    alloc: Global,
+    trace: &Trace,
+    prefix: usize,
+    answers: &[usize],
+    limit: u64,
+) -> Result<bool, AllocError>
+    ensures { IfOk result (λ yes. yes ≡ true → IsExplainable (contradictions.keeping prefix answers.now trace.now) → ⊥) }
+{
+    if prefix > trace.records.len() {
+        return Ok(false);
+    }
+    let few = keeping(alloc, trace, prefix, answers)?;
+    is_unexplained(alloc, &few, None, bounds_for(prefix, limit.min(ALL)))
+}
+
 /// Places of at most 16 answers of the first `prefix` records that no history explains together, in
 /// their order; none if they aren't found. It looks at no more than `limit` choices, and does work in
 /// proportion to the records.
@@ -301,21 +330,13 @@ pub fn contradiction(
     }
     let all = limit.min(ALL);
     let half = all / 2;
-    let work = (prefix as u64).saturating_mul(WORK).max(LEAST);
-    let bounds = Bounds {
-        choices: half,
-        work,
-    };
-    let Few { kept, range, left } = found(alloc, trace, prefix, bounds)?;
+    let Few { kept, range, left } = found(alloc, trace, prefix, bounds_for(prefix, half))?;
     if kept.len() > MAX_ANSWERS {
         return Ok(Vec::new(alloc));
     }
     let few = keeping(alloc, trace, prefix, &kept)?;
     let looked = half.saturating_sub(left.choices);
-    let rest = Bounds {
-        choices: all.saturating_sub(looked),
-        work,
-    };
+    let rest = bounds_for(prefix, all.saturating_sub(looked));
     if is_unexplained(alloc, &few, range, rest)? {
         return Ok(kept);
     }

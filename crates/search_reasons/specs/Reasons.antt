@@ -1,5 +1,5 @@
 -- What the reasons promise.
-use Rattle.std.specs.Prelude.{ℕ, ◌≡◌, ◌⊎◌, List, [], ◌∷◌, ◌++◌, length, slice_get, Some}
+use Rattle.std.specs.Prelude.{ℕ, ◌≡◌, ◌⊎◌, Bool, true, List, [], ◌∷◌, ◌++◌, length, slice_get, Some}
 use Rattle.tlp_core.specs.declared.operation.Op.{Op}
 use Rattle.seq_memory.specs.Limits.{Extent}
 use Rattle.seq_memory.specs.declared.Reply.{Reply}
@@ -14,9 +14,11 @@ use Rattle.search_reasons.specs.declared.causes.Cause.TheVariants as causes
 use Rattle.search_reasons.specs.declared.finding.Why.{Why}
 use Rattle.search_reasons.specs.declared.finding.Why.TheVariants as reasons
 
--- no history explains the last answer and the others together, of n records, if there are others
-abbrev pub AreAgainst : TraceView → ℕ → ℕ → List ℕ → Type 0
-AreAgainst t n last others = (others ≡ []) ⊎ (IsExplainable (keeping n (others ++ last ∷ []) t) → ⊥)
+-- no history explains the last answer and the others together, of n records, where that is proved, and so it is if there
+-- are others
+abbrev pub AreAgainst : TraceView → ℕ → ℕ → List ℕ → Bool → Type 0
+AreAgainst t n last others proved =
+    (proved ≡ true → IsExplainable (keeping n (others ++ last ∷ []) t) → ⊥) × ((others ≡ []) ⊎ (proved ≡ true))
 
 -- those records have a request for the operation, and that reply to it
 pub record IsAsked (rs : List Record) (op : Op) (reply : Reply) : Type 0 where
@@ -46,4 +48,4 @@ IsCause x rs (causes.Words w) = Unit {0}
 -- log that was read
 abbrev pub IsTold : TraceView → ℕ → Extent → List Record → Why → Type 0
 IsTold t n x rs reasons.Form = Unit {0}
-IsTold t n x rs (reasons.Answers last others cause) = AreAgainst t n last others.items × IsCause x rs cause
+IsTold t n x rs (reasons.Answers last others proved cause cycle) = AreAgainst t n last others.items proved × IsCause x rs cause

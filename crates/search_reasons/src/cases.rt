@@ -1,20 +1,5 @@
 //! A log of which a prefix has no history.
-use history_check::{Record, Trace};
-
-/// The first records of a log.
-#[derive(Clone, Copy)]
-pub struct Prefix<'a> {
-    pub trace: &'a Trace,
-    pub count: usize,
-}
-
-impl<'a> Prefix<'a> {
-    /// Its records; none if the log has fewer.
-    pub(crate) fn records(self) -> &'a [Record] {
-        let trace = self.trace;
-        trace.records.get(..self.count).unwrap_or(&[])
-    }
-}
+use search_anomalies::Prefix;
 
 /// A log of which a prefix has no history: as it was read, and as it was searched, which is the same or in pieces.
 #[derive(Clone, Copy)]

@@ -1,20 +1,23 @@
 //! Why a prefix of a log has no history.
-ghost use Rattle.std.specs.Prelude.{◌≡◌, IfOk, IfSome};
+ghost use Rattle.std.specs.Prelude.{◌≡◌, ◌+◌, true, IfOk, IfSome};
 ghost use Rattle.history_check.specs.TraceView.{observed};
+ghost use Rattle.search_history.specs.Expected.{IsExpected};
 ghost use Rattle.search_history.specs.Prefixes.{IsExplainedBefore};
 ghost use Rattle.search_reasons.specs.Reasons.{AreAgainst, IsCause, IsTold};
 
-use crate::cases::{Case, Prefix};
-use crate::causes::{Cause, misreply_among, words_cause};
+use crate::cases::Case;
+use crate::causes::{Cause, misreply_among};
 use log_events::form_of;
-use search_history::{contradiction, explained_before};
+use search_anomalies::{Link, Prefix, WordCause, cycle_through, words_cause};
+use search_history::{Before, contradict, contradiction, explained_before};
 use std::alloc::{AllocError, Global};
 
 /// Why a prefix of a log has no history. Records are those that were searched.
 #[derive(Drop)]
 pub struct Reasons {
-    /// How many records a history explains, one less than the prefix has; none where that isn't known.
-    pub explained: Option<usize>,
+    /// How many records a history explains, one less than the prefix has, and what it has in place of the last one's reply;
+    /// none where that isn't known.
+    pub before: Option<Before>,
     pub why: Why,
 }
 
@@ -23,18 +26,23 @@ pub struct Reasons {
 pub enum Why {
     /// Its form is wrong: its number isn't its requester's next, or it answers no request that waits for an answer.
     Form,
-    /// The answer at the place `last` has no history together with those at the places `others`; with none there, an
-    /// answer of which no more is known.
+    /// The answer at the place `last` has no history together with those at the places `others`, if that is proved; with
+    /// none there, it may be an answer of which no more is known.
     Answers {
         last: usize,
         others: Vec<usize>,
+        is_proved: bool,
         cause: Cause,
+        /// A cycle of requests through the last answer, where no other cause is known; none if it isn't found.
+        cycle: Vec<Link>,
     },
 }
 
 /// How many records a history explains, if they are one less than the prefix and that is found out.
-fn explained(alloc: Global, prefix: Prefix<'_>, limit: u64) -> Result<Option<usize>, AllocError>
-    ensures { IfOk result (λ o. IfSome o (IsExplainedBefore prefix.entry.trace.now prefix.entry.count)) }
+fn explained(alloc: Global, prefix: Prefix<'_>, limit: u64) -> Result<Option<Before>, AllocError>
+    ensures explained { IfOk result (λ o. IfSome o (λ b. IsExplainedBefore prefix.entry.trace.now prefix.entry.count b.count)) }
+    ensures next { IfOk result (λ o. IfSome o (λ b. b.count + 1 ≡ prefix.entry.count)) }
+    ensures expected { IfOk result (λ o. IfSome o (λ b. IfSome b.expected (IsExpected prefix.entry.trace.now b.count))) }
 {
     let trace = prefix.trace;
     if prefix.count > trace.records.len() {
@@ -49,23 +57,39 @@ fn is_misformed(alloc: Global, prefix: Prefix<'_>) -> Result<bool, AllocError> {
     Ok(form.flaw.is_some() && form.flaw == prefix.count.checked_sub(1))
 }
 
-/// An answer, and others.
+/// The most answers that are told.
+const MOST: usize = 16;
+
+/// An answer, and others, and whether it is proved that no history explains them together.
 #[derive(Drop)]
 struct Against {
     last: usize,
     others: Vec<usize>,
+    is_proved: bool,
+}
+
+/// An answer that no history explains together with the others.
+fn proved(last: usize, others: Vec<usize>) -> Against
+    ensures { result ≡ record { last = last; others = others; is_proved = true } }
+{
+    Against {
+        last,
+        others,
+        is_proved: true,
+    }
 }
 
 /// Few answers that contradict each other, or else the last record alone.
 fn answers_against(alloc: Global, prefix: Prefix<'_>, limit: u64) -> Result<Against, AllocError>
-    ensures { IfOk result (λ a. AreAgainst prefix.entry.trace.now prefix.entry.count a.last a.others.items) }
+    ensures { IfOk result (λ a. AreAgainst prefix.entry.trace.now prefix.entry.count a.last a.others.items a.is_proved) }
 {
     let mut others = contradiction(alloc, prefix.trace, prefix.count, limit)?;
     match others.pop() {
-        Some(last) => Ok(Against { last, others }),
+        Some(last) => Ok(proved(last, others)),
         None => Ok(Against {
             last: prefix.count.saturating_sub(1),
             others: Vec::new(alloc),
+            is_proved: false,
         }),
     }
 }
@@ -111,27 +135,122 @@ fn cause_of(alloc: Global, case: Case<'_>, answers: &Against) -> Result<Cause, A
     }
 }
 
-/// Why the prefix has no history. Looks at no more than `limit` choices for each of the two things that are told: how
-/// many records have a history, and which answers contradict each other. Does work in proportion to the records.
+/// The answers on a cycle, but for the last one.
+fn others_on(alloc: Global, cycle: &[Link], last: usize) -> Result<Vec<usize>, AllocError> {
+    let mut others = Vec::new(alloc);
+    for link in cycle {
+        if let Some(answer) = link.answer
+            && answer != last
+            && !others.contains(&answer)
+        {
+            others.push(answer)?;
+        }
+    }
+    others.sort()?;
+    Ok(others)
+}
+
+/// The answers on a cycle, if they are few and no history explains them together, as far as that is found out.
+fn answers_on(
+    alloc: Global,
+    prefix: Prefix<'_>,
+    cycle: &[Link],
+    last: usize,
+    limit: u64,
+) -> Result<Option<Against>, AllocError>
+    ensures { IfOk result (λ o. IfSome o (λ a. AreAgainst prefix.entry.trace.now prefix.entry.count a.last a.others.items a.is_proved)) }
+{
+    let others = others_on(alloc, cycle, last)?;
+    if others.len() >= MOST {
+        return Ok(None);
+    }
+    let mut all = Vec::new(alloc);
+    all.extend_from_slice(&others)?;
+    all.push(last)?;
+    if contradict(alloc, prefix.trace, prefix.count, &all, limit)? {
+        return Ok(Some(proved(last, others)));
+    }
+    Ok(None)
+}
+
+/// Answers, and the cycle that they are on, if one is told.
+#[derive(Drop)]
+struct Ring {
+    answers: Against,
+    cycle: Vec<Link>,
+}
+
+/// The answers on a cycle of requests through the last one, or these, if it isn't proved of those.
+fn ring_of(
+    alloc: Global,
+    prefix: Prefix<'_>,
+    answers: Against,
+    limit: u64,
+) -> Result<Ring, AllocError>
+    requires { AreAgainst prefix.trace.now prefix.count answers.last answers.others.items answers.is_proved }
+    ensures { IfOk result (λ r. AreAgainst prefix.entry.trace.now prefix.entry.count r.answers.last r.answers.others.items r.answers.is_proved) }
+{
+    let cycle = cycle_through(alloc, prefix, answers.last)?;
+    if cycle.is_empty() {
+        return Ok(Ring { answers, cycle });
+    }
+    match answers_on(alloc, prefix, &cycle, answers.last, limit)? {
+        Some(answers) => Ok(Ring { answers, cycle }),
+        None => Ok(Ring { answers, cycle }),
+    }
+}
+
+/// The answers, or those on a cycle if no other cause is known.
+fn ring_for(
+    alloc: Global,
+    prefix: Prefix<'_>,
+    answers: Against,
+    cause: Cause,
+    limit: u64,
+) -> Result<Ring, AllocError>
+    requires { AreAgainst prefix.trace.now prefix.count answers.last answers.others.items answers.is_proved }
+    ensures { IfOk result (λ r. AreAgainst prefix.entry.trace.now prefix.entry.count r.answers.last r.answers.others.items r.answers.is_proved) }
+{
+    if cause == Cause::Words(WordCause::NoOrder) {
+        return ring_of(alloc, prefix, answers, limit);
+    }
+    Ok(Ring {
+        answers,
+        cycle: Vec::new(alloc),
+    })
+}
+
+/// Why the prefix has no history. Looks at no more than `limit` choices for each of the three things that are told: how
+/// many records have a history, which answers contradict each other, and which of them are on a cycle. Does work in
+/// proportion to the records.
 /// Fails where memory can't be allocated; nothing is known then.
 pub fn reasons_of(alloc: Global, case: Case<'_>, limit: u64) -> Result<Reasons, AllocError>
-    ensures explained { IfOk result (λ r. IfSome r.explained (IsExplainedBefore case.entry.searched.trace.now case.entry.searched.count)) }
+    ensures explained { IfOk result (λ r. IfSome r.before (λ b. IsExplainedBefore case.entry.searched.trace.now case.entry.searched.count b.count)) }
+    ensures next { IfOk result (λ r. IfSome r.before (λ b. b.count + 1 ≡ case.entry.searched.count)) }
+    ensures expected { IfOk result (λ r. IfSome r.before (λ b. IfSome b.expected (IsExpected case.entry.searched.trace.now b.count))) }
     ensures answers { IfOk result (λ r. IsTold case.entry.searched.trace.now case.entry.searched.count (observed case.entry.read.trace.now) case.entry.read.trace.now.records r.why) }
 {
-    let explained = explained(alloc, case.searched, limit)?;
+    let before = explained(alloc, case.searched, limit)?;
     if is_misformed(alloc, case.read)? {
         return Ok(Reasons {
-            explained,
+            before,
             why: Why::Form,
         });
     }
-    let answers = answers_against(alloc, case.searched, limit)?;
-    let cause = cause_of(alloc, case, &answers)?;
-    let Against { last, others } = answers;
+    let found = answers_against(alloc, case.searched, limit)?;
+    let cause = cause_of(alloc, case, &found)?;
+    let Ring { answers, cycle } = ring_for(alloc, case.searched, found, cause, limit)?;
+    let Against {
+        last,
+        others,
+        is_proved,
+    } = answers;
     let why = Why::Answers {
         last,
         others,
+        is_proved,
         cause,
+        cycle,
     };
-    Ok(Reasons { explained, why })
+    Ok(Reasons { before, why })
 }

@@ -2,27 +2,31 @@
 //!
 //! [`tell_none`] says which lines have no history and which have one, which answers contradict each other, and why, in
 //! a few words. It looks for that first ([`reasons_of`]) and writes then. [`tell_fault`] says on which line a text can't
-//! be read, and what was expected there. A reason is told beside the answer, of which it changes nothing.
+//! be read, and what was expected there, and [`tell_flaw`] where the form of a log is wrong. [`tell_limit`] says how far
+//! a search came that was given up. A reason is told beside the answer, of which it changes nothing.
 //!
-//! What a request puts and needs is judged by `search_effects`, as the search itself judges it.
+//! Where no word of an answer tells why, a cycle of requests may (`search_anomalies`): each acts before the next one.
+//! Nothing promises that one is found, and nothing rests on it; each of its lines follows from the log.
 #![tactic(auto)]
 
+mod asked;
 mod cases;
 mod causes;
-mod effects;
+mod cycles;
 mod faults;
 mod finding;
+mod flaws;
+mod given_up;
 mod misreplies;
-mod requests;
-mod tallies;
 mod telling;
 mod wording;
-mod words;
 
-pub use cases::{Case, Prefix};
-pub use causes::{Cause, WordCause};
+pub use cases::Case;
+pub use causes::Cause;
 pub use faults::tell_fault;
 pub use finding::{Reasons, Why, reasons_of};
+pub use flaws::tell_flaw;
+pub use given_up::{explained_of, tell_limit};
 pub use misreplies::Misreply;
+pub use search_anomalies::{Bound, Kept, Link, Prefix, Sum, Word, WordCause, core_of};
 pub use telling::tell_none;
-pub use words::Word;

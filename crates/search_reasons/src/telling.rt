@@ -3,8 +3,9 @@ ghost use Rattle.std.specs.Prelude.{List, ℕ, ◌≡◌, IfErr, OnErr, OnOk};
 ghost use Rattle.std.specs.Io.KnownBytes.{Appends, Keeps};
 ghost use Rattle.line_loop.specs.declared.fault.EngineFault.{EngineFault};
 
-use crate::cases::{Case, Prefix};
-use crate::causes::{Cause, WordCause};
+use crate::cases::Case;
+use crate::causes::Cause;
+use crate::cycles::put_cycle;
 use crate::finding::{Reasons, Why, reasons_of, records_with};
 use crate::wording::{put_cause, put_line};
 use arrayvec::ArrayString;
@@ -12,13 +13,14 @@ use history_check::{Record, Trace};
 use line_loop::{EngineFault, write_out};
 use memchr::memchr;
 use operation_text::write_reply;
+use search_anomalies::{Bound, Prefix, Sum, WordCause, wide_request};
 use std::alloc::{AllocError, Global};
 use std::io::Write;
 use text_lines::without_return;
 use trace_diagnostics::TraceLines;
 
 /// The lines of the text, by their numbers.
-fn lines_of(alloc: Global, text: &[u8]) -> Result<TraceLines, AllocError> {
+pub(crate) fn lines_of(alloc: Global, text: &[u8]) -> Result<TraceLines, AllocError> {
     let mut lines = TraceLines::new(alloc);
     let mut rest = text;
     while let Some(end) = memchr(b'\n', rest) {
@@ -164,13 +166,94 @@ fn put_answers(
     Ok(())
 }
 
+/// Adds with which reply in place of the last one the records have a history, if that is known and they were searched as
+/// they were read.
+fn put_expected(
+    out: &mut Vec<u8>,
+    lines: &TraceLines,
+    case: Case<'_>,
+    reasons: &Reasons,
+) -> Result<(), AllocError> {
+    let Some(before) = &reasons.before else {
+        return Ok(());
+    };
+    let Some(reply) = &before.expected else {
+        return Ok(());
+    };
+    if case.ends.is_some() {
+        return Ok(());
+    }
+    let (first, last) = (lines.of_record(0), lines.of_record(before.count));
+    let mut text = ArrayString::new();
+    write_reply(reply, &mut text);
+    let shown = text.as_str();
+    put_line(
+        out,
+        format_args!("with {shown} in line {last}, lines {first} to {last} have a history"),
+    )
+}
+
+/// The answers may have a history in which requests act in parts, by what is told of them. AtomicOps act as a whole
+/// there, too, and so does each DW.
+fn may_be_of_parts(cause: Cause) -> bool {
+    matches!(
+        cause,
+        Cause::Words(WordCause::Overwritten(..) | WordCause::NoOrder)
+    )
+}
+
+/// Adds which request may act in parts, if one of several DW has to do with the answers.
+fn put_wide(
+    alloc: Global,
+    out: &mut Vec<u8>,
+    lines: &TraceLines,
+    prefix: Prefix<'_>,
+    answers: &[usize],
+) -> Result<(), AllocError> {
+    let Some(submission) = wide_request(alloc, prefix, answers)? else {
+        return Ok(());
+    };
+    let line = lines.of_record(submission);
+    put_line(
+        out,
+        format_args!(
+            "line {line} has several DW, and acts as a whole: if the device acts on it in parts, give --granularity"
+        ),
+    )
+}
+
+/// The bound, by a record of the log that was read in place of one of those that were searched.
+fn bound_as_read(case: Case<'_>, bound: Bound) -> Bound {
+    match bound {
+        Bound::Most(number, record) => Bound::Most(number, case.record_with(record)),
+        Bound::Least(number, record) => Bound::Least(number, case.record_with(record)),
+    }
+}
+
+/// The cause, with records of the log that was read in place of those that were searched.
+fn words_as_read(case: Case<'_>, cause: WordCause) -> WordCause {
+    match cause {
+        WordCause::NothingPuts(word, answer) => {
+            WordCause::NothingPuts(word, case.record_with(answer))
+        }
+        WordCause::Twice(word, first, second) => {
+            WordCause::Twice(word, case.record_with(first), case.record_with(second))
+        }
+        WordCause::Overwritten(word, submission, by) => {
+            WordCause::Overwritten(word, case.record_with(submission), case.record_with(by))
+        }
+        WordCause::Sum(sum) => WordCause::Sum(Sum {
+            bound: bound_as_read(case, sum.bound),
+            ..sum
+        }),
+        other => other,
+    }
+}
+
 /// The cause, with records of the log that was read in place of those that were searched.
 fn cause_as_read(case: Case<'_>, cause: Cause) -> Cause {
     match cause {
-        Cause::Words(WordCause::Overwritten(word, submission, by)) => {
-            let (asked, over) = (case.record_with(submission), case.record_with(by));
-            Cause::Words(WordCause::Overwritten(word, asked, over))
-        }
+        Cause::Words(words) => Cause::Words(words_as_read(case, words)),
         other => other,
     }
 }
@@ -197,8 +280,8 @@ fn told(
 ) -> Result<Vec<u8>, AllocError> {
     let lines = lines_of(alloc, text)?;
     let mut out = Vec::new(alloc);
-    let explained = match reasons.explained {
-        Some(count) => Some(case.record_with(count)),
+    let explained = match &reasons.before {
+        Some(before) => Some(case.record_with(before.count)),
         None => None,
     };
     let Prefix { trace, count } = case.read;
@@ -209,10 +292,19 @@ fn told(
             last,
             others,
             cause,
+            cycle,
+            ..
         } => {
             let answers = answers_as_read(alloc, case, *last, others)?;
             put_answers(&mut out, &lines, trace, &answers)?;
-            put_cause(&mut out, &lines, &cause_as_read(case, *cause))?;
+            put_expected(&mut out, &lines, case, reasons)?;
+            if cycle.is_empty() {
+                put_cause(&mut out, &lines, trace, &cause_as_read(case, *cause))?;
+            }
+            put_cycle(&mut out, &lines, case, cycle)?;
+            if case.ends.is_none() && may_be_of_parts(*cause) {
+                put_wide(alloc, &mut out, &lines, case.read, &answers)?;
+            }
         }
     }
     Ok(out)

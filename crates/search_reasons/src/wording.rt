@@ -1,9 +1,10 @@
 //! Causes in words.
-use crate::causes::{Cause, WordCause};
+use crate::causes::Cause;
 use crate::misreplies::Misreply;
-use crate::words::Word;
 use arrayvec::ArrayString;
-use operation_text::{write_bytes, write_hexadecimal};
+use history_check::{Record, Trace};
+use operation_text::{write_bytes, write_hexadecimal, write_op};
+use search_anomalies::{Bound, Sum, Word, WordCause};
 use std::alloc::AllocError;
 use std::fmt::Display;
 use std::io::Write;
@@ -18,7 +19,7 @@ pub(crate) fn put_line<D: Display + Drop>(out: &mut Vec<u8>, line: D) -> Result<
 }
 
 /// The bytes of a word, and its address.
-fn word_text(word: &Word) -> ArrayString<512> {
+pub(crate) fn word_text(word: &Word) -> ArrayString<512> {
     let mut text = ArrayString::new();
     write_bytes(&word.shown(), &mut text);
     text.push_str(" at ");
@@ -33,11 +34,11 @@ fn address_text(address: u64) -> ArrayString<512> {
     text
 }
 
-/// Adds a line of a word.
-fn put_word(out: &mut Vec<u8>, before: &str, word: &Word, behind: &str) -> Result<(), AllocError> {
+/// Adds that nothing put the word there before a line.
+fn put_unput(out: &mut Vec<u8>, word: &Word, line: u64) -> Result<(), AllocError> {
     let text = word_text(word);
     let shown = text.as_str();
-    put_line(out, format_args!("{before}{shown}{behind}"))
+    put_line(out, format_args!("nothing put {shown} before line {line}"))
 }
 
 /// Adds that the access isn't served, and the reply to it.
@@ -60,16 +61,79 @@ fn put_served(out: &mut Vec<u8>, address: u64, bytes: usize) -> Result<(), Alloc
     )
 }
 
-/// Adds that the word was overwritten.
-fn put_overwritten(out: &mut Vec<u8>, word: &Word, by: u64, of: u64) -> Result<(), AllocError> {
+/// The operation that the record submits.
+fn op_text(trace: &Trace, place: usize) -> ArrayString<512> {
+    let mut text = ArrayString::new();
+    if let Some(Record::Sub { op, .. }) = trace.records.get(place) {
+        write_op(op, &mut text);
+    }
+    text
+}
+
+/// Adds that the word was there once, and was taken twice.
+fn put_twice(out: &mut Vec<u8>, word: &Word, first: u64, second: u64) -> Result<(), AllocError> {
     let text = word_text(word);
     let shown = text.as_str();
     put_line(
         out,
         format_args!(
-            "{shown} was overwritten (line {by}) before the request of line {of} could act"
+            "{shown} was there once, and two AtomicOps that change it were answered it (lines {first} and {second})"
         ),
     )
+}
+
+/// Adds that the word was overwritten, and by what.
+fn put_overwritten(
+    out: &mut Vec<u8>,
+    word: &Word,
+    by: u64,
+    over: &ArrayString<512>,
+    of: u64,
+) -> Result<(), AllocError> {
+    let text = word_text(word);
+    let (shown, what) = (text.as_str(), over.as_str());
+    put_line(
+        out,
+        format_args!(
+            "{shown} was overwritten (line {by}: {what}) before the request of line {of} could act"
+        ),
+    )
+}
+
+/// The bytes of the number, and their address.
+fn number_text(sum: &Sum) -> ArrayString<512> {
+    let bytes = sum.value.to_le_bytes();
+    let mut text = ArrayString::new();
+    write_bytes(bytes.get(..sum.bytes).unwrap_or(&[]), &mut text);
+    text.push_str(" at ");
+    write_hexadecimal(sum.address, &mut text);
+    text
+}
+
+/// Adds what additions make.
+fn put_sum(out: &mut Vec<u8>, lines: &TraceLines, sum: &Sum) -> Result<(), AllocError> {
+    let text = number_text(sum);
+    let (shown, value) = (text.as_str(), sum.value);
+    match sum.bound {
+        Bound::Most(most, record) => {
+            let line = lines.of_record(record);
+            put_line(
+                out,
+                format_args!(
+                    "{shown} is {value}, and all additions submitted before line {line} make {most}"
+                ),
+            )
+        }
+        Bound::Least(least, record) => {
+            let line = lines.of_record(record);
+            put_line(
+                out,
+                format_args!(
+                    "{shown} is {value}, and the additions answered before line {line} make {least}"
+                ),
+            )
+        }
+    }
 }
 
 /// Adds what is wrong with a reply.
@@ -89,34 +153,35 @@ fn put_misreply(out: &mut Vec<u8>, found: Misreply) -> Result<(), AllocError> {
 fn put_word_cause(
     out: &mut Vec<u8>,
     lines: &TraceLines,
+    trace: &Trace,
     cause: &WordCause,
 ) -> Result<(), AllocError> {
     match cause {
-        WordCause::NothingPuts(word) => put_word(out, "nothing put ", word, " before"),
-        WordCause::Twice(word) => put_word(
-            out,
-            "",
-            word,
-            " was there once, and two AtomicOps that change it were answered it",
-        ),
+        WordCause::NothingPuts(word, answer) => put_unput(out, word, lines.of_record(*answer)),
+        WordCause::Twice(word, first, second) => {
+            put_twice(out, word, lines.of_record(*first), lines.of_record(*second))
+        }
         WordCause::Overwritten(word, submission, by) => put_overwritten(
             out,
             word,
             lines.of_record(*by),
+            &op_text(trace, *by),
             lines.of_record(*submission),
         ),
+        WordCause::Sum(sum) => put_sum(out, lines, sum),
         WordCause::NoOrder => put_line(out, "no order gives these answers"),
     }
 }
 
-/// Adds the cause.
+/// Adds the cause, by the records and the lines of the log.
 pub(crate) fn put_cause(
     out: &mut Vec<u8>,
     lines: &TraceLines,
+    trace: &Trace,
     cause: &Cause,
 ) -> Result<(), AllocError> {
     match cause {
         Cause::Misreply(found) => put_misreply(out, *found),
-        Cause::Words(words) => put_word_cause(out, lines, words),
+        Cause::Words(words) => put_word_cause(out, lines, trace, words),
     }
 }

@@ -5,7 +5,7 @@ ghost use Rattle.search_run.specs.Frames.{IsAt};
 ghost use Rattle.search_run.specs.Outcomes.{IsRun, IsRight};
 
 use crate::walk::{Walk, advance, begin, settle};
-use crate::watching::{Unwatched, Watch};
+use crate::watching::{Spot, Unwatched, Watch};
 use log_runs::{Log, Step};
 use search_forced::{Catalog, Way, catalog_of};
 use std::alloc::{AllocError, Global};
@@ -82,6 +82,16 @@ struct Tries<'w, W> {
     watch: &'w mut W,
 }
 
+/// How far the search is.
+fn spot_of(walk: &Walk) -> Spot {
+    Spot {
+        event: walk.here.event(),
+        open: walk.here.pending().len(),
+        range: None,
+        work: walk.work,
+    }
+}
+
 /// Goes on from the start of the log, at no more than the limit of choices.
 fn choose<W: Watch>(
     walk: &mut Walk,
@@ -104,7 +114,7 @@ fn choose<W: Watch>(
         if walk.work == 0 {
             return Ok(explored(Outcome::Limit, limit, walk));
         }
-        watch.choice();
+        watch.choice(spot_of(walk));
         if !advance(walk, alloc, log, catalog)? {
             return Ok(explored(Outcome::Dead, states + 1, walk));
         }

@@ -19,4 +19,4 @@ mod watching;
 
 pub use exploring::{Bounds, Exploration, Outcome, explore, explore_watched};
 pub use search_forced::Way;
-pub use watching::{Unwatched, Watch};
+pub use watching::{Spot, Unwatched, Watch};

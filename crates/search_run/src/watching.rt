@@ -1,9 +1,22 @@
 //! How far a search is, seen while it goes on.
 
+/// How far a search is, at a choice.
+#[derive(Clone, Copy, Debug, PartialEq, Eq)]
+pub struct Spot {
+    /// How many events of the log were passed.
+    pub event: usize,
+    /// How many requests were submitted and haven't acted.
+    pub open: usize,
+    /// The addresses where the cells begin and end that are searched alone, if some are.
+    pub range: Option<(u64, u64)>,
+    /// How much work is left.
+    pub work: u64,
+}
+
 /// Sees how far a search is.
 pub trait Watch {
     /// One choice more is looked at.
-    fn choice(&mut self);
+    fn choice(&mut self, spot: Spot);
 }
 
 /// Sees nothing.
@@ -11,5 +24,5 @@ pub trait Watch {
 pub struct Unwatched;
 
 impl Watch for Unwatched {
-    fn choice(&mut self) {}
+    fn choice(&mut self, _spot: Spot) {}
 }

@@ -4,6 +4,12 @@
 #[cfg(test)]
 mod choices;
 #[cfg(test)]
+mod cores;
+#[cfg(test)]
+mod flaws;
+#[cfg(test)]
+mod given_up;
+#[cfg(test)]
 mod pieces;
 #[cfg(test)]
 mod progress;

@@ -127,7 +127,10 @@ fn told(alloc: Global, row: &Row) -> Result<bool, Fail> {
     match search(alloc, &mut trace, 1000)? {
         (Sought::Found(_), _) => Ok(row.none.is_none()),
         (Sought::None { prefix }, _) => {
-            let explained = explained_before(alloc, &trace, prefix, 1000)?;
+            let explained = match explained_before(alloc, &trace, prefix, 1000)? {
+                Some(before) => Some(before.count),
+                None => None,
+            };
             Ok(row.none == Some((prefix, explained)))
         }
         (Sought::Limit, _) => Ok(false),

@@ -258,7 +258,7 @@ static ROWS: [Row; 36] = [
         name: "number skipped",
         text: "pciex-log 1\nmemory 0 4096 64\nsub 1 1 read 40 1 F 0\nend\n",
         limit: 1000,
-        output: "none 0\n",
+        output: "flaw 1 Numbering 0\n",
         status: 1,
     },
     Row {

@@ -1,6 +1,6 @@
 use Rattle.std.proofs.Common.{◌≡◌, drop}
 use Rattle.std.specs.List.{list_all}
-use Rattle.log_pieces.specs.Pieces.{is_served}
+use Rattle.op_pieces.specs.Pieces.{is_served}
 use Rattle.log_pieces.proofs.cutting.are_served.Given as goal
 
 abbrev pub invariant-loop-op : goal.invariant-loop-op

@@ -10,15 +10,15 @@ use Rattle.log_pieces.specs.Pieces.{pieces}
 use Rattle.log_pieces.specs.InPieces.{in_pieces, cut_log, split_all, IsExplainableIn}
 use Rattle.log_pieces.proofs.Explained.{records_in_pieces, all_entries, explained_in_pieces, clocked_in_pieces, Sized}
 use Rattle.log_pieces.proofs.Alike.{alike_in_pieces, by_number}
-use Rattle.log_pieces.proofs.PieceLemmas.{cuts, Reads}
+use Rattle.log_pieces.proofs.PieceLemmas.{cuts, ActTogether}
 use Rattle.log_pieces.proofs.laws.whole_requests_are_right_in_pieces.Goals as goal
 
-in_cut : (sized : Sized) (law : Reads) (bytes : ℕ) (t : TraceView) → IsExplainable t → IsExplainable (cut_log bytes t)
+in_cut : (sized : Sized) (law : ActTogether) (bytes : ℕ) (t : TraceView) → IsExplainable t → IsExplainable (cut_log bytes t)
 in_cut sized law bytes t (u, h, alike, explained, clocked) =
     let x = observed u in
     let p = pieces bytes x in
     let rs = records_in_pieces p u.records h in
-    let all = cuts x sized law bytes in (
+    let all = cuts x law bytes in (
       record { base = u.base; size = u.size; block = u.block; records = rs },
       all_entries p (submissions u.records) h,
       record { base = alike.base; size = alike.size; block = alike.block; records = same t u h alike explained bytes },
@@ -34,7 +34,7 @@ in_cut sized law bytes t (u, h, alike, explained, clocked) =
         ∙ alike_in_pieces (pieces bytes (observed u)) t.records u.records alike.records
         ∙ by_number (observed u) (pieces bytes (observed u)) u.records h explained
 
-by_size : (sized : Sized) (law : Reads) (size : Granularity) (t : TraceView) → IsExplainable t → IsExplainableIn size t
+by_size : (sized : Sized) (law : ActTogether) (size : Granularity) (t : TraceView) → IsExplainable t → IsExplainableIn size t
 unfolding in_pieces
 by_size sized law sizes.Four t e = in_cut sized law 4 t e
 by_size sized law sizes.Eight t e = in_cut sized law 8 t e
@@ -43,4 +43,6 @@ by_size sized law sizes.SixtyFour t e = in_cut sized law 64 t e
 by_size sized law sizes.Whole t e = e
 
 pub returns : goal.returns
-returns c = by_size c.only_the_place_changes.ensures.size c.refused_and_read_change_nothing.ensures.reads
+returns c =
+    let law = c.pieces_act_as_their_request.ensures in
+    by_size c.only_the_place_changes.ensures.size (record { posted = law.posted; acts = law.acts; still = law.still; replied = law.replied })

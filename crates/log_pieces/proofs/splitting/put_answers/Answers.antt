@@ -1,9 +1,9 @@
 use Rattle.std.proofs.Common.{◌≡◌, ◌∙◌, ◌-◌, ◌≤◌, ◌++◌, ◌∷◌, [], List, length, drop, ap, sym, arith}
 use Rattle.std.proofs.lemmas.Bool.Decides.{nat_tests}
 use Rattle.seq_memory.specs.declared.Reply.{Reply}
-use Rattle.log_pieces.specs.Pieces.{parts}
+use Rattle.op_pieces.specs.Pieces.{parts}
 use Rattle.log_pieces.specs.InPieces.{answers}
-use Rattle.log_pieces.proofs.CutLemmas.{last_part}
+use Rattle.log_pieces.proofs.PieceLemmas.{last_part}
 use Rattle.log_pieces.proofs.splitting.put_answers.Goals as goal
 
 pub returns : goal.returns

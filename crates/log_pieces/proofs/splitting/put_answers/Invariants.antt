@@ -1,5 +1,5 @@
 use Rattle.std.proofs.Common.{◌≡◌, ◌++◌, drop}
-use Rattle.log_pieces.specs.Pieces.{parts}
+use Rattle.op_pieces.specs.Pieces.{parts}
 use Rattle.log_pieces.specs.InPieces.{answers}
 use Rattle.log_pieces.proofs.splitting.put_answers.Given as goal
 

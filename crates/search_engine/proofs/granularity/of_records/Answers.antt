@@ -6,8 +6,8 @@ use Rattle.search_engine.specs.Findings.{AreUnexplained, IsFindingOf}
 use Rattle.search_engine.proofs.SizeLemmas.{unexplained, of_log}
 use Rattle.search_engine.proofs.granularity.of_records.Goals as goal
 
-pub returns-after-branch-3 : goal.returns-after-branch-3
-returns-after-branch-3 c =
+pub returns-in_ok-pieces-in-None : goal.returns-in_ok-pieces-in-None
+returns-in_ok-pieces-in-None c =
     let t = c.args.trace in
     let dead : AreUnexplained Whole (in_pieces c.args.granularity t) c.in-None.count = subst (λ (f : Finding). IsFindingOf Whole (in_pieces c.args.granularity t) f) c.in-None.is c.requires in
     record {

@@ -1,4 +1,4 @@
-use Rattle.std.proofs.Common.{◌≡◌, ℕ, List, [], subst, sym}
+use Rattle.std.proofs.Common.{ℕ, false, List, [], subst, sym}
 use Rattle.history_check.specs.TraceView.{TraceView}
 use Rattle.history_check.specs.Claim.{claim_of}
 use Rattle.trace_text.specs.Tellable.{IsTellable}
@@ -11,7 +11,7 @@ use Rattle.search_engine.proofs.AnsweredLemmas.{Answered, answered}
 use Rattle.search_engine.proofs.laws.what_is_answered_is_ok.Goals as goal
 
 found : (limit : ℕ) (input text : List ℕ) → OutSearch limit input text 0 → Answered Whole (seen_of input) text
-found limit input text answer = answered Whole limit (seen_of input) text answer
+found limit input text answer = answered false Whole limit (seen_of input) text answer
 
 told : (c : goal.After-what_is_found_is_ok) → (input text : List ℕ) (a : Answered Whole (seen_of input) text) → IsTellable (claim_of (in_pieces Whole a.log) [])
 told c input text a = subst (λ (t : TraceView). IsTellable (claim_of t [])) (sym (whole_is a.log)) (c.what_is_seen_can_be_told.ensures input a.log a.read)

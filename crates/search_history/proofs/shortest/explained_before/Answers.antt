@@ -4,8 +4,8 @@ use Rattle.log_runs.specs.Tasks.{IsWellFormed}
 use Rattle.search_history.proofs.Runs.{well_formed, formed_if}
 use Rattle.search_history.proofs.shortest.explained_before.Goals as goal
 
-pub is_explainable-requires-clause-formed : goal.is_explainable-requires-clause-formed
-is_explainable-requires-clause-formed c =
+pub run_of-requires-clause-formed : goal.run_of-requires-clause-formed
+run_of-requires-clause-formed c =
     let count = c.in-Some.count in
     let same : c.deref.result.now ≡ c.args.trace.now.records = c.deref.ensures.value ∙ ap (λ (v : TraceView). v.records) c.trace.view_is in
     subst (λ rs. IsWellFormed (take count rs)) same

@@ -1,0 +1,18 @@
+use Rattle.std.proofs.Common.{◌≡◌, ◌∙◌, ℕ, length, sym, ap, Some}
+use Rattle.std.specs.Prelude.{Option, option_map, slice_get}
+use Rattle.std.proofs.lemmas.Result.{IfOk-weaker}
+use Rattle.tlp_core.specs.declared.operation.Op.{Op}
+use Rattle.log_pieces.specs.declared.rows.Request.{Request}
+use Rattle.log_pieces.specs.Pieces.{pieces}
+use Rattle.log_pieces.specs.InPieces.{answers_by}
+use Rattle.log_pieces.proofs.EndLemmas.{some_answers}
+use Rattle.log_pieces.proofs.counting.count_answer.Goals as goal
+
+pub returns-in-Some : goal.returns-in-Some
+returns-in-Some c =
+    let p = pieces c.args.cut.now.bytes c.args.cut.now.extent in
+    let request = c.in-Some.request in
+    let there : slice_get c.args.row.now.requests c.args.number ≡ Some (request.number, request.op.now) =
+    sym c.request.ensures ∙ ap (option_map (λ (r : Request). (r.number, r.op.now))) c.in-Some.is in
+    IfOk-weaker c.count.result _ _ (λ count counted i next n reply.
+    counted ∙ sym (some_answers p request.number request.op.now i next n reply) ∙ ap (λ (o : Option (ℕ × Op)). length (answers_by p o i next n reply)) (sym there)) c.count.ensures

@@ -1,0 +1,147 @@
+//! The text of a short log that has no history, made of few answers of a long one.
+ghost use Rattle.std.specs.Prelude.{◌≡◌, true, IfOk, IfSome};
+ghost use Rattle.search_engine.specs.Findings.{IsNoneFinding};
+ghost use Rattle.search_engine.specs.Search.{IsUnexplainedText};
+
+use crate::answering::Finding;
+use crate::options::SearchDemand;
+use crate::telling::case_of;
+use arrayvec::ArrayString;
+use history_check::{Record, Trace};
+use log_text::read_seen;
+use operation_text::{write_hexadecimal, write_op, write_reply};
+use search_history::{Bounds, Sought, Unwatched, search_watched};
+use search_reasons::{Case, Kept, Why, core_of, reasons_of};
+use std::alloc::{AllocError, Global};
+use std::fmt::Display;
+use std::io::Write;
+
+/// Adds a line.
+fn put_line<D: Display + Drop>(out: &mut Vec<u8>, line: D) -> Result<(), AllocError> {
+    match writeln!(out, "{line}") {
+        Ok(()) => Ok(()),
+        Err(_) => Err(AllocError),
+    }
+}
+
+/// Adds the head of a log.
+fn put_head(out: &mut Vec<u8>, trace: &Trace) -> Result<(), AllocError> {
+    let extent = trace.extent;
+    let mut text = ArrayString::new();
+    write_hexadecimal(extent.base(), &mut text);
+    let (base, size, block) = (text.as_str(), extent.size(), extent.block());
+    put_line(
+        out,
+        format_args!("pciex-log 1\nmemory {base} {size} {block}"),
+    )
+}
+
+/// Adds the line of a record that is kept.
+fn put_kept(out: &mut Vec<u8>, trace: &Trace, kept: Kept) -> Result<(), AllocError> {
+    let number = kept.number;
+    let mut text = ArrayString::new();
+    match trace.records.get(kept.place) {
+        Some(Record::Sub { requester, op, .. }) => {
+            write_op(op, &mut text);
+            let shown = text.as_str();
+            put_line(out, format_args!("sub {requester} {number} {shown}"))
+        }
+        Some(
+            Record::Ans {
+                requester,
+                reply,
+                ..
+            },
+        ) => {
+            write_reply(reply, &mut text);
+            let shown = text.as_str();
+            put_line(out, format_args!("ans {requester} {number} {shown}"))
+        }
+        None => Ok(()),
+    }
+}
+
+/// The text of a log of these answers, and of the requests that have to do with them.
+fn text_of_few(alloc: Global, case: Case<'_>, answers: &[usize]) -> Result<Vec<u8>, AllocError> {
+    let trace = case.searched.trace;
+    let kept = core_of(alloc, case.searched, answers)?;
+    let mut out = Vec::new(alloc);
+    put_head(&mut out, trace)?;
+    for record in kept.as_slice() {
+        put_kept(&mut out, trace, *record)?;
+    }
+    put_line(&mut out, format_args!("end"))?;
+    Ok(out)
+}
+
+/// The text of a log of few answers that may have no history.
+fn few_of(alloc: Global, case: Case<'_>, limit: u64) -> Result<Option<Vec<u8>>, AllocError> {
+    let reasons = reasons_of(alloc, case, limit)?;
+    let Why::Answers { last, others, .. } = &reasons.why else {
+        return Ok(None);
+    };
+    let mut answers = Vec::new(alloc);
+    answers.extend_from_slice(others)?;
+    answers.push(*last)?;
+    let text = text_of_few(alloc, case, &answers)?;
+    Ok(Some(text))
+}
+
+/// No history explains the log of the text, as far as that is found out.
+fn is_unexplained(alloc: Global, text: &[u8], demand: SearchDemand) -> Result<bool, AllocError>
+    ensures { IfOk result (λ yes. yes ≡ true → IsUnexplainedText text.now) }
+{
+    let Ok(mut log) = read_seen(alloc, text) else {
+        return Ok(false);
+    };
+    let bounds = Bounds {
+        choices: demand.options.limit,
+        work: demand.work,
+    };
+    match search_watched(alloc, &mut log, bounds, &mut Unwatched)? {
+        (Sought::None { .. }, _) => Ok(true),
+        _ => Ok(false),
+    }
+}
+
+/// The text, if no history explains its log.
+fn confirmed(
+    alloc: Global,
+    text: Option<Vec<u8>>,
+    demand: SearchDemand,
+) -> Result<Option<Vec<u8>>, AllocError>
+    ensures { IfOk result (λ o. IfSome o (λ v. IsUnexplainedText v.items)) }
+{
+    let Some(text) = text else {
+        return Ok(None);
+    };
+    if is_unexplained(alloc, &text, demand)? {
+        return Ok(Some(text));
+    }
+    Ok(None)
+}
+
+/// The text of a log of few answers that no history explains, if it is asked for, the log that was read has none, and one
+/// is found.
+pub(crate) fn core_text(
+    alloc: Global,
+    finding: &Finding,
+    demand: SearchDemand,
+) -> Result<Option<Vec<u8>>, AllocError>
+    ensures unexplained { IfOk result (λ o. IfSome o (λ v. IsUnexplainedText v.items)) }
+    ensures asked { IfOk result (λ o. IfSome o (λ v. demand.has_core ≡ true)) }
+    ensures none { IfOk result (λ o. IfSome o (λ v. IsNoneFinding finding.now)) }
+{
+    match finding {
+        Finding::None {
+            trace,
+            prefix,
+            pieces,
+        } if demand.has_core => {
+            let text = few_of(alloc, case_of(trace, *prefix, pieces), demand.options.limit)?;
+            let found = confirmed(alloc, text, demand)?;
+            Ok(found)
+        }
+        _ => Ok(None),
+    }
+}

@@ -1,0 +1,100 @@
+//! How far a search came that was given up.
+ghost use Rattle.std.specs.Prelude.{List, ℕ, ◌<◌, ◌≡◌, IfErr, IfOk, OnErr, OnOk};
+ghost use Rattle.std.specs.Io.KnownBytes.{Appends, Keeps};
+ghost use Rattle.log_runs.specs.Explainable.{IsExplainable, prefix as first};
+ghost use Rattle.line_loop.specs.declared.fault.EngineFault.{EngineFault};
+
+use crate::cases::Case;
+use crate::telling::lines_of;
+use crate::wording::put_line;
+use arrayvec::ArrayString;
+use line_loop::{EngineFault, write_out};
+use operation_text::write_hexadecimal;
+use search_anomalies::Prefix;
+use search_history::{Spot, is_explained};
+use std::alloc::{AllocError, Global};
+use std::io::Write;
+use trace_diagnostics::TraceLines;
+
+/// How many prefixes are searched for a history, at most.
+const SEARCHES: u32 = 4;
+
+/// How many of the first `count` records a history explains, as far as that is found: all, or a half of them, and so on.
+pub fn explained_of(alloc: Global, prefix: Prefix<'_>, limit: u64) -> Result<usize, AllocError>
+    ensures { IfOk result (λ n. 0 < n → IsExplainable (first n prefix.entry.trace.now)) }
+{
+    let trace = prefix.trace;
+    let mut count = prefix.count.min(trace.records.len());
+    for _search in 0..SEARCHES {
+        if count > trace.records.len() {
+            return Ok(0);
+        }
+        if is_explained(alloc, trace, count, limit)? {
+            return Ok(count);
+        }
+        count /= 2;
+    }
+    Ok(0)
+}
+
+/// The bytes that were searched alone.
+fn range_text(range: Option<(u64, u64)>) -> ArrayString<512> {
+    let mut text = ArrayString::new();
+    if let Some((low, high)) = range {
+        text.push_str(" of the bytes ");
+        write_hexadecimal(low, &mut text);
+        text.push_str(" to ");
+        write_hexadecimal(high.saturating_sub(1), &mut text);
+    }
+    text
+}
+
+/// Adds how far the search came, and which lines have a history.
+fn put_given_up(
+    out: &mut Vec<u8>,
+    lines: &TraceLines,
+    line: u64,
+    spot: Spot,
+    known: usize,
+) -> Result<(), AllocError> {
+    let text = range_text(spot.range);
+    let (shown, open) = (text.as_str(), spot.open);
+    put_line(
+        out,
+        format_args!("given up at line {line}{shown} (open requests: {open})"),
+    )?;
+    match known.checked_sub(1) {
+        Some(last) => {
+            let (first, end) = (lines.of_record(0), lines.of_record(last));
+            put_line(out, format_args!("lines {first} to {end} have a history"))
+        }
+        None => Ok(()),
+    }
+}
+
+/// Tells how far a search came that was given up: the line of the farthest record that it came to, how many requests were
+/// submitted there and hadn't acted, and which of the lines before have a history, as far as that is found out, which takes
+/// no more than `limit` choices. Nothing is written if memory can't be allocated.
+pub fn tell_limit<E: Write>(
+    alloc: Global,
+    text: &[u8],
+    case: Case<'_>,
+    spot: Spot,
+    limit: u64,
+    errors: &mut E,
+) -> Result<(), EngineFault>
+    ensures ok { OnOk result ((lines : List ℕ) × Appends (E.contents errors.old) (E.contents errors.new) lines) }
+    ensures memory { IfErr result (λ f. f ≡ EngineFault.Memory → Keeps (E.contents errors.old) (E.contents errors.new)) }
+    ensures part { OnErr result ((lines : List ℕ) × Appends (E.contents errors.old) (E.contents errors.new) lines) }
+{
+    let before = Prefix {
+        trace: case.searched.trace,
+        count: spot.event,
+    };
+    let explained = explained_of(alloc, before, limit)?;
+    let lines = lines_of(alloc, text)?;
+    let mut out = Vec::new(alloc);
+    let line = lines.of_record(case.record_with(spot.event));
+    put_given_up(&mut out, &lines, line, spot, case.record_with(explained))?;
+    write_out(errors, &out)
+}
