@@ -1,9 +1,12 @@
 #!/bin/sh
-# Builds the library for C, compiles and runs the examples and compares what they print with the files of examples/; then
-# the examples under valgrind, the Rust wrapper's tests, the Python package, the SystemVerilog and SystemC testbenches,
-# the device in QEMU with the dissector of its packets, and what the pages show. If PCIEX_C names a folder with
-# libpciex_c.a, it takes that archive and builds none; KIT_C can name the folder of the toolchain's liblibc_c.a. Its last
-# line lists what it left out because a tool is missing. Fails if one of them fails.
+# Builds the library for C, compares its functions with the header's, compiles and runs the examples and compares what they
+# print with the files of examples/; then the examples under valgrind, the Rust wrapper's tests, the Python package, the
+# SystemVerilog and SystemC testbenches, the device in QEMU with the dissector of its packets, and what the pages show. If
+# PCIEX_C names a folder with libpciex_c.a, it takes that archive and builds none; KIT_C can name the folder of the
+# toolchain's liblibc_c.a. Over an optimized build of plain Rust it leaves out valgrind and the Rust wrapper
+# (docs/plain-rust.md says why). Its last line lists what it left out, for this or since a tool is missing. Fails if one of
+# them fails.
+unset CDPATH
 cd "$(dirname "$0")/.." || exit 1
 say() { echo "library for C: $*"; }
 if command -v rt > /dev/null; then
@@ -16,6 +19,7 @@ if ! command -v cc > /dev/null || [ -z "${PCIEX_C:-$home}" ] || [ -z "$KIT_C" ];
 fi
 room=$(mktemp -d) || exit 1
 trap 'rm -rf "$room"' EXIT
+trap 'exit 1' HUP INT TERM
 folder=$(realpath "${PCIEX_C:-crates/pciex_c/out}")
 kit=$(realpath "$KIT_C")
 
@@ -52,6 +56,7 @@ fi
 runs=0
 failed=0
 left_out=
+sh c/prototypes.sh "$folder/libpciex_c.a" || failed=1
 
 # wants WHAT STATUS OUTPUT INPUT WORD..: whether a run on the input has this exit status and prints this file.
 wants() {
@@ -94,7 +99,7 @@ has_tool() {
     return 1
 }
 
-for name in device history fabric check search differ monitor; do
+for name in device history fabric script check search fields differ monitor crc endpoint; do
     if ! cc -Wall -Wextra -Werror -std=c99 -O2 -o "$room/$name" c/examples/$name.c "$folder/libpciex_c.a" "$kit/liblibc_c.a"; then
         say "examples/$name.c isn't compiled and linked"
         exit 1
@@ -113,20 +118,31 @@ fi
 examples() {
     wants "device on packets.txt" 0 examples/packets.out examples/packets.txt "$@" "$room/device"
     wants "history" 0 "$room/history.out" /dev/null "$@" "$room/history"
+    wants "fields" 0 c/examples/fields.out /dev/null "$@" "$room/fields"
     wants "differ" 0 c/examples/differ.out /dev/null "$@" "$room/differ"
+    wants "crc" 0 c/examples/crc.out /dev/null "$@" "$room/crc"
     wants "monitor" 0 c/examples/monitor.out /dev/null "$@" "$room/monitor"
+    wants "endpoint" 0 c/examples/endpoint.out /dev/null "$@" "$room/endpoint"
     wants "fabric on lost_ack.txt" 0 examples/lost_ack.out examples/lost_ack.txt "$@" "$room/fabric"
     [ $# -gt 0 ] || tells "fabric on lost_ack.txt" "2 in the history, quiet, explained"
-    for name in write_passes_read credits stopped_link; do
+    for name in first_script write_passes_read credits stopped_link; do
         wants "fabric on $name.txt" 0 examples/$name.out examples/$name.txt "$@" "$room/fabric"
     done
     wants "fabric on credits_used_up.txt" 1 examples/credits_used_up.out examples/credits_used_up.txt "$@" "$room/fabric"
+    for name in lost_ack write_passes_read credits stopped_link; do
+        wants "script on $name.txt" 0 examples/$name.out examples/$name.txt "$@" "$room/script"
+    done
+    wants "script on credits_used_up.txt" 1 examples/credits_used_up.out examples/credits_used_up.txt "$@" "$room/script"
     wants "check on trace.txt" 0 "$room/ok" examples/trace.txt "$@" "$room/check"
     wants "check on a trace with a wrong reply" 1 "$room/flaw" "$room/flawed" "$@" "$room/check"
     wants "check on stale_read.txt" 0 "$room/ok" examples/stale_read.txt "$@" "$room/check"
     wants "check on stale_read.txt, clocked" 1 "$room/clock" examples/stale_read.txt "$@" "$room/check" --clocked
     wants "search on a log" 0 "$room/found" "$room/log" "$@" "$room/search"
     wants "search on a log with a wrong reply" 1 "$room/none" "$room/lie" "$@" "$room/search"
+    wants "search on a torn read" 1 "$room/none_2" "$room/torn" "$@" "$room/search"
+    wants "search on a torn read in pieces" 0 "$room/pieces" "$room/torn" "$@" "$room/search" 4
+    wants "search in pieces of 5 bytes" 2 "$room/wrong" "$room/torn" "$@" "$room/search" 5
+    wants "search on no log" 1 "$room/head" /dev/null "$@" "$room/search"
 }
 printf '16 16 bytes, 2 entries\n1 0 add 40 07000000\n1 1 read 40 1 F 0\n7 at 40h\n' > "$room/history.out"
 echo ok > "$room/ok"
@@ -135,29 +151,87 @@ printf 'pciex-log 1\nmemory 0 4096 64\nsub 1 0 add 40 07000000\nans 1 0 data 000
 sed 's/data 00/data 07/' "$room/log" > "$room/lie"
 printf 'pciex-trace 2\nmemory 0 4096 64\nsub 1 0 0 add 40 07000000\nans 1 0 1 data 00000000\nhistory\nent 1 0 add 40 07000000\nend\n' > "$room/found"
 echo "none 1" > "$room/none"
+echo "none 2" > "$room/none_2"
+echo "fault 1 Head" > "$room/head"
+echo "code 2012" > "$room/wrong"
+printf 'pciex-log 1\nmemory 0 4096 64\nsub 1 0 write 40 F F 0100000002000000\nsub 2 0 read 40 2 F F\n' > "$room/torn"
+printf 'ans 2 0 data 0000000002000000\nend\n' >> "$room/torn"
+printf 'pciex-trace 2\nmemory 0 4096 64\nsub 1 0 0 write 40 F 0 01000000\nsub 1 1 0 write 44 F 0 02000000\n' > "$room/pieces"
+printf 'sub 2 0 0 read 40 1 F 0\nsub 2 1 1 read 44 1 F 0\nans 2 0 1 data 00000000\nans 2 1 4 data 02000000\n' >> "$room/pieces"
+printf 'history\nent 2 0 read 40 1 F 0\nent 1 0 write 40 F 0 01000000\nent 1 1 write 44 F 0 02000000\n' >> "$room/pieces"
+printf 'ent 2 1 read 44 1 F 0\nend\n' >> "$room/pieces"
 echo "flaw 10 Reply 2" > "$room/flaw"
 sed 's/^ans 1 0 2 data 01020304/ans 1 0 2 data 00000000/' examples/trace.txt > "$room/flawed"
 examples
 
-# Large inputs: a fabric takes 100,486 lines and prints what the program prints; a trace of a memory of 1 MiB is checked.
-awk -v rounds=99 -f bench/script.awk > "$room/script"
+# What a search says on standard error is what the program says there.
 if [ -x crates/pciex/out/pciex ]; then
-    crates/pciex/out/pciex step < "$room/script" > "$room/results"
-    wants "fabric on $(wc -l < "$room/script") lines" 0 "$room/results" "$room/script" "$room/fabric"
+    for log in log lie torn; do
+        crates/pciex/out/pciex search < "$room/$log" > "$room/answer" 2> "$room/reasons"
+        wants "search on $log" $? "$room/answer" "$room/$log" "$room/search"
+        tells "search on $log" "$(cat "$room/reasons")"
+    done
+else
+    left_out="$left_out, the reasons of a search"
+fi
+
+# Large inputs: a fabric takes 100,486 lines and prints what the program prints; a trace of a memory of 1 MiB is checked.
+awk -v rounds=99 -f bench/script.awk > "$room/long_script"
+if [ -x crates/pciex/out/pciex ]; then
+    crates/pciex/out/pciex step < "$room/long_script" > "$room/results"
+    wants "fabric on $(wc -l < "$room/long_script") lines" 0 "$room/results" "$room/long_script" "$room/fabric"
 else
     left_out="$left_out, the fabric on a long script"
 fi
 sh scripts/large_inputs.sh "$room"
 echo "flaw 10 Reply 100000" > "$room/far_flaw"
+echo "fault 100 Line" > "$room/far_fault"
+sed '100s/.*/no line/' "$room/explained_trace" > "$room/faulty_trace"
+wants "check on a fault in line 100" 1 "$room/far_fault" "$room/faulty_trace" "$room/check"
 wants "check on 1 MiB" 0 "$room/ok" "$room/explained_trace" "$room/check"
 wants "check on a wrong reply at place 100,000" 1 "$room/far_flaw" "$room/flawed_trace" "$room/check"
 
-if has_tool valgrind "the examples, the Python package and the DPI functions under valgrind"; then
+# An optimized build of plain Rust: its archive has Rust's library, and not as a part of its own.
+optimized=
+case $(ar t "$folder/libpciex_c.a" 2> /dev/null | grep '^std-\|^compiler_builtins-') in
+    *std-*) ;;
+    compiler_builtins-*) optimized=1 ;;
+esac
+valgrind=
+under="the examples, the Python package and the DPI functions under valgrind"
+if [ -n "$optimized" ]; then
+    left_out="$left_out, $under (the archive is optimized)"
+elif has_tool valgrind "$under"; then
+    valgrind=1
     examples valgrind -q --error-exitcode=99 --leak-check=full
 fi
 
+# An endpoint under a root complex apart from the library, with each allocation refused, and as lspci sees it.
+# endpoint_test NAME WORD..: compiles endpoint/NAME.c, linked with these words, and runs it.
+endpoint_test() {
+    name=$1
+    shift
+    passes "endpoint/$name.c isn't compiled and linked" cc -Wall -Wextra -Werror -std=c99 -O2 -o "$room/$name" \
+        "c/endpoint/$name.c" "$folder/libpciex_c.a" "$kit/liblibc_c.a" "$@"
+    wants "$name" 0 "c/endpoint/$name.out" /dev/null "$room/$name"
+    [ -z "$valgrind" ] || wants "$name under valgrind" 0 "c/endpoint/$name.out" /dev/null \
+        valgrind -q --error-exitcode=99 --leak-check=full "$room/$name"
+}
+endpoint_test root_complex
+endpoint_test refused_memory -Wl,--wrap=malloc,--wrap=calloc,--wrap=realloc,--wrap=posix_memalign
+if lspci --version 2> /dev/null | grep -q ' 3\.9'; then
+    "$room/root_complex" dump > "$room/registers"
+    wants "lspci on the registers" 0 c/endpoint/lspci.out /dev/null lspci -n -vvv -F "$room/registers"
+else
+    left_out="$left_out, the registers of an endpoint (lspci 3.9)"
+fi
+
 export PCIEX_C="$folder" KIT_C="$kit" CARGO_TARGET_DIR="$room/target" PYTHONDONTWRITEBYTECODE=1
-if has_tool cargo "the Rust wrapper"; then
+rust_wrapper=
+if [ -n "$optimized" ]; then
+    left_out="$left_out, the Rust wrapper (the archive is optimized)"
+elif has_tool cargo "the Rust wrapper"; then
+    rust_wrapper=1
     passes "the Rust wrapper's tests fail" sh -c 'cd c/rust && cargo test --offline --locked -q'
 fi
 
@@ -189,7 +263,7 @@ if has_tool python3 "the Python package"; then
     passes "the Python package's tests fail" "$python" -m unittest discover -s c/python/tests
     wants "check.py on trace.txt" 0 "$room/ok" examples/trace.txt "$python" c/python/examples/check.py
     wants "check.py on a trace with a wrong reply" 1 "$room/flaw" "$room/flawed" "$python" c/python/examples/check.py
-    if command -v valgrind > /dev/null; then
+    if [ -n "$valgrind" ]; then
         passes "valgrind finds something in the Python package's library" python_under_valgrind
     fi
 fi
@@ -206,7 +280,7 @@ long_testbench() {
 if has_tool verilator "SystemVerilog (verilator)"; then
     passes "the SystemVerilog testbench fails" make -C c/sv/test "OUT=$room/sv"
     long_testbench
-    if command -v valgrind > /dev/null; then
+    if [ -n "$valgrind" ]; then
         passes "valgrind finds something in the DPI functions" sh -c "cd '$room/sv' && valgrind -q --error-exitcode=99 \
             --leak-check=full calls/calls"
     fi
@@ -295,6 +369,17 @@ block use-from-c.md "## A device that answers" c > "$room/first.c"
 echo "16 bytes, the word is 7" > "$room/first.out"
 build_hook first.c cc -std=c99
 wants "the first program of use-from-c.md" 0 "$room/first.out" /dev/null "$room/first"
+block bring-it-up.md "## A session in C" c > "$room/session.c"
+awk '/^## / { on = $0 == "## A session in C" } on && /^[0-9A-F]+$/' docs/bring-it-up.md > "$room/session.out"
+build_hook session.c cc -std=c99
+wants "the session of bring-it-up.md" 0 "$room/session.out" /dev/null "$room/session"
+block qemu.md "## Your own emulator" c > "$room/emulator.c"
+build_hook emulator.c cc -std=gnu11 -Ic/qemu c/qemu/ports.c c/qemu/records.c
+echo 33445566 > "$room/emulator.out"
+mkdir "$room/emulated"
+wants "the emulator of qemu.md" 0 "$room/emulator.out" /dev/null sh -c "cd '$room/emulated' && ../emulator"
+wants "check on the emulator's trace" 0 "$room/ok" "$room/emulated/trace" "$room/check"
+passes "search finds no history for the emulator's log" sh -c "'$room/search' < '$room/emulated/log'"
 with_hook hook.c C c > "$room/hook_c.c"
 build_hook hook_c.c cc -std=c99
 finds C "$room/hook_c"
@@ -303,7 +388,7 @@ if command -v c++ > /dev/null; then
     build_hook hook_cpp.cpp c++ -std=c++17
     finds C++ "$room/hook_cpp"
 fi
-if command -v cargo > /dev/null; then
+if [ -n "$rust_wrapper" ]; then
     passes "the hook in Rust isn't compiled" rust_hook
     finds Rust "$CARGO_TARGET_DIR/debug/hook"
 fi

@@ -13,8 +13,9 @@
  *                  of bytes of its text in the buffer
  *   from 2000 on   an argument that can't be right, or out of memory: one of the codes below
  *
- * From 1000 on nothing has changed, but for that text, and for the length that pciex_fabric_trace and pciex_search
- * return.
+ * From 1000 on nothing has changed, but for that text, for the lengths that pciex_fabric_trace, pciex_fabric_settled and
+ * the searches return, for the events of a pciex_fabric_settle that ran out of memory, and for the lines that a
+ * pciex_fabric_script did.
  *
  * Buffers. A result goes into a buffer of the caller: `room` points to its `room_length` bytes. The result is at the
  * front, is not ended by a zero, and what follows it stays as it was. PCIEX_PACKET bytes are always enough for a
@@ -60,7 +61,7 @@ extern "C" {
 #define PCIEX_NO_REQUEST 2002u
 /* An allocation failed. */
 #define PCIEX_NO_MEMORY 2003u
-/* A memory has 128 to 1,048,576 bytes, a multiple of 128. */
+/* A memory has 128 to 1,048,576 bytes, a multiple of 128; that of an endpoint 4096 or more, a power of two. */
 #define PCIEX_WRONG_SIZE 2004u
 /* A base address is a multiple of 128, and the memory ends at 2^64 or before. */
 #define PCIEX_WRONG_BASE 2005u
@@ -74,6 +75,8 @@ extern "C" {
 #define PCIEX_NO_COMPLETION 2010u
 /* A monitor's requesters are 1 to 7. */
 #define PCIEX_NO_REQUESTER 2011u
+/* A search has pieces of 4, 8, 16 or 64 bytes, or PCIEX_WHOLE. */
+#define PCIEX_WRONG_GRANULARITY 2012u
 /* A pointer is null. */
 #define PCIEX_NULL 3000u
 /* The handle holds nothing. */
@@ -115,6 +118,53 @@ typedef struct pciex_monitor {
     void *at;
 } pciex_monitor;
 
+/* An endpoint. Made by pciex_endpoint_new, freed by pciex_endpoint_free. */
+typedef struct pciex_endpoint {
+    void *at;
+} pciex_endpoint;
+
+/* The fields of a TLP, by pciex_decode_tlp. Those that its kind lacks are 0. */
+typedef struct pciex_tlp {
+    /* of a request: a multiple of 4 */
+    uint64_t address;
+    /* the payload is `payload_length` bytes of the packet from its byte `payload_start` on, 12 or 16 */
+    uint32_t payload_start;
+    uint32_t payload_length;
+    /* Length in DW, 1 to 1024; 0 in a completion without data */
+    uint16_t length;
+    /* Requester ID, and of a completion Completer ID and Byte Count, 1 to 4096 */
+    uint16_t requester;
+    uint16_t completer;
+    uint16_t byte_count;
+    /* one of PCIEX_MRD to PCIEX_CPLD */
+    uint8_t kind;
+    /* Traffic Class, 0 to 7 */
+    uint8_t tc;
+    /* IDO 4, RO 2, NS 1 */
+    uint8_t attr;
+    uint8_t tag;
+    /* of a read or a write: First DW BE, Last DW BE */
+    uint8_t first;
+    uint8_t last;
+    /* of a completion: one of PCIEX_SC, PCIEX_UR, PCIEX_CA; and Lower Address */
+    uint8_t status;
+    uint8_t lower;
+} pciex_tlp;
+
+/* The kinds of a TLP: Fmt and Type, as in byte 0 of a packet whose header has 3 DW. */
+#define PCIEX_MRD 0x00u
+#define PCIEX_MWR 0x40u
+#define PCIEX_FETCH_ADD 0x4Cu
+#define PCIEX_SWAP 0x4Du
+#define PCIEX_CAS 0x4Eu
+#define PCIEX_CPL 0x0Au
+#define PCIEX_CPLD 0x4Au
+
+/* Completion Status. */
+#define PCIEX_SC 0u
+#define PCIEX_UR 1u
+#define PCIEX_CA 4u
+
 /* ---- the library's own functions, which test no pointer and no handle */
 
 uint32_t pciex_raw_answer(uint8_t *bytes, size_t length, uint64_t base, uint16_t block, const uint8_t *packet,
@@ -131,6 +181,11 @@ uint32_t pciex_raw_fabric_new(const uint8_t *line, size_t line_length, bool is_t
                               size_t room_length, pciex_fabric *fabric);
 uint32_t pciex_raw_fabric_event(pciex_fabric fabric, const uint8_t *line, size_t line_length, uint8_t *room,
                                 size_t room_length, pciex_fabric *back);
+uint32_t pciex_raw_fabric_script(pciex_fabric fabric, const uint8_t *text, size_t text_length, uint8_t *room,
+                                 size_t room_length, size_t *done, size_t *length, pciex_fabric *back);
+uint32_t pciex_raw_fabric_settle(pciex_fabric fabric, pciex_fabric *back);
+uint32_t pciex_raw_fabric_settled(pciex_fabric fabric, uint8_t *room, size_t room_length, size_t *length,
+                                  pciex_fabric *back);
 uint32_t pciex_raw_fabric_trace(pciex_fabric fabric, uint8_t *room, size_t room_length, size_t *length,
                                 pciex_fabric *back);
 bool pciex_raw_fabric_quiet(pciex_fabric fabric, pciex_fabric *back);
@@ -148,14 +203,28 @@ uint32_t pciex_raw_monitor_acted(pciex_monitor monitor, uint8_t requester, uint3
                                  size_t room_length, pciex_monitor *back);
 size_t pciex_raw_monitor_open(pciex_monitor monitor, pciex_monitor *back);
 void pciex_raw_monitor_free(pciex_monitor monitor);
+uint32_t pciex_raw_endpoint_new(size_t size, uint16_t vendor, uint16_t device, pciex_endpoint *endpoint);
+uint32_t pciex_raw_endpoint_tlp(pciex_endpoint endpoint, const uint8_t *tlp, size_t length, pciex_endpoint *back);
+uint32_t pciex_raw_endpoint_next(pciex_endpoint endpoint, uint8_t *room, size_t room_length, pciex_endpoint *back);
+void pciex_raw_endpoint_reset(pciex_endpoint endpoint, pciex_endpoint *back);
+uint32_t pciex_raw_endpoint_bytes(pciex_endpoint endpoint, uint8_t *room, size_t room_length, pciex_endpoint *back);
+void pciex_raw_endpoint_free(pciex_endpoint endpoint);
 uint32_t pciex_raw_check(const uint8_t *text, size_t length, uint8_t *room, size_t room_length);
 uint32_t pciex_raw_check_clocked(const uint8_t *text, size_t length, uint8_t *room, size_t room_length);
 uint32_t pciex_raw_search(const uint8_t *text, size_t text_length, uint64_t limit, uint8_t *room, size_t room_length,
                           size_t *length);
+uint32_t pciex_raw_search_with_reasons(const uint8_t *text, size_t text_length, uint64_t limit, uint32_t granularity,
+                                       uint8_t *room, size_t room_length, size_t *length, uint8_t *reasons,
+                                       size_t reasons_room, size_t *reasons_length);
 uint32_t pciex_raw_decode(const uint8_t *packet, size_t length, uint8_t *room, size_t room_length);
+uint32_t pciex_raw_decode_tlp(const uint8_t *packet, size_t length, pciex_tlp *tlp);
 uint32_t pciex_raw_encode(const uint8_t *line, size_t length, uint8_t *room, size_t room_length);
 uint32_t pciex_raw_fault_name(uint32_t number, uint8_t *room, size_t room_length);
 uint32_t pciex_raw_version(uint8_t *room, size_t room_length);
+uint32_t pciex_raw_lcrc(const uint8_t *packet, size_t length, uint8_t *room, size_t room_length);
+uint32_t pciex_raw_lcrc_check(const uint8_t *packet, size_t length);
+uint32_t pciex_raw_dllp_crc(const uint8_t *dllp, size_t length, uint8_t *room, size_t room_length);
+uint32_t pciex_raw_dllp_check(const uint8_t *dllp, size_t length);
 
 /* ---- a device without a handle */
 
@@ -292,7 +361,8 @@ static inline uint32_t pciex_fabric_new(const uint8_t *line, size_t line_length,
  * number of bytes of its result, `sub 1 0`, as `pciex step` prints it, without a line feed. 1000 to 1999: the fabric
  * refuses it and stays as it was; 1000 and the number of bytes of the refusal's name, which is in the buffer. Tested in
  * this order: PCIEX_SMALL_ROOM for fewer than PCIEX_LINE bytes, PCIEX_NO_LINE, the refusal or PCIEX_NO_MEMORY. One call
- * is one event: `settle`, which is many, returns PCIEX_NO_LINE, as a comment and an empty line do, which are none.
+ * is one event: `settle`, which is many, returns PCIEX_NO_LINE, as a comment and an empty line do, which are none; for
+ * `settle` there is pciex_fabric_settle.
  */
 static inline uint32_t pciex_fabric_event(pciex_fabric *fabric, const uint8_t *line, size_t line_length, uint8_t *room,
                                           size_t room_length)
@@ -307,9 +377,63 @@ static inline uint32_t pciex_fabric_event(pciex_fabric *fabric, const uint8_t *l
 }
 
 /*
+ * The events of a script's lines happen to the fabric, one after the other, up to the first that fails. Line feeds end
+ * lines; empty lines and comments are skipped. The results, each with a line feed, are in the buffer: `length` is the
+ * number of their bytes, and `done` that of the lines that were done, whatever is returned. 0: all were done. Else the line
+ * at `done` changed nothing, and a call for the text from there on goes on. 1000 to 1999: the fabric refuses its event; 1000
+ * and the number of bytes of the refusal's name, which is behind the results. Tested in this order: PCIEX_SMALL_ROOM for
+ * fewer than PCIEX_LINE + 1 bytes behind the results, PCIEX_NO_LINE, the refusal or PCIEX_NO_MEMORY. As in
+ * pciex_fabric_event, `settle` is no line.
+ */
+static inline uint32_t pciex_fabric_script(pciex_fabric *fabric, const uint8_t *text, size_t text_length, uint8_t *room,
+                                           size_t room_length, size_t *done, size_t *length)
+{
+    if (!fabric || !text || !room || !done || !length) {
+        return PCIEX_NULL;
+    }
+    if (!fabric->at) {
+        return PCIEX_EMPTY;
+    }
+    return pciex_raw_fabric_script(*fabric, text, text_length, room, room_length, done, length, fabric);
+}
+
+/*
+ * Runs the fabric until nothing moves, as `settle` in a script does: 0, and the fabric is quiet, whatever happened before,
+ * and no requester waits for a completion. A trace grows by what was collected. PCIEX_NO_MEMORY: some of the events have
+ * happened, and what they collected is kept; the call may be tried again.
+ */
+static inline uint32_t pciex_fabric_settle(pciex_fabric *fabric)
+{
+    if (!fabric) {
+        return PCIEX_NULL;
+    }
+    if (!fabric->at) {
+        return PCIEX_EMPTY;
+    }
+    return pciex_raw_fabric_settle(*fabric, fabric);
+}
+
+/*
+ * What the last pciex_fabric_settle collected: `ans 1 0 data 00000000`, as `pciex step` prints it, and a line feed for each
+ * completion, in the order in which they were collected. 0, or PCIEX_SMALL_ROOM; `length` is the number of bytes, in both
+ * cases. Or PCIEX_NO_MEMORY: `length` stays as it was. Before the first pciex_fabric_settle there are none.
+ */
+static inline uint32_t pciex_fabric_settled(pciex_fabric *fabric, uint8_t *room, size_t room_length, size_t *length)
+{
+    if (!fabric || !room || !length) {
+        return PCIEX_NULL;
+    }
+    if (!fabric->at) {
+        return PCIEX_EMPTY;
+    }
+    return pciex_raw_fabric_settled(*fabric, room, room_length, length, fabric);
+}
+
+/*
  * The text of the trace and the history, as `pciex step --trace` writes it: 0, or PCIEX_SMALL_ROOM; `length` is the
  * number of its bytes, in both cases. Or PCIEX_NO_MEMORY: `length` stays as it was. A fabric that keeps no trace has a
- * text without records. The call allocates memory for the text while it runs.
+ * text without records. The call allocates memory for the text while it runs, and after PCIEX_SMALL_ROOM until the next
+ * call that changes the fabric, or returns the text.
  */
 static inline uint32_t pciex_fabric_trace(pciex_fabric *fabric, uint8_t *room, size_t room_length, size_t *length)
 {
@@ -499,13 +623,109 @@ static inline void pciex_monitor_free(pciex_monitor *monitor)
     }
 }
 
+/* ---- an endpoint: a memory device that a root complex enumerates, sets up and uses */
+
+/* What became of a TLP. */
+/* A request, which acted or waits. */
+#define PCIEX_TLP_ACCEPTED 0u
+/* A message without effect. */
+#define PCIEX_TLP_IGNORED 1u
+/* It has no effect and no completion, and the registers report it. */
+#define PCIEX_TLP_UNSUPPORTED 2u
+/* A completion: an endpoint has no requests. */
+#define PCIEX_TLP_UNEXPECTED 3u
+/* Bytes that no TLP for a device with payloads of 128 bytes has; the registers report it. */
+#define PCIEX_TLP_MALFORMED 4u
+
+/*
+ * Makes an endpoint in a handle that holds nothing, with that Vendor ID and Device ID. Its memory is `size` zeros, a power
+ * of two from 4096 to 1,048,576, behind BAR 0. 0 if it is made; PCIEX_WRONG_SIZE, PCIEX_NO_MEMORY, tested in this order.
+ */
+static inline uint32_t pciex_endpoint_new(size_t size, uint16_t vendor, uint16_t device, pciex_endpoint *endpoint)
+{
+    if (!endpoint) {
+        return PCIEX_NULL;
+    }
+    if (endpoint->at) {
+        return PCIEX_HELD;
+    }
+    return pciex_raw_endpoint_new(size, vendor, device, endpoint);
+}
+
+/*
+ * A TLP for the endpoint, whatever its bytes are, without sequence number and LCRC. A posted request acts now, a
+ * non-posted one waits for pciex_endpoint_next: call that until it returns 0, and all act in the order in which they came.
+ * Returns one of PCIEX_TLP_ACCEPTED to PCIEX_TLP_MALFORMED; or PCIEX_NO_MEMORY, for a request that would wait.
+ */
+static inline uint32_t pciex_endpoint_tlp(pciex_endpoint *endpoint, const uint8_t *tlp, size_t length)
+{
+    if (!endpoint || !tlp) {
+        return PCIEX_NULL;
+    }
+    if (!endpoint->at) {
+        return PCIEX_EMPTY;
+    }
+    return pciex_raw_endpoint_tlp(*endpoint, tlp, length, endpoint);
+}
+
+/*
+ * The oldest request that waits acts; of a read at most one naturally aligned block of 128 bytes, and what is left of it
+ * waits. Below 1000: the number of bytes of its completion, which is in the buffer; 0 if no request waits.
+ * PCIEX_SMALL_ROOM for fewer than PCIEX_PACKET bytes.
+ */
+static inline uint32_t pciex_endpoint_next(pciex_endpoint *endpoint, uint8_t *room, size_t room_length)
+{
+    if (!endpoint || !room) {
+        return PCIEX_NULL;
+    }
+    if (!endpoint->at) {
+        return PCIEX_EMPTY;
+    }
+    return pciex_raw_endpoint_next(*endpoint, room, room_length, endpoint);
+}
+
+/* A reset: the registers are what they were at first, no request waits, and the memory stays. Returns 0. */
+static inline uint32_t pciex_endpoint_reset(pciex_endpoint *endpoint)
+{
+    if (!endpoint) {
+        return PCIEX_NULL;
+    }
+    if (!endpoint->at) {
+        return PCIEX_EMPTY;
+    }
+    pciex_raw_endpoint_reset(*endpoint, endpoint);
+    return 0;
+}
+
+/* All bytes of the endpoint's memory as they are now: 0, or PCIEX_SMALL_ROOM for fewer than it has. */
+static inline uint32_t pciex_endpoint_bytes(pciex_endpoint *endpoint, uint8_t *room, size_t room_length)
+{
+    if (!endpoint || !room) {
+        return PCIEX_NULL;
+    }
+    if (!endpoint->at) {
+        return PCIEX_EMPTY;
+    }
+    return pciex_raw_endpoint_bytes(*endpoint, room, room_length, endpoint);
+}
+
+/* Frees the endpoint; the handle holds nothing then. One that holds nothing stays as it is. */
+static inline void pciex_endpoint_free(pciex_endpoint *endpoint)
+{
+    if (endpoint && endpoint->at) {
+        pciex_raw_endpoint_free(*endpoint);
+        endpoint->at = NULL;
+    }
+}
+
 /* ---- the checker */
 
 /*
  * Whether the history of the text of a trace explains its records: 0 if and only if it does. It believes the counts n.
  * 1000 to 1999: 1000 and the number of bytes of the line that `pciex check` prints, which is in the buffer:
  * `flaw 10 Reply 2`, or `fault 3 Line` if the text is none of a trace. PCIEX_SMALL_ROOM for fewer than PCIEX_LINE
- * bytes, which is tested first, or PCIEX_NO_MEMORY: nothing is known then.
+ * bytes, which is tested first, or PCIEX_NO_MEMORY: nothing is known then. A text whose first fault comes before its
+ * records and its history needs no memory.
  */
 static inline uint32_t pciex_check(const uint8_t *text, size_t length, uint8_t *room, size_t room_length)
 {
@@ -536,10 +756,11 @@ static inline uint32_t pciex_check_clocked(const uint8_t *text, size_t length, u
 /*
  * Looks for a history that explains what requesters submitted and were answered: the text of a log, or of a trace,
  * whose counts n and history are ignored. What `pciex search --limit` prints is in the buffer: a trace with such a
- * history, and PCIEX_FOUND; `none 3`, or `fault 3 Line` if the text can't be read, and PCIEX_NOT_FOUND; `limit 1000000`,
- * and PCIEX_GIVEN_UP: nothing is known then. `length` is the number of its bytes, also with PCIEX_SMALL_ROOM, for a
- * buffer of fewer. Or PCIEX_NO_MEMORY: nothing is known, and `length` stays as it was. At most `limit` choices are
- * looked at.
+ * history, and PCIEX_FOUND; `none 3`, or `flaw 6 Again 2` for a bookkeeping mistake of the log, or `fault 3 Line` if the
+ * text can't be read, and PCIEX_NOT_FOUND; `limit 1000000`, and PCIEX_GIVEN_UP: nothing is known then. `length` is the
+ * number of its bytes, also with PCIEX_SMALL_ROOM, for a buffer of fewer. Or PCIEX_NO_MEMORY: nothing is known, and
+ * `length` stays as it was; a text whose first fault comes before its records needs no memory. At most `limit` choices
+ * are looked at.
  */
 static inline uint32_t pciex_search(const uint8_t *text, size_t text_length, uint64_t limit, uint8_t *room,
                                     size_t room_length, size_t *length)
@@ -550,7 +771,31 @@ static inline uint32_t pciex_search(const uint8_t *text, size_t text_length, uin
     return pciex_raw_search(text, text_length, limit, room, room_length, length);
 }
 
-/* ---- packets in words, and names */
+/* Each request acts as a whole. */
+#define PCIEX_WHOLE 0u
+
+/*
+ * The same for a memory whose reads and writes act in naturally aligned pieces of `granularity` bytes, 4, 8, 16 or 64, or
+ * as a whole for PCIEX_WHOLE; as `pciex search --granularity` has it, so a trace is one of pieces. Other numbers return
+ * PCIEX_WRONG_GRANULARITY, which is tested first. With PCIEX_NOT_FOUND the lines that `pciex search` prints on standard
+ * error are at the front of `reasons`: which lines of the text have no history, which answers contradict each other, and
+ * why; or what is wrong with a line. `reasons_length` is the number of their bytes, and a buffer of fewer gets the first
+ * ones. It is 0 with PCIEX_FOUND and PCIEX_GIVEN_UP; without memory for the lines there are fewer or none. With
+ * PCIEX_SMALL_ROOM, which is about `room` alone, both lengths are known, and no buffer has changed.
+ */
+static inline uint32_t pciex_search_with_reasons(const uint8_t *text, size_t text_length, uint64_t limit,
+                                                 uint32_t granularity, uint8_t *room, size_t room_length,
+                                                 size_t *length, uint8_t *reasons, size_t reasons_room,
+                                                 size_t *reasons_length)
+{
+    if (!text || !room || !length || !reasons || !reasons_length) {
+        return PCIEX_NULL;
+    }
+    return pciex_raw_search_with_reasons(text, text_length, limit, granularity, room, room_length, length, reasons,
+                                         reasons_room, reasons_length);
+}
+
+/* ---- packets in words and in fields, and names */
 
 /*
  * The words of a TLP, or of a DLLP if there are four bytes, as `pciex decode` writes them. Below 1000: the number of
@@ -563,6 +808,18 @@ static inline uint32_t pciex_decode(const uint8_t *packet, size_t length, uint8_
         return PCIEX_NULL;
     }
     return pciex_raw_decode(packet, length, room, room_length);
+}
+
+/*
+ * The fields of a TLP: 0, and they are in `tlp`. 1000 to 1999: 1000 and the number of the packet's fault, and `tlp` stays as
+ * it was; pciex_fault_name has its name.
+ */
+static inline uint32_t pciex_decode_tlp(const uint8_t *packet, size_t length, pciex_tlp *tlp)
+{
+    if (!packet || !tlp) {
+        return PCIEX_NULL;
+    }
+    return pciex_raw_decode_tlp(packet, length, tlp);
 }
 
 /*
@@ -599,6 +856,58 @@ static inline uint32_t pciex_version(uint8_t *room, size_t room_length)
         return PCIEX_NULL;
     }
     return pciex_raw_version(room, room_length);
+}
+
+/* ---- the CRCs of a link */
+
+/* What a check says: the CRC is right; it is wrong; or, of a packet, it is the complement of the right one. */
+#define PCIEX_GOOD 0
+#define PCIEX_FAILED 1
+#define PCIEX_NULLIFIED 2
+
+/*
+ * The LCRC of a packet, of its sequence number's two bytes and its TLP: 4, and its four bytes stand in the room, in the
+ * order in which they are sent. PCIEX_SMALL_ROOM for fewer than 4 bytes.
+ */
+static inline uint32_t pciex_lcrc(const uint8_t *packet, size_t length, uint8_t *room, size_t room_length)
+{
+    if (!packet || !room) {
+        return PCIEX_NULL;
+    }
+    return pciex_raw_lcrc(packet, length, room, room_length);
+}
+
+/*
+ * The check of a packet with its LCRC behind it: PCIEX_GOOD, PCIEX_FAILED (also for fewer than four bytes), or
+ * PCIEX_NULLIFIED. A nullified packet whose framing ends in EDB is dropped without a Nak; without EDB treat it as failed.
+ */
+static inline uint32_t pciex_lcrc_check(const uint8_t *packet, size_t length)
+{
+    if (!packet) {
+        return PCIEX_NULL;
+    }
+    return pciex_raw_lcrc_check(packet, length);
+}
+
+/*
+ * The CRC of a DLLP of four bytes: 2, and its two bytes stand in the room, in the order in which they are sent. Tested in
+ * this order: PCIEX_SMALL_ROOM for fewer than 2 bytes, 1001 for a DLLP that hasn't exactly four bytes.
+ */
+static inline uint32_t pciex_dllp_crc(const uint8_t *dllp, size_t length, uint8_t *room, size_t room_length)
+{
+    if (!dllp || !room) {
+        return PCIEX_NULL;
+    }
+    return pciex_raw_dllp_crc(dllp, length, room, room_length);
+}
+
+/* The check of a DLLP with its CRC behind it: PCIEX_GOOD or PCIEX_FAILED, which it is unless there are six bytes. */
+static inline uint32_t pciex_dllp_check(const uint8_t *dllp, size_t length)
+{
+    if (!dllp) {
+        return PCIEX_NULL;
+    }
+    return pciex_raw_dllp_check(dllp, length);
 }
 
 #ifdef __cplusplus

@@ -1,5 +1,6 @@
-/* A lossy fabric: a script in, what is seen of its events out, as `pciex step` prints it. At the end, on standard
-   error, how often the requests acted and whether the checker explains the trace that the fabric kept. */
+/* A lossy fabric: a script in, what is seen of its events out, as `pciex step` prints it; the line `settle` brings the
+   fabric to rest. At the end, on standard error, how often the requests acted and whether the checker explains the trace
+   that the fabric kept. */
 #include "../pciex.h"
 
 #include <stdio.h>
@@ -22,6 +23,27 @@ static int explained(pciex_fabric *fabric)
     }
     free(text);
     return code == 0;
+}
+
+/* Brings the fabric to rest, and prints what it collected. */
+static uint32_t settle(pciex_fabric *fabric)
+{
+    uint8_t small[1];
+    size_t length = 0;
+    uint32_t code = pciex_fabric_settle(fabric);
+    if (code == 0) {
+        code = pciex_fabric_settled(fabric, small, sizeof small, &length);
+    }
+    uint8_t *text = code == PCIEX_SMALL_ROOM ? malloc(length) : NULL;
+    if (text) {
+        code = pciex_fabric_settled(fabric, text, length, &length);
+        fwrite(text, 1, code == 0 ? length : 0, stdout);
+        free(text);
+    }
+    if (code == 0) {
+        puts("settled");
+    }
+    return code;
 }
 
 static int finish(pciex_fabric *fabric)
@@ -48,8 +70,14 @@ int main(void)
         if (length == 0 || line[0] == '#') {
             continue;
         }
-        uint32_t code = fabric.at ? pciex_fabric_event(&fabric, bytes, length, room, sizeof room)
-                                  : pciex_fabric_new(bytes, length, true, room, sizeof room, &fabric);
+        uint32_t code;
+        if (!fabric.at) {
+            code = pciex_fabric_new(bytes, length, true, room, sizeof room, &fabric);
+        } else if (strcmp(line, "settle\n") == 0) {
+            code = settle(&fabric);
+        } else {
+            code = pciex_fabric_event(&fabric, bytes, length, room, sizeof room);
+        }
         if (code >= 2000) {
             printf("code %u %lu\n", (unsigned)code, number);
         } else if (code >= 1000) {

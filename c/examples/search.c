@@ -1,8 +1,12 @@
-/* The search: the text of a log in, what `pciex search` prints out. */
+/* The search: the text of a log in, what `pciex search` prints out, and on standard error why there is no history. The
+   argument is the number of bytes of a read or a write that act at once; with none each request acts as a whole. */
 #include "../pciex.h"
 
 #include <stdio.h>
 #include <stdlib.h>
+
+/* The bytes of reasons that are printed, at most. */
+#define REASONS 65536
 
 /* The whole input, or NULL. */
 static uint8_t *input(size_t *length)
@@ -27,9 +31,10 @@ static uint8_t *input(size_t *length)
     return text;
 }
 
-int main(void)
+int main(int count, char **words)
 {
-    size_t text_length, length;
+    static uint8_t reasons[REASONS];
+    size_t text_length, length, reasons_length = 0;
     uint8_t *text = input(&text_length);
     if (!text) {
         return 2;
@@ -37,13 +42,17 @@ int main(void)
     /* A trace has n's and a history more than its log. */
     size_t room_length = 8 * text_length + PCIEX_LINE;
     uint8_t *room = malloc(room_length);
-    uint32_t code = room ? pciex_search(text, text_length, 1000000, room, room_length, &length) : PCIEX_NO_MEMORY;
+    uint32_t granularity = count > 1 ? (uint32_t)strtoul(words[1], NULL, 10) : PCIEX_WHOLE;
+    uint32_t code = room ? pciex_search_with_reasons(text, text_length, 1000000, granularity, room, room_length, &length,
+                                                     reasons, REASONS, &reasons_length)
+                         : PCIEX_NO_MEMORY;
     free(text);
     if (code >= 1000) {
         printf("code %u\n", (unsigned)code);
         code = 2;
     } else {
         fwrite(room, 1, length, stdout);
+        fwrite(reasons, 1, reasons_length < REASONS ? reasons_length : REASONS, stderr);
     }
     free(room);
     return (int)code;

@@ -1,6 +1,7 @@
 #!/bin/sh
 # Links the shared object that the package calls, src/pciex/libpciex.so, or the file that is named, of libpciex_c.a in
 # the folder PCIEX_C and the toolchain's liblibc_c.a in the folder KIT_C.
+unset CDPATH
 here=$(cd "$(dirname "$0")" && pwd) || exit 1
 : "${PCIEX_C:=$here/../../crates/pciex_c/out}"
 : "${KIT_C:=$(dirname "$(rt doc)")/c}"

@@ -1,18 +1,17 @@
-"""The package has a shared object, so a wheel of it is for this kind of machine alone."""
+"""With the shared object a wheel of the package is for this kind of machine alone. Without it the package has `Program`,
+and the wheel is for all."""
 
 import os
-import sys
 
 from setuptools import setup
 from setuptools.dist import Distribution
 
-
-class BinaryDistribution(Distribution):
-    def has_ext_modules(self):
-        return True
-
-
 HERE = os.path.dirname(os.path.abspath(__file__))
-if not os.path.exists(os.path.join(HERE, "src", "pciex", "libpciex.so")):
-    sys.exit("src/pciex/libpciex.so isn't there: make it with `sh link.sh`")
-setup(distclass=BinaryDistribution)
+
+
+class MaybeBinaryDistribution(Distribution):
+    def has_ext_modules(self):
+        return os.path.exists(os.path.join(HERE, "src", "pciex", "libpciex.so"))
+
+
+setup(distclass=MaybeBinaryDistribution)

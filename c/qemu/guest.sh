@@ -6,6 +6,7 @@
 # the processors saw as guest.log, what the device saw as log, trace and pcap, and the guest's console as console. The
 # status is 0 if the guest has written its log. The variables ACCEL (tcg,thread=multi) and OPTIONS (of pciex_qemu) may
 # say otherwise.
+unset CDPATH
 here=$(realpath "$(dirname "$0")")
 if [ $# -lt 3 ]; then
     echo "usage: guest.sh PCIEX_QEMU KERNEL PROCESSORS [WORD..]" >&2

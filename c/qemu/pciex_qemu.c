@@ -40,7 +40,6 @@ static const char usage[] =
 
 enum {
     SECONDS_TO_END = 10,        /* for QEMU, once it has closed its ports or was told to end */
-    SECONDS_FOR_A_MESSAGE = 10, /* for the rest of a message that began, and for a reply to be taken */
     MOST_PAUSE = 200            /* milliseconds between two looks at signals and the clock */
 };
 
@@ -247,34 +246,40 @@ static long long now(void)
     return it.tv_sec * 1000LL + it.tv_nsec / 1000000;
 }
 
-/* Why the loop has to end before QEMU does, which is said. */
-static bool is_cut_off(const struct options *options, long long end)
+/* When QEMU has to have ended, by now(), and after how many seconds that is. */
+static long long end;
+static unsigned long seconds;
+
+/* Whether the loop has to end before QEMU does, which is said. */
+static bool is_cut_off(void)
 {
+    const bool is_late = now() >= end;
     if (signal_came) {
         complain("ended by signal %d", (int)signal_came);
-    } else if (now() >= end) {
-        complain("QEMU ran for more than %lu seconds", options->seconds);
+    } else if (is_late) {
+        complain("QEMU ran for more than %lu seconds", seconds);
     }
-    return signal_came || now() >= end;
+    return signal_came || is_late;
 }
 
 /* Answers all messages until QEMU has closed the sockets. False if it is cut off before. */
 static bool serve_all(struct device *device, const int *sockets, const struct options *options)
 {
     struct pollfd waiting[MOST_PORTS];
-    const long long end = now() + 1000LL * (long long)options->seconds;
     size_t open = device->count;
+    seconds = options->seconds;
+    end = now() + 1000LL * (long long)seconds;
     for (size_t i = 0; i < device->count; i++) {
         waiting[i] = (struct pollfd){.fd = sockets[i], .events = POLLIN};
     }
     while (open > 0) {
         const int ready = poll(waiting, device->count, MOST_PAUSE);
-        if (is_cut_off(options, end)) {
+        if (is_cut_off()) {
             return false;
         }
         for (size_t i = 0; ready > 0 && i < device->count; i++) {
             const enum proxy_result result =
-                waiting[i].revents ? proxy_serve(sockets[i], device, device->ports + i) : PROXY_DONE;
+                waiting[i].revents ? proxy_serve(sockets[i], device, device->ports + i, is_cut_off) : PROXY_DONE;
             if (result == PROXY_BROKEN || device->has_failed) {
                 return false;
             }
@@ -290,7 +295,7 @@ static bool serve_all(struct device *device, const int *sockets, const struct op
 /* A pair of sockets for a port: ours, closed when QEMU is run, and QEMU's. */
 static bool connect_port(int *ours, int *theirs)
 {
-    const struct timeval limit = {SECONDS_FOR_A_MESSAGE, 0};
+    const struct timeval pause = {0, 1000 * MOST_PAUSE}, limit = {SECONDS_FOR_A_MESSAGE, 0};
     int pair[2];
     if (socketpair(AF_UNIX, SOCK_STREAM, 0, pair) != 0) {
         return false;
@@ -298,7 +303,7 @@ static bool connect_port(int *ours, int *theirs)
     *ours = pair[0];
     *theirs = pair[1];
     return fcntl(*ours, F_SETFD, FD_CLOEXEC) == 0 &&
-           setsockopt(*ours, SOL_SOCKET, SO_RCVTIMEO, &limit, sizeof limit) == 0 &&
+           setsockopt(*ours, SOL_SOCKET, SO_RCVTIMEO, &pause, sizeof pause) == 0 &&
            setsockopt(*ours, SOL_SOCKET, SO_SNDTIMEO, &limit, sizeof limit) == 0;
 }
 

@@ -4,6 +4,7 @@
 #include <errno.h>
 #include <string.h>
 #include <sys/socket.h>
+#include <time.h>
 #include <unistd.h>
 
 enum command { SYNC_SYSMEM, RETURN, CONFIG_WRITE, CONFIG_READ, BAR_WRITE, BAR_READ, SET_IRQFD, DEVICE_RESET };
@@ -42,11 +43,20 @@ static void close_descriptors(struct msghdr *part)
     }
 }
 
+/* Seconds of a clock that only goes forward. */
+static time_t seconds(void)
+{
+    struct timespec it;
+    clock_gettime(CLOCK_MONOTONIC, &it);
+    return it.tv_sec;
+}
+
 /*
- * Takes `length` bytes from the socket. If QEMU closes it before the first of them, and `is_first`, that is the end of
- * the messages. The socket's limit of time holds for each part.
+ * Takes `length` bytes from the socket, until the clock is at `end`. If QEMU closes it before the first of them, and
+ * `is_first`, that is the end of the messages. The socket's limit of time holds for each part, and between two of them it
+ * asks `is_over`.
  */
-static enum proxy_result take(int socket, void *bytes, size_t length, bool is_first)
+static enum proxy_result take(int socket, void *bytes, size_t length, bool is_first, time_t end, proxy_is_over *is_over)
 {
     _Alignas(struct cmsghdr) char room[CMSG_SPACE(16 * sizeof(int))];
     size_t taken = 0;
@@ -54,7 +64,10 @@ static enum proxy_result take(int socket, void *bytes, size_t length, bool is_fi
         struct iovec rest = {(char *)bytes + taken, length - taken};
         struct msghdr part = {.msg_iov = &rest, .msg_iovlen = 1, .msg_control = room, .msg_controllen = sizeof room};
         const ssize_t now = recvmsg(socket, &part, MSG_CMSG_CLOEXEC);
-        if (now < 0 && errno == EINTR) {
+        if (now < 0 && (errno == EINTR || errno == EAGAIN) && seconds() <= end) {
+            if (is_over()) {
+                return PROXY_BROKEN;
+            }
             continue;
         }
         if (is_first && taken == 0 && (now == 0 || (now < 0 && errno == ECONNRESET))) {
@@ -66,6 +79,13 @@ static enum proxy_result take(int socket, void *bytes, size_t length, bool is_fi
         }
         close_descriptors(&part);
         taken += (size_t)now;
+        if (taken < length && is_over()) {
+            return PROXY_BROKEN;
+        }
+        if (taken < length && seconds() > end) {
+            complain("QEMU takes more than %d seconds for a message", SECONDS_FOR_A_MESSAGE);
+            return PROXY_BROKEN;
+        }
     }
     return PROXY_DONE;
 }
@@ -90,11 +110,12 @@ static uint64_t value_of(struct device *device, struct port *port, const struct 
     }
 }
 
-enum proxy_result proxy_serve(int socket, struct device *device, struct port *port)
+enum proxy_result proxy_serve(int socket, struct device *device, struct port *port, proxy_is_over *is_over)
 {
     struct message it;
+    const time_t end = seconds() + SECONDS_FOR_A_MESSAGE;
     memset(&it, 0, sizeof it);
-    enum proxy_result result = take(socket, &it, HEAD, true);
+    enum proxy_result result = take(socket, &it, HEAD, true, end, is_over);
     if (result != PROXY_DONE) {
         return result;
     }
@@ -103,7 +124,7 @@ enum proxy_result proxy_serve(int socket, struct device *device, struct port *po
                  (int)it.command);
         return PROXY_BROKEN;
     }
-    result = take(socket, it.data.bytes, it.size, false);
+    result = take(socket, it.data.bytes, it.size, false, end, is_over);
     if (result != PROXY_DONE || it.command == SYNC_SYSMEM || it.command == SET_IRQFD) {
         return result;
     }

@@ -12,7 +12,15 @@ enum proxy_result {
     PROXY_BROKEN  /* QEMU sent no message, or stopped in the middle of one, which was said */
 };
 
-/* Takes one message from the socket, which has some bytes to read, and answers it. */
-enum proxy_result proxy_serve(int socket, struct device *device, struct port *port);
+enum { SECONDS_FOR_A_MESSAGE = 10 };
+
+/* Whether the program has to end, which it says. */
+typedef bool proxy_is_over(void);
+
+/*
+ * Takes one message from the socket, which has some bytes to read, and answers it. While QEMU keeps it waiting, it asks
+ * `is_over`.
+ */
+enum proxy_result proxy_serve(int socket, struct device *device, struct port *port, proxy_is_over *is_over);
 
 #endif

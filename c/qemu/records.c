@@ -166,7 +166,7 @@ static bool put_history(struct lines *it)
             return false;
         }
     }
-    return true;
+    return written(&it->history, !ferror(it->history.file));
 }
 
 static bool close_lines(struct lines *it)

@@ -6,10 +6,12 @@
 # disk. Then, if QEMU is there, the device driven by qtest.py, also under valgrind and the sanitizers, and a device that
 # loses a posted write. Then the dissector in tshark. Last a guest, if the variable PCIEX_KERNEL or /boot has a kernel of
 # Debian's linux-image-*-cloud-amd64. A line `left out: WHAT` stands for each part that is left out, as a tool is missing.
+unset CDPATH
 here=$(realpath "$(dirname "$0")")
 programs=$(realpath "$1")
 room=$(mktemp -d) || exit 1
 trap 'rm -rf "$room"' EXIT
+trap 'exit 1' HUP INT TERM
 fail() {
     echo "qemu: $*"
     exit 1
@@ -69,6 +71,13 @@ without_qemu() {
         refuses "/dev/full can't be written: No space left on device" $option /dev/full -- true
     done
     refuses "QEMU ran for more than 1 seconds" --seconds 1 -- sh -c 'echo $$ > left; exec sleep 1000'
+    # A message that comes slowly: QEMU has its seconds, and a signal ends it, whatever it waits for.
+    slow=$(date +%s)
+    refuses "QEMU ran for more than 1 seconds" --seconds 1 -- sh -c "$to_socket"'for i in $(seq 16); do printf x; sleep 1; done'
+    [ $(($(date +%s) - slow)) -lt 8 ] || fail "$program waits for a slow message"
+    slow=$(date +%s)
+    refuses "ended by signal 15" -- sh -c "$to_socket"'printf x; sleep 1; kill $PPID; exec sleep 1000'
+    [ $(($(date +%s) - slow)) -lt 8 ] || fail "$program waits for a message after a signal"
     refuses "QEMU sent a message of" -- sh -c "$to_socket"'printf 0123456789abcdef; exec sleep 1000'
     refuses "QEMU stopped in the middle of a message" -- sh -c "$to_socket"'printf 01234'
     # A disk that gets full in the run: 300 reads of 4 bytes at address 0.

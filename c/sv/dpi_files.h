@@ -53,6 +53,7 @@ static bool ended(lines *it)
         while ((length = fread(part, 1, sizeof part, it->history)) > 0) {
             fwrite(part, 1, length, it->file);
         }
+        is_written &= !ferror(it->history);
         fclose(it->history);
     }
     fprintf(it->file, "end\n");
@@ -61,7 +62,7 @@ static bool ended(lines *it)
     return is_written;
 }
 
-/* The text of a file, which the caller frees. NULL, said, if it can't be read. */
+/* The text of a file, which the caller frees. NULL, said, if it can't be read or has a NUL byte, which no text has. */
 static char *text_of(const char *name)
 {
     FILE *file = fopen(name, "rb");
@@ -83,6 +84,10 @@ static char *text_of(const char *name)
         no_file(name);
         free(text);
         text = NULL;
+    } else if (memchr(text, 0, length)) {
+        free(text);
+        text = NULL;
+        say_line("the file has a NUL byte, and no text has one");
     } else {
         text[length] = 0;
     }

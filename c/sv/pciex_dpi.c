@@ -193,16 +193,51 @@ int pciex_dpi_fabric_event(void *handle, const char *line)
     return told(code, room);
 }
 
-int pciex_dpi_fabric_trace(void *handle)
+/* The results of the last script. */
+static char *results;
+
+int pciex_dpi_fabric_script(void *handle, const char *script, const char **told_results, int *done)
+{
+    const size_t script_length = strlen(script);
+    size_t space = 0, used = 0, from = 0;
+    uint32_t code;
+    *told_results = "";
+    *done = 0;
+    do {
+        const size_t more = space + 16 * PCIEX_LINE;
+        char *grown = (char *)realloc(results, more + 1);
+        if (!grown) {
+            code = PCIEX_NO_MEMORY;
+            break;
+        }
+        size_t lines = 0, length = 0;
+        results = grown;
+        space = more;
+        code = pciex_fabric_script((pciex_fabric *)handle, (const uint8_t *)script + from, script_length - from,
+                                   (uint8_t *)results + used, space - used, &lines, &length);
+        from += lines;
+        used += length;
+    } while (code == PCIEX_SMALL_ROOM);
+    const int result = code == 0 ? plain(0, 0) : told(code, (const uint8_t *)(results ? results + used : ""));
+    if (results) {
+        results[used] = 0;
+        *told_results = results;
+    }
+    *done = (int)from;
+    return result;
+}
+
+/* The result of a call that puts a text of any length into a buffer. */
+static int said_of(uint32_t (*call)(pciex_fabric *, uint8_t *, size_t, size_t *), void *handle)
 {
     uint8_t small[1];
     size_t length = 0;
-    uint32_t code = pciex_fabric_trace((pciex_fabric *)handle, small, sizeof small, &length);
+    uint32_t code = call((pciex_fabric *)handle, small, sizeof small, &length);
     if (code != PCIEX_SMALL_ROOM) {
         return plain(code, 0);
     }
     char *text = (char *)malloc(length + 1);
-    code = text ? pciex_fabric_trace((pciex_fabric *)handle, (uint8_t *)text, length, &length) : PCIEX_NO_MEMORY;
+    code = text ? call((pciex_fabric *)handle, (uint8_t *)text, length, &length) : PCIEX_NO_MEMORY;
     if (code != 0) {
         free(text);
         return plain(code, 0);
@@ -210,6 +245,22 @@ int pciex_dpi_fabric_trace(void *handle)
     text[length] = 0;
     say_large(text);
     return (int)length;
+}
+
+int pciex_dpi_fabric_settled(void *handle)
+{
+    return said_of(pciex_fabric_settled, handle);
+}
+
+int pciex_dpi_fabric_settle(void *handle)
+{
+    const uint32_t code = pciex_fabric_settle((pciex_fabric *)handle);
+    return code == 0 ? pciex_dpi_fabric_settled(handle) : plain(code, 0);
+}
+
+int pciex_dpi_fabric_trace(void *handle)
+{
+    return said_of(pciex_fabric_trace, handle);
 }
 
 int pciex_dpi_fabric_quiet(void *handle)
@@ -371,6 +422,53 @@ int pciex_dpi_monitor_open(void *handle)
     return plain(code, (int)count);
 }
 
+/* ---- an endpoint */
+
+void *pciex_dpi_endpoint_new(uint32_t size, uint16_t vendor, uint16_t device)
+{
+    pciex_endpoint *endpoint = (pciex_endpoint *)calloc(1, sizeof *endpoint);
+    const uint32_t code = endpoint ? pciex_endpoint_new(size, vendor, device, endpoint) : PCIEX_NO_MEMORY;
+    if (code == 0) {
+        return made(endpoint, NULL);
+    }
+    free(endpoint);
+    say_why(code);
+    return code == PCIEX_WRONG_SIZE ? made(NULL, "4096 to 1048576 bytes, a power of two") : NULL;
+}
+
+void pciex_dpi_endpoint_free(void *handle)
+{
+    pciex_endpoint_free((pciex_endpoint *)handle);
+    free(handle);
+}
+
+int pciex_dpi_endpoint_tlp(void *handle, const svBitVecVal *tlp, int tlp_length)
+{
+    uint8_t packet[MOST];
+    if (!handle || !unpack(tlp, tlp_length, packet)) {
+        return plain(handle ? PCIEX_SMALL_ROOM : PCIEX_NULL, 0);
+    }
+    const uint32_t code = pciex_endpoint_tlp((pciex_endpoint *)handle, packet, (size_t)tlp_length);
+    return code <= PCIEX_TLP_MALFORMED ? plain(0, (int)code) : plain(code, 0);
+}
+
+int pciex_dpi_endpoint_next(void *handle, svBitVecVal *completion)
+{
+    uint8_t room[PCIEX_PACKET];
+    return packed(pciex_endpoint_next((pciex_endpoint *)handle, room, sizeof room), room, completion);
+}
+
+int pciex_dpi_endpoint_reset(void *handle)
+{
+    return plain(pciex_endpoint_reset((pciex_endpoint *)handle), 0);
+}
+
+int pciex_dpi_endpoint_bytes(void *handle, void *to)
+{
+    memory *held = (memory *)to;
+    return copied(held ? pciex_endpoint_bytes((pciex_endpoint *)handle, held->bytes, held->size) : PCIEX_NULL);
+}
+
 /* ---- the checker, packets in words, and names */
 
 int pciex_dpi_check(const char *text)
@@ -389,28 +487,41 @@ const char *pciex_dpi_where(void)
     return where;
 }
 
-int pciex_dpi_search(const char *text, uint64_t limit)
+/* The reasons of the last search. */
+static char reasons[16 * PCIEX_LINE + 1];
+
+int pciex_dpi_search_with_reasons(const char *text, uint64_t limit, uint32_t granularity, const char **why)
 {
     const size_t text_length = strlen(text);
-    size_t length = 4 * text_length + PCIEX_LINE, space;
+    size_t length = 4 * text_length + PCIEX_LINE, space, reasons_length = 0;
     char *room = NULL;
     uint32_t code;
+    reasons[0] = 0;
+    *why = reasons;
     do {
         free(room);
         space = length;
         room = (char *)malloc(space + 1);
-        code = room ? pciex_search((const uint8_t *)text, text_length, limit, (uint8_t *)room, space, &length)
+        code = room ? pciex_search_with_reasons((const uint8_t *)text, text_length, limit, granularity, (uint8_t *)room,
+                                                space, &length, (uint8_t *)reasons, sizeof reasons - 1, &reasons_length)
                     : PCIEX_NO_MEMORY;
     } while (code == PCIEX_SMALL_ROOM && length > space);
     if (code >= 1000) {
         free(room);
         return plain(code, 0);
     }
+    reasons[reasons_length < sizeof reasons ? reasons_length : sizeof reasons - 1] = 0;
     /* A trace has lines; a verdict of one line loses its line feed. */
     length -= code != PCIEX_FOUND && length > 0 && room[length - 1] == '\n';
     room[length] = 0;
     say_large(room);
     return (int)code;
+}
+
+int pciex_dpi_search(const char *text, uint64_t limit)
+{
+    const char *why;
+    return pciex_dpi_search_with_reasons(text, limit, PCIEX_WHOLE, &why);
 }
 
 int pciex_dpi_check_file(const char *name)
@@ -421,12 +532,52 @@ int pciex_dpi_check_file(const char *name)
     return code;
 }
 
-int pciex_dpi_search_file(const char *name, uint64_t limit)
+int pciex_dpi_search_file_with_reasons(const char *name, uint64_t limit, uint32_t granularity, const char **why)
 {
     char *text = text_of(name);
-    const int code = text ? pciex_dpi_search(text, limit) : -PCIEX_NO_FILE;
+    *why = "";
+    const int code = text ? pciex_dpi_search_with_reasons(text, limit, granularity, why) : -PCIEX_NO_FILE;
     free(text);
     return code;
+}
+
+int pciex_dpi_search_file(const char *name, uint64_t limit)
+{
+    const char *why;
+    return pciex_dpi_search_file_with_reasons(name, limit, PCIEX_WHOLE, &why);
+}
+
+/* Puts the lowest bits of a value, the next 8, 16, 32 or 64 of a vector from its lowest on. */
+static void put(svBitVecVal *to, unsigned *at, uint64_t value, unsigned bits)
+{
+    for (unsigned i = 0; i < bits; i += 8, *at += 8) {
+        to[*at / 32] |= (svBitVecVal)(value >> i & 0xFF) << *at % 32;
+    }
+}
+
+int pciex_dpi_decode_tlp(const svBitVecVal *packet, int packet_length, svBitVecVal *fields)
+{
+    uint8_t bytes[MOST];
+    pciex_tlp tlp;
+    unsigned at = 0;
+    memset(fields, 0, 8 * sizeof *fields);
+    const uint32_t code =
+        unpack(packet, packet_length, bytes) ? pciex_decode_tlp(bytes, (size_t)packet_length, &tlp) : PCIEX_SMALL_ROOM;
+    if (code != 0) {
+        return plain(code, 0);
+    }
+    const uint8_t last_bytes[] = {tlp.lower, tlp.status, tlp.last, tlp.first, tlp.tag, tlp.attr, tlp.tc, tlp.kind};
+    const uint16_t halves[] = {tlp.byte_count, tlp.completer, tlp.requester, tlp.length};
+    for (unsigned i = 0; i < sizeof last_bytes; i++) {
+        put(fields, &at, last_bytes[i], 8);
+    }
+    for (unsigned i = 0; i < sizeof halves / sizeof *halves; i++) {
+        put(fields, &at, halves[i], 16);
+    }
+    put(fields, &at, tlp.payload_length, 32);
+    put(fields, &at, tlp.payload_start, 32);
+    put(fields, &at, tlp.address, 64);
+    return plain(0, 0);
 }
 
 int pciex_dpi_decode(const svBitVecVal *packet, int packet_length)
@@ -461,6 +612,35 @@ const char *pciex_dpi_version(void)
     uint8_t room[PCIEX_LINE];
     told(pciex_version(room, sizeof room), room);
     return said;
+}
+
+/* ---- the CRCs of a link */
+
+uint32_t pciex_dpi_lcrc(const svBitVecVal *packet, int packet_length)
+{
+    uint8_t bytes[MOST], field[4];
+    if (!unpack(packet, packet_length, bytes)) {
+        return 0;
+    }
+    pciex_lcrc(bytes, (size_t)packet_length, field, sizeof field);
+    return (uint32_t)field[0] << 24 | (uint32_t)field[1] << 16 | (uint32_t)field[2] << 8 | field[3];
+}
+
+int pciex_dpi_lcrc_check(const svBitVecVal *packet, int packet_length)
+{
+    uint8_t bytes[MOST];
+    if (!unpack(packet, packet_length, bytes)) {
+        return PCIEX_FAILED;
+    }
+    return (int)pciex_lcrc_check(bytes, (size_t)packet_length);
+}
+
+uint32_t pciex_dpi_dllp_crc(uint32_t dllp)
+{
+    const uint8_t bytes[4] = {(uint8_t)(dllp >> 24), (uint8_t)(dllp >> 16), (uint8_t)(dllp >> 8), (uint8_t)dllp};
+    uint8_t field[2];
+    pciex_dllp_crc(bytes, sizeof bytes, field, sizeof field);
+    return (uint32_t)field[0] << 8 | field[1];
 }
 
 #ifdef __cplusplus

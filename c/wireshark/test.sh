@@ -2,11 +2,13 @@
 # Tries pcie_tlp.lua in tshark: test.sh TLP [CAPTURE], where TLP is a program that answers packets as `pciex tlp` does,
 # and CAPTURE one of c/qemu. Of examples/packets.txt it compares what tshark shows with packets.out, of faults.txt the
 # names of faults with those of TLP. In the capture each completion has its request, and nothing is malformed.
+unset CDPATH
 here=$(realpath "$(dirname "$0")")
 tlp=$1
 capture=$2
 room=$(mktemp -d) || exit 1
 trap 'rm -rf "$room"' EXIT
+trap 'exit 1' HUP INT TERM
 fail() {
     echo "dissector: $*"
     exit 1

@@ -1,6 +1,7 @@
 """Each call once, and each of its refusals."""
 
 import gc
+import signal
 import unittest
 
 import pciex
@@ -12,6 +13,27 @@ WRITE = bytes.fromhex("40000001 0100000F 00000080 01020304")
 def old(value: int) -> bytes:
     """The completion of ADD, with the old value."""
     return bytes.fromhex("4A000001 00000004 01000500") + bytes([value, 0, 0, 0])
+
+
+class ASignal(unittest.TestCase):
+    def test_a_handler_calls_too(self) -> None:
+        """A handler that runs between a call and the copy of its result has a buffer of its own."""
+        memory, count = bytearray(256), 0
+
+        def handler(number: int, frame: object) -> None:
+            self.assertEqual(pciex.encode("ack 222"), bytes.fromhex("00000222"))
+            signal.setitimer(signal.ITIMER_REAL, 0.0001)
+
+        signal.signal(signal.SIGALRM, handler)
+        signal.setitimer(signal.ITIMER_REAL, 0.0001)
+        try:
+            while count < 10000:
+                memory[0x40:0x44] = bytes(4)
+                self.assertEqual(pciex.answer(memory, ADD), old(0))
+                count += 1
+        finally:
+            signal.signal(signal.SIGALRM, signal.SIG_IGN)
+            signal.setitimer(signal.ITIMER_REAL, 0)
 
 
 class WithoutAHandle(unittest.TestCase):
@@ -34,6 +56,8 @@ class WithoutAHandle(unittest.TestCase):
             pciex.answer(memory, 12)  # type: ignore[arg-type]
         with self.assertRaises(pciex.Fault) as caught:
             pciex.answer(memory, ADD[:3])
+        memory.append(0)  # it isn't borrowed, though the exception is kept
+        memory.pop()
         self.assertEqual((str(caught.exception), caught.exception.number), ("fault 1 Short", 1))
         self.assertEqual(bytes(memory), before)
         unsupported = pciex.answer(bytearray(), ADD)
@@ -65,6 +89,19 @@ class WithoutAHandle(unittest.TestCase):
                 pciex.fault_name(number)
         self.assertTrue(pciex.version().startswith("pciex"))
 
+    def test_fields(self) -> None:
+        add = pciex.decode_tlp(ADD)
+        self.assertEqual((add.kind, add.requester, add.tag, add.length, add.address), ("FetchAdd", 0x100, 5, 1, 0x40))
+        self.assertEqual((add.payload, add.first, add.status), (bytes([7, 0, 0, 0]), 0, 0))
+        write = pciex.decode_tlp(memoryview(pciex.encode("write 100000080 8 1 0102030405060708 from 0200 tag 01")))
+        self.assertEqual((write.kind, write.address, write.first, write.last), ("MWr", 0x1_0000_0080, 8, 1))
+        self.assertEqual(write.payload, bytes(range(1, 9)))
+        data = pciex.decode_tlp(old(9))
+        self.assertEqual((data.kind, data.byte_count, data.lower, data.payload), ("CplD", 4, 0, bytes([9, 0, 0, 0])))
+        self.assertEqual(pciex.decode_tlp(bytes([0x4D]) + ADD[1:]).kind, "Swap")
+        with self.assertRaisesRegex(pciex.Fault, "^fault 1 Short$"):
+            pciex.decode_tlp(ADD[:3])
+
     def test_check(self) -> None:
         trace = (
             "pciex-trace 2\nmemory 0 4096 64\nsub 1 0 0 add 40 07000000\nans 1 0 1 data 00000000\n"
@@ -85,9 +122,27 @@ class WithoutAHandle(unittest.TestCase):
         self.assertTrue(trace.endswith("\nhistory\nent 1 0 add 40 07000000\nend\n"))
         self.assertEqual(pciex.search(trace, 1), trace)
         self.assertEqual(pciex.search(log.replace("data 0", "data 1")), "none 1")
+        self.assertEqual(pciex.search(log.replace("ans 1 0", "ans 2 0")), "flaw 5 Unasked 1")
         self.assertEqual(pciex.search("no log"), "fault 1 Head")
         with self.assertRaises(ValueError):
             pciex.search(log, -1)
+
+
+    def test_search_with_reasons(self) -> None:
+        log = (
+            "pciex-log 1\nmemory 0 4096 64\nsub 1 0 write 40 F F 0100000002000000\nsub 2 0 read 40 2 F F\n"
+            "ans 2 0 data 0000000002000000\nend\n"
+        )
+        answer, lines = pciex.search_with_reasons(log)
+        self.assertEqual((answer, lines[0][:35]), ("none 2", "pciex: lines 3 to 5 have no history"))
+        self.assertGreater(len(lines), 1)
+        answer, lines = pciex.search_with_reasons(log, granularity=4)
+        self.assertEqual((pciex.check(answer, clocked=True), lines), ("ok", []))
+        answer, lines = pciex.search_with_reasons("no log")
+        self.assertEqual((answer, len(lines)), ("fault 1 Head", 1))
+        for granularity in (1, 32, 128, -4, 1 << 32):
+            with self.assertRaisesRegex(ValueError, "pieces|granularity"):
+                pciex.search_with_reasons(log, granularity)
 
 
 class ADevice(unittest.TestCase):
@@ -153,6 +208,35 @@ class AFabric(unittest.TestCase):
         with self.assertRaisesRegex(ValueError, "the fabric is closed"):
             fabric.event("transmit up1")
 
+    def test_script(self) -> None:
+        script = "# a comment\n\n" + "\n".join(line for line, _ in self.STEPS)
+        results = [result for _, result in self.STEPS]
+        with pciex.Fabric("fabric 1 0 4096", is_traced=True) as fabric:
+            self.assertEqual(fabric.scripted(), ([], 0))
+            self.assertEqual(fabric.script(script), results)
+            self.assertEqual(fabric.scripted(), (results, 2 + len(results)))
+            with self.assertRaisesRegex(pciex.Refused, "^Idle$"):
+                fabric.script("dllp up1 ack\r\n# another\ntransmit up1\nserve 0\n")
+            self.assertEqual(fabric.scripted(), (["00000000"], 2))
+            for line in ("settle", "fabric 1 0 4096", "no line"):
+                with self.assertRaisesRegex(ValueError, "the line has the wrong form"):
+                    fabric.script(line)
+                self.assertEqual(fabric.scripted(), ([], 0))
+            self.assertEqual((fabric.script(""), fabric.scripted()), ([], ([], 0)))
+            self.assertEqual(len(fabric.script("dllp up1 ack\n" * 20000)), 20000)
+            self.assertEqual(fabric.history_length(), 1)
+
+    def test_settle(self) -> None:
+        with pciex.Fabric("fabric 2 0 4096") as fabric:
+            self.assertEqual(fabric.settled(), [])
+            for requester in (1, 2):
+                fabric.event(f"submit {requester} add 40 07000000")
+            answers = ["ans 1 0 data 00000000", "ans 2 0 data 07000000"]
+            self.assertEqual((fabric.settle(), fabric.settled(), fabric.quiet()), (answers, answers, True))
+            self.assertEqual((fabric.settle(), fabric.settled()), ([], []))
+        with self.assertRaisesRegex(ValueError, "the fabric is closed"):
+            fabric.settle()
+
     def test_wrong_fabrics(self) -> None:
         with self.assertRaisesRegex(pciex.Fault, "Requesters") as caught:
             pciex.Fabric("fabric 8 0 4096")
@@ -210,6 +294,52 @@ class AMonitor(unittest.TestCase):
         for size, base, block in [(100, 0, 64), (4096, 64, 64), (4096, 0, 32)]:
             with self.assertRaises(ValueError):
                 pciex.Monitor(size, base, block)
+
+
+class AnEndpoint(unittest.TestCase):
+    READ = bytes.fromhex("00000002 000870FF FEDC007C")
+
+    def test_endpoint(self) -> None:
+        rows = [
+            ("04000001 0008630F 01000000", "accept", ["4a000001000000040008630034121e7c"]),
+            ("44000001 0008690F 01000010 0000DCFE", "accept", ["0a0000000100000400086900"]),
+            ("44000001 00086B01 01000004 02000000", "accept", ["0a0000000100000400086b00"]),
+            ("40000002 000800FF FEDC007C 11223344 55667788", "accept", []),
+            (
+                "00000002 000870FF FEDC007C",
+                "accept",
+                ["4a000001010000080008707c11223344", "4a000001010000040008700055667788"],
+            ),
+            ("74000001 00000050 00000000 00000000 19000000", "Ignored", []),
+            ("40000001 0008000F FEDC1000 11223344", "Unsupported", []),
+            ("4A000001 00000004 00086300 34121E7C", "Unexpected", []),
+            ("00000001", "Malformed", []),
+        ]
+        with pciex.Endpoint(4096) as endpoint:
+            for tlp, handled, completions in rows:
+                taken = endpoint.take(memoryview(bytes.fromhex(tlp)))
+                self.assertEqual((taken.handled, [it.hex() for it in taken]), (handled, completions), tlp)
+            first = next(endpoint.take(self.READ))
+            self.assertEqual((first[12:], endpoint.next()[12:]), (bytes.fromhex("11223344"), bytes.fromhex("55667788")))
+            self.assertIsNone(endpoint.next())
+            endpoint.take(self.READ)
+            endpoint.reset()
+            self.assertIsNone(endpoint.next())
+            memory = endpoint.memory()
+            self.assertEqual((len(memory), memory[0x7C:0x84].hex()), (4096, "1122334455667788"))
+            with self.assertRaises(TypeError):
+                endpoint.take(12)  # type: ignore[arg-type]
+        for call in (lambda: endpoint.take(self.READ), endpoint.next, endpoint.reset, endpoint.memory, lambda: next(taken)):
+            with self.assertRaisesRegex(ValueError, "the endpoint is closed"):
+                call()
+
+    def test_wrong_endpoints(self) -> None:
+        for size in (-4096, 0, 2048, 4097, 2 << 20, 1 << 32 | 4096):
+            with self.assertRaisesRegex(ValueError, "size"):
+                pciex.Endpoint(size)
+        for vendor, device, what in [(1 << 16, 0, "vendor"), (0, -1, "device")]:
+            with self.assertRaisesRegex(ValueError, what):
+                pciex.Endpoint(4096, vendor, device)
 
 
 class Differences(unittest.TestCase):

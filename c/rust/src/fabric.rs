@@ -1,6 +1,17 @@
 //! Fabrics.
-use crate::error::{line, Error, Room};
+use crate::error::{line, refused, Error, Room};
 use crate::raw::{self, Slot};
+
+/// A script that stopped at a line. The lines before it happened.
+#[derive(Clone, Debug, PartialEq, Eq)]
+pub struct Stopped {
+    /// The results of the lines before it, each with a line feed.
+    pub results: String,
+    /// How many bytes of the script those lines have.
+    pub done: usize,
+    /// Why the line changed nothing.
+    pub error: Error,
+}
 
 /// A fabric that the lines of a script drive.
 #[derive(Debug)]
@@ -37,6 +48,71 @@ impl Fabric {
             raw::pciex_raw_fabric_event(*back, event.as_ptr(), event.len(), room.pointer(), room.length(), back)
         };
         line(code, &room)
+    }
+
+    /// The events of a script's lines happen, one after the other, up to one that fails: the results, each with a line
+    /// feed. Empty lines and comments are skipped.
+    pub fn script(&mut self, text: &str) -> Result<String, Stopped> {
+        let mut room = vec![0; 1 << 16];
+        let mut results = String::new();
+        let mut rest = text;
+        loop {
+            let (mut done, mut length) = (0, 0);
+            let back: *mut Slot = &mut self.slot;
+            // SAFETY: as in `event`.
+            let code = unsafe {
+                raw::pciex_raw_fabric_script(
+                    *back,
+                    rest.as_ptr(),
+                    rest.len(),
+                    room.as_mut_ptr(),
+                    room.len(),
+                    &mut done,
+                    &mut length,
+                    back,
+                )
+            };
+            results.push_str(&String::from_utf8_lossy(&room[..length]));
+            rest = &rest[done..];
+            let error = match code {
+                0 => return Ok(results),
+                2000 => continue,
+                1000..=1999 => {
+                    let name = &room[length..length + code as usize - 1000];
+                    Error::Told(String::from_utf8_lossy(name).into_owned())
+                }
+                _ => refused(code),
+            };
+            return Err(Stopped { results, done: text.len() - rest.len(), error });
+        }
+    }
+
+    /// Runs the fabric until nothing moves, as `settle` in a script does: the lines of the completions that its requesters
+    /// collected, `ans 1 0 data 00000000`. Then it is quiet. After an error, which is [`Error::NoMemory`], some of the events
+    /// have happened, and [`settled`](Self::settled) has what they collected.
+    pub fn settle(&mut self) -> Result<Vec<String>, Error> {
+        let back: *mut Slot = &mut self.slot;
+        // SAFETY: as in `event`.
+        let code = unsafe { raw::pciex_raw_fabric_settle(*back, back) };
+        line(code, &Room::new())?;
+        self.settled()
+    }
+
+    /// The lines of the completions that the last [`settle`](Self::settle) collected.
+    pub fn settled(&mut self) -> Result<Vec<String>, Error> {
+        let mut text = Vec::new();
+        loop {
+            let mut length = 0;
+            let back: *mut Slot = &mut self.slot;
+            // SAFETY: as in `event`.
+            let code =
+                unsafe { raw::pciex_raw_fabric_settled(*back, text.as_mut_ptr(), text.len(), &mut length, back) };
+            if code != 2000 {
+                line(code, &Room::new())?;
+                return Ok(String::from_utf8_lossy(&text).lines().map(str::to_owned).collect());
+            }
+            text.resize(length, 0);
+        }
     }
 
     /// The text of the trace and the history, as `pciex step --trace` writes it. Without a trace it has no records.

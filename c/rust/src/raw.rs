@@ -12,6 +12,27 @@ impl Slot {
     pub(crate) const NONE: Slot = Slot { at: std::ptr::null_mut() };
 }
 
+/// The fields of a TLP.
+#[repr(C)]
+#[derive(Clone, Copy, Debug, Default)]
+pub(crate) struct Fields {
+    pub(crate) address: u64,
+    pub(crate) payload_start: u32,
+    pub(crate) payload_length: u32,
+    pub(crate) length: u16,
+    pub(crate) requester: u16,
+    pub(crate) completer: u16,
+    pub(crate) byte_count: u16,
+    pub(crate) kind: u8,
+    pub(crate) tc: u8,
+    pub(crate) attr: u8,
+    pub(crate) tag: u8,
+    pub(crate) first: u8,
+    pub(crate) last: u8,
+    pub(crate) status: u8,
+    pub(crate) lower: u8,
+}
+
 extern "C" {
     pub(crate) fn pciex_raw_answer(
         bytes: *mut u8, length: usize, base: u64, block: u16, packet: *const u8, packet_length: usize, room: *mut u8,
@@ -33,6 +54,14 @@ extern "C" {
     ) -> u32;
     pub(crate) fn pciex_raw_fabric_event(
         fabric: Slot, line: *const u8, line_length: usize, room: *mut u8, room_length: usize, back: *mut Slot,
+    ) -> u32;
+    pub(crate) fn pciex_raw_fabric_script(
+        fabric: Slot, text: *const u8, text_length: usize, room: *mut u8, room_length: usize, done: *mut usize,
+        length: *mut usize, back: *mut Slot,
+    ) -> u32;
+    pub(crate) fn pciex_raw_fabric_settle(fabric: Slot, back: *mut Slot) -> u32;
+    pub(crate) fn pciex_raw_fabric_settled(
+        fabric: Slot, room: *mut u8, room_length: usize, length: *mut usize, back: *mut Slot,
     ) -> u32;
     pub(crate) fn pciex_raw_fabric_trace(
         fabric: Slot, room: *mut u8, room_length: usize, length: *mut usize, back: *mut Slot,
@@ -58,13 +87,28 @@ extern "C" {
     ) -> u32;
     pub(crate) fn pciex_raw_monitor_open(monitor: Slot, back: *mut Slot) -> usize;
     pub(crate) fn pciex_raw_monitor_free(monitor: Slot);
+    pub(crate) fn pciex_raw_endpoint_new(size: usize, vendor: u16, device: u16, endpoint: *mut Slot) -> u32;
+    pub(crate) fn pciex_raw_endpoint_tlp(endpoint: Slot, tlp: *const u8, length: usize, back: *mut Slot) -> u32;
+    pub(crate) fn pciex_raw_endpoint_next(endpoint: Slot, room: *mut u8, room_length: usize, back: *mut Slot) -> u32;
+    pub(crate) fn pciex_raw_endpoint_reset(endpoint: Slot, back: *mut Slot);
+    pub(crate) fn pciex_raw_endpoint_bytes(endpoint: Slot, room: *mut u8, room_length: usize, back: *mut Slot) -> u32;
+    pub(crate) fn pciex_raw_endpoint_free(endpoint: Slot);
     pub(crate) fn pciex_raw_check(text: *const u8, length: usize, room: *mut u8, room_length: usize) -> u32;
     pub(crate) fn pciex_raw_check_clocked(text: *const u8, length: usize, room: *mut u8, room_length: usize) -> u32;
     pub(crate) fn pciex_raw_search(
         text: *const u8, text_length: usize, limit: u64, room: *mut u8, room_length: usize, length: *mut usize,
     ) -> u32;
+    pub(crate) fn pciex_raw_search_with_reasons(
+        text: *const u8, text_length: usize, limit: u64, granularity: u32, room: *mut u8, room_length: usize,
+        length: *mut usize, reasons: *mut u8, reasons_room: usize, reasons_length: *mut usize,
+    ) -> u32;
+    pub(crate) fn pciex_raw_decode_tlp(packet: *const u8, length: usize, tlp: *mut Fields) -> u32;
     pub(crate) fn pciex_raw_decode(packet: *const u8, length: usize, room: *mut u8, room_length: usize) -> u32;
     pub(crate) fn pciex_raw_encode(line: *const u8, length: usize, room: *mut u8, room_length: usize) -> u32;
     pub(crate) fn pciex_raw_fault_name(number: u32, room: *mut u8, room_length: usize) -> u32;
     pub(crate) fn pciex_raw_version(room: *mut u8, room_length: usize) -> u32;
+    pub(crate) fn pciex_raw_lcrc(packet: *const u8, length: usize, room: *mut u8, room_length: usize) -> u32;
+    pub(crate) fn pciex_raw_lcrc_check(packet: *const u8, length: usize) -> u32;
+    pub(crate) fn pciex_raw_dllp_crc(dllp: *const u8, length: usize, room: *mut u8, room_length: usize) -> u32;
+    pub(crate) fn pciex_raw_dllp_check(dllp: *const u8, length: usize) -> u32;
 }

@@ -1,5 +1,8 @@
 //! Each call once, and each of its refusals.
-use pciex::{answer, check, check_clocked, decode, differ, encode, search, version, Device, Error, Fabric, Monitor, Sought};
+use pciex::{
+    answer, check, check_clocked, decode, decode_tlp, differ, encode, search, search_with_reasons, version, Body, Device,
+    Endpoint, Error, Fabric, Granularity, Handled, Kind, Monitor, Sought,
+};
 
 const ADD: [u8; 16] = [0x4C, 0, 0, 1, 1, 0, 5, 0, 0, 0, 0, 0x40, 7, 0, 0, 0];
 const WRITE: [u8; 16] = [0x40, 0, 0, 1, 1, 0, 0, 0x0F, 0, 0, 0, 0x80, 1, 2, 3, 4];
@@ -99,6 +102,42 @@ fn a_fabric_whose_counter_counts_once() {
     assert_eq!(fabric.copy_bytes(&mut bytes), Ok(()));
     assert_eq!(bytes[0x40..0x48], [7, 0, 0, 0, 0, 0, 0, 0]);
     assert_eq!(check(&fabric.trace().unwrap()), Ok(()));
+}
+
+#[test]
+fn a_fabric_comes_to_rest() {
+    let mut fabric = Fabric::new("fabric 2 0 4096", true).unwrap();
+    assert_eq!(fabric.settled(), Ok(vec![]));
+    for event in ["submit 1 add 40 07000000", "submit 2 add 40 05000000", "submit 1 write 80 F 0 01020304"] {
+        fabric.event(event).unwrap();
+    }
+    let first = vec!["ans 1 0 data 00000000".to_owned(), "ans 2 0 data 07000000".to_owned()];
+    assert_eq!(fabric.settle(), Ok(first.clone()));
+    assert_eq!((fabric.settled(), fabric.is_quiet(), fabric.history_length()), (Ok(first), true, 3));
+    let trace = String::from_utf8(fabric.trace().unwrap()).unwrap();
+    assert!(trace.contains("\nans 2 0 3 data 07000000\n") || trace.contains("\nans 2 0 2 data 07000000\n"), "{trace}");
+    assert_eq!(check_clocked(trace.as_bytes()), Ok(()));
+    assert_eq!(fabric.settle(), Ok(vec![]));
+    let mut plain = Fabric::new("fabric 1 0 4096", false).unwrap();
+    plain.event("submit 1 read 0 1 F 0").unwrap();
+    assert_eq!(plain.settle(), Ok(vec!["ans 1 0 data 00000000".to_owned()]));
+    assert_eq!(plain.trace().unwrap().split(|byte| *byte == b'\n').nth(2), Some(b"history".as_slice()));
+}
+
+#[test]
+fn a_script_goes_on_where_it_stopped() {
+    let mut fabric = Fabric::new("fabric 1 0 4096", true).unwrap();
+    let script = "# one addition\nsubmit 1 add 40 07000000\r\n\ntransmit up1\ntransmit up1\ndeliver up1 good";
+    let stopped = fabric.script(script).unwrap_err();
+    assert_eq!((stopped.results.as_str(), stopped.error), ("sub 1 0\nsent 000\n", Error::Told("Idle".into())));
+    assert_eq!(&script[stopped.done..], "transmit up1\ndeliver up1 good");
+    assert_eq!(fabric.script("deliver up1 good").as_deref(), Ok("accept\n"));
+    assert_eq!(fabric.script("settle\n").map_err(|stopped| stopped.error), Err(Error::Argument(2008)));
+    assert_eq!(fabric.script(""), Ok(String::new()));
+    let timers = fabric.script(&"timer in\n".repeat(3)).map_err(|stopped| stopped.done);
+    assert_eq!(timers, Err(0));
+    let sent = "dllp up1 ack\n".repeat(20_000);
+    assert_eq!(fabric.script(&sent).map(|results| results.lines().count()), Ok(20_000));
 }
 
 #[test]
@@ -218,4 +257,99 @@ fn a_history_is_searched_for() {
     let lie = log.replace("data 00", "data 07");
     assert_eq!(search(lie.as_bytes(), 1000), Ok(Sought::NotFound("none 1".into())));
     assert_eq!(search(b"no log", 1000), Ok(Sought::NotFound("fault 1 Head".into())));
+}
+
+#[test]
+fn reasons_and_pieces() {
+    let log = "pciex-log 1\nmemory 0 4096 64\nsub 1 0 write 40 F F 0100000002000000\nsub 2 0 read 40 2 F F\n\
+               ans 2 0 data 0000000002000000\nend\n";
+    let (sought, reasons) = search_with_reasons(log.as_bytes(), 1000, Granularity::Whole).unwrap();
+    assert_eq!((sought, reasons.len() > 1), (Sought::NotFound("none 2".into()), true));
+    assert!(reasons[0].starts_with("pciex: lines 3 to 5 have no history"), "{}", reasons[0]);
+    for granularity in [Granularity::Four, Granularity::Eight, Granularity::Sixteen, Granularity::SixtyFour] {
+        let (sought, reasons) = search_with_reasons(log.as_bytes(), 1000, granularity).unwrap();
+        let is_found = matches!(&sought, Sought::Found(trace) if check_clocked(trace.as_bytes()).is_ok());
+        assert_eq!((is_found, reasons.is_empty()), (granularity == Granularity::Four, is_found), "{granularity:?}");
+    }
+    let (sought, reasons) = search_with_reasons(b"no log", 1000, Granularity::Whole).unwrap();
+    assert_eq!((sought, reasons.len()), (Sought::NotFound("fault 1 Head".into()), 1));
+    let hard = "pciex-log 1\nmemory 0 4096 64\nsub 1 0 add 40 01000000\nsub 2 0 add 40 02000000\nsub 3 0 swap 44 01000000\n\
+                sub 4 0 swap 44 02000000\nsub 5 0 read 40 2 F F\nans 5 0 data 0200000002000000\nsub 5 1 read 40 2 F F\n\
+                ans 5 1 data 0300000001000000\nend\n";
+    let (sought, reasons) = search_with_reasons(hard.as_bytes(), 1, Granularity::Whole).unwrap();
+    assert_eq!(sought, Sought::GivenUp);
+    assert_eq!(reasons[0], "pciex: given up at line 8 (open requests: 5)");
+}
+
+#[test]
+fn fields_of_a_packet() {
+    let add = decode_tlp(&ADD).unwrap();
+    assert_eq!((add.kind, add.requester, add.tag, add.length), (Kind::FetchAdd, 0x100, 5, 1));
+    assert_eq!(add.body, Body::Request { address: 0x40, first: 0, last: 0 });
+    assert_eq!(ADD[add.payload], [7, 0, 0, 0]);
+    let long = decode_tlp(&encode("write 100000080 F 0 01020304 from 0100 tag 00").unwrap()).unwrap();
+    assert_eq!((long.kind, long.payload), (Kind::MemoryWrite, 16..20));
+    let completion = decode_tlp(&old(3)).unwrap();
+    assert_eq!(completion.kind, Kind::CompletionData);
+    assert_eq!(completion.body, Body::Completion { completer: 0, status: 0, byte_count: 4, lower: 0 });
+    assert_eq!(decode_tlp(&ADD[..3]), Err(Error::Packet(1)));
+}
+
+#[test]
+fn crcs() {
+    let mut packet = vec![0, 0];
+    packet.extend(ADD);
+    assert_eq!(pciex::lcrc(&packet), [0x21, 0xD4, 0x79, 0x8B]);
+    packet.extend([0x21, 0xD4, 0x79, 0x8B]);
+    assert_eq!(pciex::check_packet(&packet), pciex::LcrcCheck::Good);
+    packet[5] ^= 8;
+    assert_eq!(pciex::check_packet(&packet), pciex::LcrcCheck::Failed);
+    assert_eq!(pciex::check_packet(&[0xFF; 4]), pciex::LcrcCheck::Nullified);
+    assert_eq!(pciex::dllp_crc([0x90, 0, 0x80, 3]), [0x19, 0x8B]);
+    assert!(pciex::check_dllp([0x90, 0, 0x80, 3, 0x19, 0x8B]));
+    assert!(!pciex::check_dllp([0x90, 0, 0x80, 3, 0x19, 0x8A]));
+}
+
+/// The next completions of the endpoint, in digits.
+fn fetched(endpoint: &mut Endpoint) -> Vec<String> {
+    let digits = |packet: Vec<u8>| packet.iter().map(|byte| format!("{byte:02X}")).collect();
+    endpoint.completions().map(digits).collect()
+}
+
+/// The bytes of digits in groups.
+fn bytes_of(digits: &str) -> Vec<u8> {
+    let plain = digits.replace(' ', "");
+    (0..plain.len()).step_by(2).map(|at| u8::from_str_radix(&plain[at..at + 2], 16).unwrap()).collect()
+}
+
+#[test]
+fn an_endpoint() {
+    for size in [0, 2048, 4097, 2 << 20, (1 << 32) + 4096] {
+        assert_eq!(Endpoint::new(size, 0x1234, 0x7C1E).err(), Some(Error::Argument(2004)), "{size}");
+    }
+    let mut endpoint = Endpoint::new(4096, 0x1234, 0x7C1E).unwrap();
+    let rows = [
+        ("04000001 0008630F 01000000", Handled::Accepted, vec!["4A000001000000040008630034121E7C"]),
+        ("44000001 0008690F 01000010 0000DCFE", Handled::Accepted, vec!["0A0000000100000400086900"]),
+        ("44000001 00086B01 01000004 02000000", Handled::Accepted, vec!["0A0000000100000400086B00"]),
+        ("40000002 000800FF FEDC007C 11223344 55667788", Handled::Accepted, vec![]),
+        (
+            "00000002 000870FF FEDC007C",
+            Handled::Accepted,
+            vec!["4A000001010000080008707C11223344", "4A000001010000040008700055667788"],
+        ),
+        ("74000001 00000050 00000000 00000000 19000000", Handled::Ignored, vec![]),
+        ("40000001 0008000F FEDC1000 11223344", Handled::Unsupported, vec![]),
+        ("4A000001 00000004 00086300 34121E7C", Handled::Unexpected, vec![]),
+        ("00000001", Handled::Malformed, vec![]),
+    ];
+    for (tlp, handled, completions) in rows {
+        assert_eq!(endpoint.take(&bytes_of(tlp)), Ok(handled), "{tlp}");
+        assert_eq!(fetched(&mut endpoint), completions, "{tlp}");
+    }
+    endpoint.take(&bytes_of("00000002 000870FF FEDC007C")).unwrap();
+    endpoint.reset();
+    assert_eq!(fetched(&mut endpoint), Vec::<String>::new());
+    let bytes = endpoint.bytes();
+    assert_eq!((bytes.len(), &bytes[0x7C..0x84]), (4096, [0x11, 0x22, 0x33, 0x44, 0x55, 0x66, 0x77, 0x88].as_slice()));
 }

@@ -1,5 +1,5 @@
 -- The buffer that a caller lends for an answer, and what a call returns.
-use Rattle.std.specs.Prelude.{ℕ, ⊤, Bool, true, false, not, nat_lt, if◌then◌else◌, List, ◌++◌, length, drop, Result, Ok, Err}
+use Rattle.std.specs.Prelude.{ℕ, ⊤, Bool, true, false, not, nat_lt, if◌then◌else◌, List, ◌++◌, length, take, drop, Result, Ok, Err}
 use Rattle.c_buffer.specs.declared.outcome.Failure.{Failure}
 use Rattle.c_buffer.specs.declared.outcome.Failure.TheVariants.{Text, SmallBuffer}
 
@@ -29,6 +29,10 @@ abbrev pub copied : List ℕ → List ℕ → Told ⊤
 copied buffer bytes =
     if nat_lt (length buffer) (length bytes) then untold buffer (Err SmallBuffer)
     else record { outcome = Ok tt; buffer = filled buffer bytes }
+
+-- the first of the bytes, as many as the buffer has
+abbrev pub cut : List ℕ → List ℕ → List ℕ
+cut buffer bytes = filled buffer (take (length buffer) bytes)
 
 -- whether a failure has a text
 abbrev pub has_text : Failure → Bool

@@ -8,4 +8,4 @@ mod outcome;
 mod telling;
 
 pub use outcome::{Failure, LINE_BUFFER, Length, the_longest_answer_fills_a_line_buffer};
-pub use telling::{copy, tell, tell_fault};
+pub use telling::{copy, copy_first, tell, tell_fault};

@@ -78,4 +78,6 @@ pub enum Failure {
     NoCompletion,
     /// The requester is none of 1 to 7.
     NoRequester,
+    /// The granularity of a search is none of 4, 8, 16 and 64 bytes, and not 0 for whole requests.
+    WrongGranularity,
 }

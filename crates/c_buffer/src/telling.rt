@@ -1,6 +1,6 @@
 //! Answers in the caller's buffer.
 ghost use Rattle.std.specs.Prelude.{◌≡◌, ◌≤◌, IsErr, length};
-ghost use Rattle.c_buffer.specs.Buffer.{filled, copied};
+ghost use Rattle.c_buffer.specs.Buffer.{filled, copied, cut};
 ghost use Rattle.c_buffer.specs.declared.outcome.Failure.TheVariants.{Text};
 
 use crate::outcome::{Failure, Length};
@@ -47,4 +47,12 @@ pub fn copy(bytes: &[u8], buffer: &mut [u8]) -> Result<(), Failure>
     }
     fill(buffer, bytes);
     Ok(())
+}
+
+/// Puts as many bytes as the buffer has, the first ones, to its front.
+pub fn copy_first(bytes: &[u8], buffer: &mut [u8])
+    ensures { buffer.new ≡ cut buffer.old bytes.now }
+{
+    let count = bytes.len().min(buffer.len());
+    fill(buffer, &bytes[..count]);
 }

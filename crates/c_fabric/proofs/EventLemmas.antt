@@ -1,20 +1,19 @@
 -- What a session holds after an event.
-use Rattle.std.proofs.Common.{ℕ, ◌≡◌, ◌∙◌, ◌⊎◌, inl, inr, Bool, true, false, List, ◌++◌, length, sym, ap, refl, subst, Result, Ok, Err, IsOk, IfErr, OnOk, OnErr}
+use Rattle.std.proofs.Common.{ℕ, ◌≡◌, ◌⊎◌, inl, inr, Bool, true, false, List, ◌++◌, length, sym, ap, refl, subst, Result, Ok, Err, IsOk, IfErr, OnOk, OnErr}
 use Rattle.history_check.specs.declared.Record.{Record}
 use Rattle.fabric_laws.specs.Fabric.{Fabric, whole_of}
 use Rattle.fabric_laws.specs.Sound.{Sound}
 use Rattle.fabric_laws.specs.Steps.{Step, Run, stays, goes}
 use Rattle.fabric_laws.specs.Trace.{Belongs}
 use Rattle.fabric_laws.specs.Whole.{Whole}
-use Rattle.fabric_events.specs.declared.event.Event.{Event}
-use Rattle.fabric_events.specs.declared.event.Seen.{Seen}
+use Rattle.fabric_events.specs.Events.{Event, Seen}
 use Rattle.fabric_core.specs.declared.fault.Refusal.{Refusal}
 use Rattle.fabric_core.specs.Faults.{is_memory}
 use Rattle.fabric_core.specs.Kept.{IsSoundFabric, records_of}
 use Rattle.fabric_core.specs.Answers.{Happens, Refused, answer}
 use Rattle.fabric_core.specs.Runs.{has_record}
 use Rattle.fabric_settle.specs.Keeping.{Witnessed, IsLossless, Never, WantsMemory}
-use Rattle.c_fabric.specs.SessionView.{KeptView, kept_of, last_text, IsSession, session_of}
+use Rattle.c_fabric.specs.SessionView.{KeptView, kept_of, last_text, IsKept}
 use Rattle.c_fabric.specs.Calls.{IsStep, EventWantsMemory}
 
 -- ---- with a trace
@@ -24,24 +23,25 @@ pub record Laws : Type 0 where
   pub step : (f f' : Fabric) (event : Event) (what : Seen) → IsSoundFabric f → Happens f event what f' → Step (whole_of f) (whole_of f') (records_of event what (length f.memory.entries))
 
 -- the trace grows by the records of the event, and belongs to the fabric after it
-grown : Laws → (f f' : Fabric) (k k' : KeptView) (e : Event) → IsSoundFabric f → Witnessed kept_of f k e f' k' → IsSession (session_of f true k.records) → IsSession (session_of f' true k'.records)
+grown : Laws → (f f' : Fabric) (k k' : KeptView) (e : Event) → IsSoundFabric f → Witnessed kept_of f k e f' k' → IsKept f true k.records → IsKept f' true k'.records
 grown l f f' k k' e sound w before traced =
     let told = records_of e w.what (length f.memory.entries) in
     let now : k'.records ≡ k.records ++ told = ap (λ (x : KeptView). x.records) w.now in
     subst (λ (rs : List Record). Belongs (whole_of f') rs) (sym now)
     (l.run (whole_of f) (whole_of f') k.records told sound.sound (before traced) (goes stays (l.step f f' e w.what sound w.happens)))
 
-same : (f f' : Fabric) (k k' : KeptView) → f' ≡ f → k' ≡ k → session_of f' true k'.records ≡ session_of f true k.records
-same f f' k k' fabric kept = ap (λ (g : Fabric). session_of g true k'.records) fabric ∙ ap (λ (x : KeptView). session_of f true x.records) kept
+same : (f f' : Fabric) (k k' : KeptView) → f' ≡ f → k' ≡ k → (f' ≡ f) × (k'.records ≡ k.records)
+same f f' k k' fabric kept = (fabric, ap (λ (x : KeptView). x.records) kept)
 
 pub stays_session : {T : Type 0} → Laws → (r : Result T Refusal) (f f' : Fabric) (k k' : KeptView) (e : Event) → IsSoundFabric f → OnOk r (Witnessed kept_of f k e f' k')
-    → OnErr r (IsLossless Never → (f' ≡ f) × (k' ≡ k)) → IsSession (session_of f true k.records) → IsSession (session_of f' true k'.records)
+    → OnErr r (IsLossless Never → (f' ≡ f) × (k' ≡ k)) → IsKept f true k.records → IsKept f' true k'.records
 stays_session l (Ok x) f f' k k' e sound ok err before = grown l f f' k k' e sound ok before
 stays_session l (Err x) f f' k k' e sound ok err before =
     let p = err (λ event lost. lost) in
-    subst IsSession (sym (same f f' k k' p.0 p.1)) before
+    let q = same f f' k k' p.0 p.1 in
+    subst (λ (g : Fabric). IsKept g true k'.records) (sym q.0) (subst (λ (rs : List Record). IsKept f true rs) (sym q.1) before)
 
-pub unchanged : {T : Type 0} (r : Result T Refusal) (f f' : Fabric) (k k' : KeptView) → OnErr r (IsLossless Never → (f' ≡ f) × (k' ≡ k)) → OnErr r (session_of f' true k'.records ≡ session_of f true k.records)
+pub unchanged : {T : Type 0} (r : Result T Refusal) (f f' : Fabric) (k k' : KeptView) → OnErr r (IsLossless Never → (f' ≡ f) × (k' ≡ k)) → OnErr r ((f' ≡ f) × (k'.records ≡ k.records))
 unchanged (Ok x) f f' k k' err = err
 unchanged (Err x) f f' k k' err =
     let p = err (λ event lost. lost) in
@@ -49,7 +49,7 @@ unchanged (Err x) f f' k k' err =
 
 pub is_step : {T : Type 0} (r : Result T Refusal) (f f' : Fabric) (k k' : KeptView) (e : Event) → OnOk r (Witnessed kept_of f k e f' k')
     → OnOk r (IsStep f true k.records e f' k'.records k'.text)
-is_step (Ok x) f f' k k' e w = (w.what, w.happens.0, ap (λ (x : KeptView). x.text) w.now, ap (λ (x : KeptView). session_of f' true x.records) w.now)
+is_step (Ok x) f f' k k' e w = (w.what, w.happens.0, ap (λ (x : KeptView). x.text) w.now, ap (λ (x : KeptView). x.records) w.now)
 is_step (Err x) f f' k k' e w = w
 
 -- ---- without a trace

@@ -1,18 +1,19 @@
 -- The calls of a fabric: what it and the caller's buffer hold after them, and what they return.
-use Rattle.std.specs.Prelude.{ℕ, ⊤, ◌≡◌, ◌≤◌, ◌⊎◌, nat_lt, Bool, true, if◌then◌else◌, List, ◌++◌, length, Option, Some, None, Result, Ok, Err, IsOk}
+use Rattle.std.specs.Prelude.{ℕ, ⊤, ◌≡◌, ◌≤◌, ◌⊎◌, nat_lt, Bool, true, if◌then◌else◌, List, ◌++◌, length, fold, Option, Some, None, Result, Ok, Err, IsOk}
 use Rattle.history_check.specs.declared.Record.{Record}
 use Rattle.fabric_laws.specs.Fabric.{Fabric}
 use Rattle.fabric_core.specs.declared.config.Config.{Config}
 use Rattle.fabric_core.specs.declared.config.ConfigFault.{ConfigFault}
 use Rattle.fabric_core.specs.Config.{IsConfig, fault_name}
-use Rattle.fabric_events.specs.declared.event.Event.{Event}
-use Rattle.fabric_events.specs.declared.event.Seen.{Seen}
+use Rattle.fabric_events.specs.Events.{Event, Seen}
 use Rattle.fabric_core.specs.declared.fault.Refusal.{Refusal}
 use Rattle.fabric_core.specs.Kept.{records_of}
-use Rattle.fabric_core.specs.Answers.{answer, Refused}
+use Rattle.fabric_core.specs.Answers.{Happens, answer, Refused}
 use Rattle.fabric_core.specs.Faults.{is_memory}
 use Rattle.fabric_core.specs.Runs.{has_record}
 use Rattle.fabric_answers.specs.New.{config_fault}
+use Rattle.fabric_settle.specs.Happenings.{Happening, Leads}
+use Rattle.fabric_settle.specs.Rounds.{settlement}
 use Rattle.operation_text.specs.Words.{words}
 use Rattle.script_text.specs.declared.line.Line.{Line}
 use Rattle.script_text.specs.declared.line.Line.TheVariants as lines
@@ -22,7 +23,8 @@ use Rattle.script_text.specs.Texts.{seen_text}
 use Rattle.c_buffer.specs.declared.outcome.Failure.{Failure}
 use Rattle.c_buffer.specs.declared.outcome.Failure.TheVariants.{Text, SmallBuffer, NoLine}
 use Rattle.c_buffer.specs.Buffer.{filled, Told, untold, told_fault}
-use Rattle.c_fabric.specs.SessionView.{SessionView, session_of}
+use Rattle.c_fabric.specs.declared.witness.SettleWitness.{SettleWitness}
+use Rattle.c_fabric.specs.SessionView.{SessionView, SettledView, settled_of, after_all}
 
 -- ---- making
 
@@ -57,18 +59,17 @@ abbrev pub unmoved : SessionView → List ℕ → Failure → EventCall
 unmoved s buffer failure = record { outcome = Err failure; session = s; buffer = buffer }
 
 -- n is the length of the history before the event
+abbrev pub recorded : Bool → List Record → Event → Seen → ℕ → List Record
+recorded traced rs event what n = if traced then rs ++ records_of event what n else rs
+
 abbrev pub kept : SessionView → Event → Seen → Fabric → ℕ → SessionView
-kept s event what f' n = record {
-  fabric = f';
-  is_traced = s.is_traced;
-  records = if s.is_traced then s.records ++ records_of event what n else s.records;
-}
+kept s event what f' n = record s { fabric = f'; records = recorded s.is_traced s.records event what n }
 
 -- the event happens, and leaves this fabric, these records, and the text of what is seen of it
 abbrev pub IsStep : Fabric → Bool → List Record → Event → Fabric → List Record → List ℕ → Type 0
 IsStep f traced rs event f' rs' text =
     (what : Seen) × (answer f event ≡ Ok (what, f')) × (text ≡ seen_text event what)
-    × (session_of f' traced rs' ≡ kept (session_of f traced rs) event what f' (length f.memory.entries))
+    × (rs' ≡ recorded traced rs event what (length f.memory.entries))
 
 -- memory is wanted: the event isn't refused, and the fabric can't grow for it; or a trace is kept, and can't grow for the
 -- event's record
@@ -102,3 +103,25 @@ IsEventCall s line buffer = (512 ≤ length buffer) × (event : Event) × (line_
 -- the buffer is tested first, then the line
 abbrev pub event_call : SessionView → List ℕ → List ℕ → EventCall
 event_call s line buffer = if nat_lt (length buffer) 512 then unmoved s buffer SmallBuffer else happened_by s buffer (line_of (words line))
+
+-- ---- settlements
+
+-- the session that the rounds of a settlement leave
+abbrev pub settled : SessionView → SessionView
+settled s = after_all s (settlement s.fabric).happened (settlement s.fabric).fabric
+
+-- what is kept now
+abbrev pub settled_view : SettleWitness → SettledView
+settled_view w = record { is_traced = w.is_traced; records = w.trace.items; collected = w.collected.items }
+
+-- the events happen in turn to the fabric and leave the other, and what is kept is of these events
+pub record Leaves (f : Fabric) (k : SettledView) (f' : Fabric) (k' : SettledView) : Type 0 where
+  pub happened : List Happening
+  pub led : Leads Happens f happened f'
+  pub now : k' ≡ fold settled_of k happened
+
+-- a list of events leads from one session to the other
+pub record IsReached (s s' : SessionView) : Type 0 where
+  pub happened : List Happening
+  pub led : Leads Happens s.fabric happened s'.fabric
+  pub now : s' ≡ after_all s happened s'.fabric

@@ -1,4 +1,5 @@
 pub mod SessionView
 pub mod Calls
+pub mod Scripts
 pub mod Slot
 pub use Rattle.c_buffer.specs.Buffer

@@ -7,7 +7,7 @@ ghost use Rattle.fabric_answers.specs.Told.{IsTold};
 ghost use Rattle.script_text.specs.Names.{refusal_text};
 ghost use Rattle.c_buffer.specs.declared.outcome.Failure.TheVariants.{Text, NoMemory};
 ghost use Rattle.c_buffer.specs.Buffer.{filled, is_silent};
-ghost use Rattle.c_fabric.specs.SessionView.{SessionView, IsSession, session_of};
+ghost use Rattle.c_fabric.specs.SessionView.{SessionView, IsKept};
 ghost use Rattle.c_fabric.specs.Calls.{IsStep, EventWantsMemory, happened, event_call, IsEventCall};
 
 use crate::session::Session;
@@ -17,10 +17,10 @@ use arrayvec::ArrayString;
 use c_buffer::{Failure, LINE_BUFFER, Length, tell, tell_fault};
 use fabric_answers::laws::each_event_has_one_answer;
 use fabric_core::laws::each_event_keeps_it_sound;
-use fabric_core::{Event, Fabric, Refusal};
+use fabric_core::{EventRef, Fabric, Refusal};
 use fabric_laws::laws::the_trace_belongs;
 use fabric_settle::happen;
-use script_text::{Line, read_line, write_refusal};
+use script_text::{LineForm, ROOM, read_line_lent, write_refusal};
 
 /// Puts the name of a refusal other than out of memory to the front of the buffer.
 fn put_refusal(refusal: Refusal, buffer: &mut [u8]) -> Failure
@@ -40,33 +40,37 @@ fn put_refusal(refusal: Refusal, buffer: &mut [u8]) -> Failure
 }
 
 /// An event happens to a fabric that keeps no trace, and the text of what is seen of it is kept.
-fn step_untraced(fabric: &mut Fabric, last: &mut LastSeen, event: &Event) -> Result<(), Refusal>
+fn step_untraced(
+    fabric: &mut Fabric,
+    last: &mut LastSeen,
+    event: &EventRef<'_>,
+) -> Result<(), Refusal>
     ensures ok { OnOk result ((rs : List records.Record) → IsStep fabric.old false rs event.now fabric.new rs last.new.text.bytes) }
     ensures refused { IfErr result (λ r. IsTold r → answer fabric.old event.now ≡ Err r) }
     ensures no_memory { IfErr result (λ r. is_memory r ≡ true → EventWantsMemory fabric.old false event.now) }
     ensures err { OnErr result (fabric.new ≡ fabric.old) }
 {
     each_event_has_one_answer();
-    happen(fabric, last, 0, event.lent())
+    happen(fabric, last, 0, event)
 }
 
 /// An event happens to a fabric that keeps a trace, which grows by its record, and the text of what is seen of it is kept.
 fn step_traced(
     fabric: &mut Fabric,
     witness: &mut SessionWitness,
-    event: &Event,
+    event: &EventRef<'_>,
 ) -> Result<(), Refusal>
     ensures ok { OnOk result (IsStep fabric.old true witness.old.records.items event.now fabric.new witness.new.records.items witness.new.last.text.bytes) }
-    ensures session { IsSession (session_of fabric.old true witness.old.records.items) → IsSession (session_of fabric.new true witness.new.records.items) }
+    ensures session { IsKept fabric.old true witness.old.records.items → IsKept fabric.new true witness.new.records.items }
     ensures refused { IfErr result (λ r. IsTold r → answer fabric.old event.now ≡ Err r) }
     ensures no_memory { IfErr result (λ r. is_memory r ≡ true → EventWantsMemory fabric.old true event.now) }
-    ensures err { OnErr result (session_of fabric.new true witness.new.records.items ≡ session_of fabric.old true witness.old.records.items) }
+    ensures err { OnErr result ((fabric.new ≡ fabric.old) × (witness.new.records.items ≡ witness.old.records.items)) }
 {
     the_trace_belongs();
     each_event_keeps_it_sound();
     each_event_has_one_answer();
     fabric.sound();
-    happen(fabric, witness, 0, event.lent())
+    happen(fabric, witness, 0, event)
 }
 
 /// An event happens to the fabric, and to its trace where it keeps one.
@@ -74,13 +78,13 @@ fn step(
     fabric: &mut Fabric,
     is_traced: bool,
     witness: &mut SessionWitness,
-    event: &Event,
+    event: &EventRef<'_>,
 ) -> Result<(), Refusal>
     ensures ok { OnOk result (IsStep fabric.old is_traced witness.old.records.items event.now fabric.new witness.new.records.items witness.new.last.text.bytes) }
-    ensures session { IsSession (session_of fabric.old is_traced witness.old.records.items) → IsSession (session_of fabric.new is_traced witness.new.records.items) }
+    ensures session { IsKept fabric.old is_traced witness.old.records.items → IsKept fabric.new is_traced witness.new.records.items }
     ensures refused { IfErr result (λ r. IsTold r → answer fabric.old event.now ≡ Err r) }
     ensures no_memory { IfErr result (λ r. is_memory r ≡ true → EventWantsMemory fabric.old is_traced event.now) }
-    ensures err { OnErr result (session_of fabric.new is_traced witness.new.records.items ≡ session_of fabric.old is_traced witness.old.records.items) }
+    ensures err { OnErr result ((fabric.new ≡ fabric.old) × (witness.new.records.items ≡ witness.old.records.items)) }
 {
     if is_traced {
         step_traced(fabric, witness, event)
@@ -90,7 +94,11 @@ fn step(
 }
 
 /// An event happens to the session.
-fn happen_to(session: &mut Session, event: &Event, buffer: &mut [u8]) -> Result<Length, Failure>
+fn happen_to(
+    session: &mut Session,
+    event: &EventRef<'_>,
+    buffer: &mut [u8],
+) -> Result<Length, Failure>
     requires { 512 ≤ length buffer.old }
     ensures outcome { ¬ (result ≡ Err NoMemory) → result ≡ (happened session.old buffer.old event.now).outcome }
     ensures session { ¬ (result ≡ Err NoMemory) → session.new ≡ (happened session.old buffer.old event.now).session }
@@ -99,6 +107,7 @@ fn happen_to(session: &mut Session, event: &Event, buffer: &mut [u8]) -> Result<
     ensures unchanged { IsErr result → session.new ≡ session.old }
     ensures unchanged_buffer { is_silent result ≡ true → buffer.new ≡ buffer.old }
 {
+    session.text = None;
     match step(
         &mut session.fabric,
         session.is_traced,
@@ -111,7 +120,11 @@ fn happen_to(session: &mut Session, event: &Event, buffer: &mut [u8]) -> Result<
 }
 
 /// A line of a script happens to the session.
-fn happen_by(session: &mut Session, line: &[u8], buffer: &mut [u8]) -> Result<Length, Failure>
+pub(crate) fn happen_by(
+    session: &mut Session,
+    line: &[u8],
+    buffer: &mut [u8],
+) -> Result<Length, Failure>
     ensures outcome { ¬ (result ≡ Err NoMemory) → result ≡ (event_call session.old line.now buffer.old).outcome }
     ensures session { ¬ (result ≡ Err NoMemory) → session.new ≡ (event_call session.old line.now buffer.old).session }
     ensures buffer { ¬ (result ≡ Err NoMemory) → buffer.new ≡ (event_call session.old line.now buffer.old).buffer }
@@ -122,7 +135,8 @@ fn happen_by(session: &mut Session, line: &[u8], buffer: &mut [u8]) -> Result<Le
     if buffer.len() < LINE_BUFFER {
         return Err(Failure::SmallBuffer);
     }
-    let Ok(Line::Event(event)) = read_line(line) else {
+    let mut room = ROOM;
+    let Ok(LineForm::Event(event)) = read_line_lent(line, &mut room) else {
         return Err(Failure::NoLine);
     };
     happen_to(session, &event, buffer)

@@ -25,11 +25,14 @@ fn explain(session: &Session)
     session.fabric.sound();
 }
 
-/// The text of the trace and the history.
+/// The text of the trace and the history, kept or new.
 fn text_of(alloc: Global, session: &mut Session) -> Result<String, AllocError>
     ensures text { IfOk result (λ text. string_bytes text ≡ trace_text (claim session.old)) }
     ensures unchanged { session.new ≡ session.old }
 {
+    if let Some(text) = session.text.take() {
+        return Ok(text);
+    }
     let records = mem::replace(&mut session.witness.records, Vec::new(alloc));
     let trace = session.fabric.trace_of(records);
     let text = write_trace(alloc, &trace, session.fabric.history());
@@ -63,7 +66,11 @@ pub fn tell_trace(
     let outcome = match text_of(alloc, &mut held) {
         Ok(text) => {
             *size = text.len();
-            copy(text.as_bytes(), buffer)
+            let outcome = copy(text.as_bytes(), buffer);
+            if outcome.is_err() {
+                held.text = Some(text);
+            }
+            outcome
         }
         Err(_) => Err(Failure::NoMemory),
     };

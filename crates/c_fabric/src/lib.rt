@@ -1,4 +1,4 @@
-//! A fabric in a slot that stands outside Rattle, driven by the lines of scripts.
+//! A fabric in a slot that stands outside Rattle, driven by the lines of scripts, and brought to rest.
 //!
 //! A slot holds a fabric or nothing, and only the slot that a call gave back holds it then: the one
 //! that the call took is used up.
@@ -6,10 +6,14 @@
 
 mod happening;
 mod held;
+mod scripts;
 mod session;
+mod settling;
 mod slot;
 mod witness;
 
 pub use happening::tell_event;
 pub use held::{copy_bytes, history_length, is_quiet, tell_trace};
+pub use scripts::tell_script;
+pub use settling::{settle_fabric, tell_collected};
 pub use slot::{Slot, free_fabric, new_fabric};

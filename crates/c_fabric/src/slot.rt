@@ -89,6 +89,8 @@ fn make(alloc: Global, config: Config, is_traced: bool) -> Result<Session, Confi
                 text: ArrayString::new(),
             },
         },
+        collected: Vec::new(alloc),
+        text: None,
     })
 }
 

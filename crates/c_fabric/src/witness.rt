@@ -1,9 +1,9 @@
 //! What a session keeps of its fabric's events.
 use arrayvec::ArrayString;
-use fabric_core::{EventForm, Fabric, SeenForm};
+use fabric_core::{EventRef, Fabric, SeenRef};
 use fabric_settle::Witness;
 use history_check::Record;
-use script_text::write_seen_lent;
+use script_text::write_seen;
 use std::alloc::AllocError;
 
 /// The text of what was seen last.
@@ -14,14 +14,13 @@ pub(crate) struct LastSeen {
 
 impl LastSeen {
     ghost use Rattle.std.specs.Prelude.{◌≡◌};
-    ghost use Rattle.fabric_events.specs.Lent.{owned_event, owned_seen};
     ghost use Rattle.script_text.specs.Texts.{seen_text};
 
-    fn put(&mut self, event: EventForm<'_>, seen: &SeenForm<'_>)
-        ensures { self.new.text.bytes ≡ seen_text (owned_event event.entry) (owned_seen seen.now) }
+    fn put(&mut self, event: &EventRef<'_>, seen: &SeenRef<'_>)
+        ensures { self.new.text.bytes ≡ seen_text event.now seen.now }
     {
         self.text.clear();
-        write_seen_lent(event, seen, &mut self.text);
+        write_seen(event, seen, &mut self.text);
     }
 }
 
@@ -50,15 +49,15 @@ impl Witness for LastSeen {
 
     ghost may_lose = { Never };
 
-    fn make_room(&mut self, _event: EventForm<'_>) -> Result<(), AllocError> {
+    fn make_room(&mut self, _event: &EventRef<'_>) -> Result<(), AllocError> {
         Ok(())
     }
 
     fn saw(
         &mut self,
         _line: u64,
-        event: EventForm<'_>,
-        seen: &SeenForm<'_>,
+        event: &EventRef<'_>,
+        seen: &SeenRef<'_>,
         _fabric: &Fabric,
     ) -> Result<(), AllocError> {
         self.put(event, seen);
@@ -84,18 +83,64 @@ impl Witness for SessionWitness {
 
     ghost may_lose = { Never };
 
-    fn make_room(&mut self, event: EventForm<'_>) -> Result<(), AllocError> {
+    fn make_room(&mut self, event: &EventRef<'_>) -> Result<(), AllocError> {
         self.records.make_room(event)
     }
 
     fn saw(
         &mut self,
         line: u64,
-        event: EventForm<'_>,
-        seen: &SeenForm<'_>,
+        event: &EventRef<'_>,
+        seen: &SeenRef<'_>,
         fabric: &Fabric,
     ) -> Result<(), AllocError> {
         self.last.put(event, seen);
         self.records.saw(line, event, seen, fabric)
+    }
+}
+
+/// What a settlement keeps: the records of its events, in the trace where one is kept, and apart.
+#[derive(Drop)]
+pub(crate) struct SettleWitness {
+    pub(crate) is_traced: bool,
+    pub(crate) trace: Vec<Record>,
+    pub(crate) collected: Vec<Record>,
+}
+
+impl Witness for SettleWitness {
+    ghost use Rattle.std.specs.Prelude.{◌≡◌, ◌<◌, true, vec_len, vec_capacity};
+    ghost use Rattle.fabric_settle.specs.Keeping.{IsRecorded, Never};
+    ghost use Rattle.c_fabric.specs.SessionView.{SettledView, settled_of};
+
+    ghost Kept = { SettledView };
+
+    ghost kept = { λ w. record { is_traced = w.is_traced; records = w.trace.items; collected = w.collected.items } };
+
+    ghost saw = { λ line. settled_of };
+
+    ghost has_room = { λ event w. IsRecorded event → (w.is_traced ≡ true → vec_len w.trace < vec_capacity w.trace) × (vec_len w.collected < vec_capacity w.collected) };
+
+    ghost needs_room = { IsRecorded };
+
+    ghost may_lose = { Never };
+
+    fn make_room(&mut self, event: &EventRef<'_>) -> Result<(), AllocError> {
+        if self.is_traced {
+            self.trace.make_room(event)?;
+        }
+        self.collected.make_room(event)
+    }
+
+    fn saw(
+        &mut self,
+        line: u64,
+        event: &EventRef<'_>,
+        seen: &SeenRef<'_>,
+        fabric: &Fabric,
+    ) -> Result<(), AllocError> {
+        if self.is_traced {
+            self.trace.saw(line, event, seen, fabric)?;
+        }
+        self.collected.saw(line, event, seen, fabric)
     }
 }

@@ -2,9 +2,10 @@
 ghost use Rattle.std.specs.Prelude.{◌≡◌, ◌≤◌, ◌<◌, ◌↔◌, Err, IsOk, IsErr, true, false};
 ghost use Rattle.c_buffer.specs.declared.outcome.Failure.TheVariants as failures;
 ghost use Rattle.c_buffer.specs.Buffer.{has_text, is_silent};
-ghost use Rattle.pciex_c.specs.Codes.{failure_code, code_of, status_of};
+ghost use Rattle.pciex_c.specs.Codes.{failure_code, code_of, status_of, taken_of};
 
 use c_buffer::{Failure, Length};
+use endpoint_core::Handled;
 
 /// The code for a small buffer.
 pub const SMALL_BUFFER: u32 = 2000;
@@ -15,12 +16,16 @@ pub const NO_MEMORY: u32 = 2003;
 /// The code for a number that no fault has.
 pub const NO_FAULT: u32 = 2007;
 
+/// The code for a size of pieces that a search doesn't have.
+pub const WRONG_GRANULARITY: u32 = 2012;
+
 /// The code of a failure.
 fn failed(failure: Failure) -> u32
     ensures value { result ≡ failure_code failure }
     ensures range { 1000 ≤ result }
     ensures silent { 2000 ≤ result → has_text failure ≡ false }
     ensures no_memory { result ≡ NO_MEMORY → failure ≡ failures.NoMemory }
+    ensures wrong { result ≡ WRONG_GRANULARITY → failure ≡ failures.WrongGranularity }
 {
     match failure {
         Failure::Fault(number) => 1000 + u32::from(number),
@@ -36,6 +41,7 @@ fn failed(failure: Failure) -> u32
         Failure::NoLine => 2008,
         Failure::NoCompletion => 2010,
         Failure::NoRequester => 2011,
+        Failure::WrongGranularity => WRONG_GRANULARITY,
     }
 }
 
@@ -70,11 +76,29 @@ pub(crate) fn status(outcome: Result<(), Failure>) -> u32
 /// The code of a call that returns an exit status.
 pub(crate) fn exit_code(outcome: Result<u8, Failure>) -> u32
     ensures value { result ≡ code_of outcome }
+    ensures ok { result < 1000 → IsOk outcome }
+    ensures err { 1000 ≤ result → IsErr outcome }
+    ensures no_memory { result ≡ NO_MEMORY ↔ outcome ≡ Err failures.NoMemory }
+    ensures wrong { result ≡ WRONG_GRANULARITY ↔ outcome ≡ Err failures.WrongGranularity }
+{
+    match outcome {
+        Ok(status) => u32::from(status),
+        Err(failure) => failed(failure),
+    }
+}
+
+/// The code of what became of a TLP at an endpoint.
+pub(crate) fn taken(outcome: Result<Handled, Failure>) -> u32
+    ensures value { result ≡ taken_of outcome }
     ensures err { 1000 ≤ result → IsErr outcome }
     ensures no_memory { result ≡ NO_MEMORY ↔ outcome ≡ Err failures.NoMemory }
 {
     match outcome {
-        Ok(status) => u32::from(status),
+        Ok(Handled::Waits | Handled::Done) => 0,
+        Ok(Handled::Ignored) => 1,
+        Ok(Handled::Unsupported) => 2,
+        Ok(Handled::Unexpected) => 3,
+        Ok(Handled::Malformed(_)) => 4,
         Err(failure) => failed(failure),
     }
 }

@@ -4,6 +4,8 @@
 
 mod answers;
 mod codes;
+mod crcs;
 mod device;
+mod endpoint;
 mod fabric;
 mod monitor;

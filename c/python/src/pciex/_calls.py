@@ -1,9 +1,10 @@
 """The calls without a handle, and what they raise."""
 
 from ctypes import byref, c_size_t, c_ubyte
-from typing import Optional, Type
+from typing import List, NamedTuple, Optional, Tuple, Type
 
-from ._raw import LINE, NO_MEMORY, SMALL_ROOM, library, room
+from ._fault import Fault
+from ._raw import LINE, NO_MEMORY, SMALL_ROOM, Fields, library, room
 
 _WRONG = {
     2001: "a block has 64 or 128 bytes",
@@ -15,19 +16,8 @@ _WRONG = {
     2008: "the line has the wrong form",
     2010: "the packet is a request, not a completion",
     2011: "a monitor's requesters are 1 to 7",
+    2012: "a search has pieces of 4, 8, 16 or 64 bytes, or 0 for whole requests",
 }
-
-
-class Fault(Exception):
-    """A packet, words or a configuration have a fault: `str()` is its text as the program `pciex` prints it, and
-    `number` is that of a packet's fault, 1 to 13, or None."""
-
-    __module__ = "pciex"
-
-    def __init__(self, text: str) -> None:
-        super().__init__(text)
-        words = text.split(" ")
-        self.number: Optional[int] = int(words[1]) if len(words) == 3 and words[0] == "fault" else None
 
 
 class Refused(Exception):
@@ -48,7 +38,7 @@ def text_of(code: int, error: Type[Exception] = Fault) -> str:
     if code < 1000:
         return room.text(code)
     if code < 2000:
-        raise error(room.text(code - 1000))
+        raise error(room.text(code, 1000))
     raise wrong(code)
 
 
@@ -102,8 +92,10 @@ def answer(memory: bytearray, request: bytes, base: int = 0, block: int = 64) ->
     if not length:
         memory = bytearray(1)
     borrowed = (c_ubyte * len(memory)).from_buffer(memory)
-    code = library.answer(borrowed, length, base, block_of(block), request, len(request), room.bytes, LINE)
-    return packet_of(code)
+    try:
+        return packet_of(library.answer(borrowed, length, base, block_of(block), request, len(request), room.bytes, LINE))
+    finally:
+        del borrowed  # an exception that is kept would keep it, and the memory couldn't grow
 
 
 class Memory:
@@ -133,14 +125,14 @@ def check(text: str, clocked: bool = False) -> str:
     code = call(words, len(words), room.bytes, LINE)
     if code >= 2000:
         raise wrong(code)
-    return room.text(code - 1000) if code else "ok"
+    return room.text(code, 1000) if code else "ok"
 
 
 def search(text: str, limit: int = 1000000) -> str:
     """What `pciex search` prints of the text of a log, or of a trace, whose history says nothing: a trace with a history
     that explains what was seen; `none 3`, the place of a record up to which no history does; `limit 1000000` if it was
-    given up after so many choices; or `fault 3 Line` if the text can't be read. Lines end in line feeds, but for those of
-    one line."""
+    given up after so many choices; `flaw 6 Again 2` for a bookkeeping mistake; or `fault 3 Line` if the text can't be read.
+    Lines end in line feeds, but for those of one line."""
     words, limit = text.encode(), number_of("limit", limit, 64)
     size = 8 * len(words) + LINE
     while True:
@@ -153,6 +145,66 @@ def search(text: str, limit: int = 1000000) -> str:
         else:
             answer = bytes(buffer[: length.value]).decode()
             return answer.rstrip("\n") if code else answer
+
+
+def search_with_reasons(text: str, granularity: int = 0, limit: int = 1000000) -> Tuple[str, List[str]]:
+    """What `search` returns, for a memory whose reads and writes act in naturally aligned pieces of `granularity` bytes, 4,
+    8, 16 or 64, or as a whole for 0; and the lines that `pciex search` prints on standard error: why there is no history,
+    or why the text can't be read. There are no lines for what is found or given up."""
+    words, limit, granularity = text.encode(), number_of("limit", limit, 64), number_of("granularity", granularity, 32)
+    size, reasons_size = 8 * len(words) + LINE, 4096
+    while True:
+        buffer, length = (c_ubyte * size)(), c_size_t()
+        reasons, reasons_length = (c_ubyte * reasons_size)(), c_size_t()
+        code = library.search_with_reasons(words, len(words), limit, granularity, buffer, size, byref(length), reasons,
+                                           reasons_size, byref(reasons_length))
+        if code == SMALL_ROOM or reasons_length.value > reasons_size:
+            size, reasons_size = max(size, length.value), max(reasons_size, reasons_length.value)
+        elif code >= 2000:
+            raise wrong(code)
+        else:
+            answer = bytes(buffer[: length.value]).decode()
+            lines = bytes(reasons[: reasons_length.value]).decode(errors="replace").splitlines()
+            return answer.rstrip("\n") if code else answer, lines
+
+
+class Tlp(NamedTuple):
+    """The fields of a TLP. Those that its kind lacks are 0."""
+
+    kind: str
+    """MRd, MWr, FetchAdd, Swap, CAS, Cpl or CplD"""
+    tc: int
+    attr: int
+    """IDO 4, RO 2, NS 1"""
+    length: int
+    """in DW"""
+    requester: int
+    tag: int
+    address: int
+    first: int
+    """First DW BE"""
+    last: int
+    completer: int
+    status: int
+    """SC 0, UR 1, CA 4"""
+    byte_count: int
+    lower: int
+    """Lower Address"""
+    payload: bytes
+
+
+_KINDS = {0x00: "MRd", 0x40: "MWr", 0x4C: "FetchAdd", 0x4D: "Swap", 0x4E: "CAS", 0x0A: "Cpl", 0x4A: "CplD"}
+
+
+def decode_tlp(packet: bytes) -> Tlp:
+    """The fields of a TLP."""
+    packet, fields = bytes_of(packet), Fields()
+    code = library.decode_tlp(packet, len(packet), byref(fields))
+    if code:
+        raise Fault(f"fault {code - 1000} {fault_name(code - 1000)}")
+    values = {name: getattr(fields, name) for name in Tlp._fields if name not in ("kind", "payload")}
+    payload = packet[fields.payload_start : fields.payload_start + fields.payload_length]
+    return Tlp(kind=_KINDS[fields.kind], payload=payload, **values)
 
 
 def decode(packet: bytes) -> str:
@@ -178,3 +230,34 @@ def fault_name(number: int) -> str:
 def version() -> str:
     """The version of the library, as `pciex --version` prints it."""
     return text_of(library.version(room.bytes, LINE))
+
+
+# ---- the CRCs of a link
+
+
+def lcrc(packet: bytes) -> bytes:
+    """The four bytes of a packet's LCRC, in the order in which they are sent. The packet is its sequence number's two bytes
+    and its TLP."""
+    packet = bytes_of(packet)
+    return room.front(library.lcrc(packet, len(packet), room.bytes, LINE))
+
+
+def lcrc_check(packet: bytes) -> str:
+    """The check of a packet with its LCRC behind it: `good`, `failed`, or `nullified` if the LCRC is the complement of the
+    right one. Without EDB treat a nullified packet as failed."""
+    packet = bytes_of(packet)
+    return ("good", "failed", "nullified")[library.lcrc_check(packet, len(packet))]
+
+
+def dllp_crc(dllp: bytes) -> bytes:
+    """The two bytes of a DLLP's CRC, in the order in which they are sent."""
+    dllp = bytes_of(dllp)
+    if len(dllp) != 4:
+        raise ValueError("a DLLP has four bytes, without its CRC")
+    return room.front(library.dllp_crc(dllp, len(dllp), room.bytes, LINE))
+
+
+def dllp_check(dllp: bytes) -> bool:
+    """Whether the last two of six bytes are the CRC of a DLLP's first four."""
+    dllp = bytes_of(dllp)
+    return library.dllp_check(dllp, len(dllp)) == 0

@@ -1,9 +1,9 @@
-"""Devices, fabrics and monitors."""
+"""Devices, fabrics, monitors and endpoints."""
 
 from ctypes import byref, c_size_t, c_ubyte
 from threading import current_thread
 from types import TracebackType
-from typing import Any, List, Optional, Type, TypeVar
+from typing import Any, Iterator, List, Optional, Tuple, Type, TypeVar
 from warnings import warn
 
 from ._calls import Refused, block_of, bytes_of, line_of, number_of, packet_of, text_of, wrong
@@ -117,19 +117,61 @@ class Fabric(_Handle):
         code = library.fabric_new(words, len(words), is_traced, room.bytes, LINE, byref(self._slot))
         text_of(code)
         self._size = int(line.split(" ")[3])
+        self._scripted: Tuple[List[str], int] = ([], 0)
 
     def event(self, line: str) -> str:
         """The event of a script's line, `submit 1 add 40 07000000`, happens: its result, `sub 1 0`."""
         words = line.encode()
         return text_of(self._call(library.fabric_event, words, len(words), room.bytes, LINE), Refused)
 
+    def script(self, text: str) -> List[str]:
+        """The events of a script's lines happen, one after the other: their results. Empty lines and comments are skipped.
+        If it raises, which it does as `event`, the lines before have happened, and `scripted` has their results."""
+        words, results = text.encode(), b""
+        buffer, done, length = (c_ubyte * 65536)(), c_size_t(), c_size_t()
+        start, code = 0, SMALL_ROOM
+        while code == SMALL_ROOM:
+            code = self._call(
+                library.fabric_script, words[start:], len(words) - start, buffer, len(buffer), byref(done), byref(length)
+            )
+            start += done.value
+            results += bytes(buffer[: length.value])
+        lines = words[:start].count(b"\n") + (start == len(words) and not words.endswith(b"\n") and start > 0)
+        self._scripted = (results.decode("ascii").splitlines(), lines)
+        if 1000 <= code < 2000:
+            raise Refused(bytes(buffer[length.value : length.value + code - 1000]).decode("ascii"))
+        if code:
+            raise wrong(code)
+        return self._scripted[0]
+
+    def scripted(self) -> Tuple[List[str], int]:
+        """The results of the last `script`, and how many of its lines were done."""
+        return self._scripted
+
+    def settle(self) -> List[str]:
+        """Runs the fabric until nothing moves, as `settle` in a script does: the lines of the completions that its
+        requesters collected, `ans 1 0 data 00000000`. Then it is quiet. If it raises MemoryError, some of the events have
+        happened, and `settled` has what they collected."""
+        code = self._call(library.fabric_settle)
+        if code:
+            raise wrong(code)
+        return self.settled()
+
+    def settled(self) -> List[str]:
+        """The lines of the completions that the last `settle` collected."""
+        return self._text(library.fabric_settled).splitlines()
+
     def trace(self) -> str:
         """The text of the trace and the history, as `pciex step --trace` writes it."""
+        return self._text(library.fabric_trace)
+
+    def _text(self, function: Any) -> str:
+        """A text of any length."""
         length = c_size_t()
-        code = self._call(library.fabric_trace, room.bytes, 0, byref(length))
+        code = self._call(function, room.bytes, 0, byref(length))
         text = (c_ubyte * length.value)()
         if code == SMALL_ROOM:
-            code = self._call(library.fabric_trace, text, len(text), byref(length))
+            code = self._call(function, text, len(text), byref(length))
         if code:
             raise wrong(code)
         return bytes(text).decode("ascii")
@@ -184,3 +226,60 @@ class Monitor(_Handle):
     def open(self) -> int:
         """How many requests wait for their completions."""
         return self._call(library.monitor_open)
+
+
+_WRONG_SIZE = 2004
+_HANDLED = ("accept", "Ignored", "Unsupported", "Unexpected", "Malformed")
+
+
+class Endpoint(_Handle):
+    """A memory device that a root complex enumerates, sets up and uses, with that Vendor ID and Device ID. Its memory is
+    `size` zeros, a power of two from 4096 to 1048576, behind BAR 0."""
+
+    _free = library.endpoint_free
+
+    def __init__(self, size: int, vendor: int = 0x1234, device: int = 0x7C1E) -> None:
+        super().__init__()
+        size, vendor = number_of("size", size, 63), number_of("vendor", vendor, 16)
+        code = library.endpoint_new(size, vendor, number_of("device", device, 16), byref(self._slot))
+        if code == _WRONG_SIZE:
+            raise ValueError("the size is a power of two, 4096 to 1048576 bytes")
+        if code:
+            raise wrong(code)
+        self._size = size
+
+    def take(self, tlp: bytes) -> "Completions":
+        """A TLP for the endpoint, whatever its bytes are, and an iterator of the completions that are due then."""
+        tlp = bytes_of(tlp)
+        code = self._call(library.endpoint_tlp, tlp, len(tlp))
+        if code >= 1000:
+            raise wrong(code)
+        return Completions(self, _HANDLED[code])
+
+    def next(self) -> Optional[bytes]:
+        """The next completion, None if no request waits. A posted request acts in `take`, each other one here, a read by
+        one naturally aligned block of 128 bytes."""
+        return packet_of(self._call(library.endpoint_next, room.bytes, LINE))
+
+    def reset(self) -> None:
+        """The registers are what they were at first, no request waits, and the memory stays."""
+        self._call(library.endpoint_reset)
+
+    def memory(self) -> bytes:
+        """The memory as it is now."""
+        return self._copy(library.endpoint_bytes, self._size)
+
+
+class Completions(Iterator[bytes]):
+    """The completions of an endpoint that are due; one that isn't taken from it is still due. `handled` is what became of
+    the TLP: `accept` for a request, which acted or waits, `Ignored`, `Unsupported`, `Unexpected` or `Malformed`."""
+
+    def __init__(self, endpoint: Endpoint, handled: str) -> None:
+        self.handled = handled
+        self._endpoint = endpoint
+
+    def __next__(self) -> bytes:
+        completion = self._endpoint.next()
+        if completion is None:
+            raise StopIteration
+        return completion

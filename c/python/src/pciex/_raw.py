@@ -2,7 +2,9 @@
 
 import ctypes
 import os
-import threading
+
+# The version of the library that this package is for.
+VERSION = "0.2.0"
 
 LINE = 512
 
@@ -15,6 +17,28 @@ class Slot(ctypes.Structure):
     """A handle. It holds nothing at first."""
 
     _fields_ = [("at", ctypes.c_void_p)]
+
+
+class Fields(ctypes.Structure):
+    """The fields of a TLP."""
+
+    _fields_ = [
+        ("address", ctypes.c_uint64),
+        ("payload_start", ctypes.c_uint32),
+        ("payload_length", ctypes.c_uint32),
+        ("length", ctypes.c_uint16),
+        ("requester", ctypes.c_uint16),
+        ("completer", ctypes.c_uint16),
+        ("byte_count", ctypes.c_uint16),
+        ("kind", ctypes.c_uint8),
+        ("tc", ctypes.c_uint8),
+        ("attr", ctypes.c_uint8),
+        ("tag", ctypes.c_uint8),
+        ("first", ctypes.c_uint8),
+        ("last", ctypes.c_uint8),
+        ("status", ctypes.c_uint8),
+        ("lower", ctypes.c_uint8),
+    ]
 
 
 _BYTES = ctypes.c_void_p
@@ -30,6 +54,11 @@ _CODES = {
     "device_bytes": [Slot, _BYTES, _SIZE, _SLOT],
     "fabric_new": [ctypes.c_char_p, _SIZE, ctypes.c_bool, _BYTES, _SIZE, _SLOT],
     "fabric_event": [Slot, ctypes.c_char_p, _SIZE, _BYTES, _SIZE, _SLOT],
+    "fabric_script": [
+        Slot, ctypes.c_char_p, _SIZE, _BYTES, _SIZE, ctypes.POINTER(_SIZE), ctypes.POINTER(_SIZE), _SLOT,
+    ],
+    "fabric_settle": [Slot, _SLOT],
+    "fabric_settled": [Slot, _BYTES, _SIZE, ctypes.POINTER(_SIZE), _SLOT],
     "fabric_trace": [Slot, _BYTES, _SIZE, ctypes.POINTER(_SIZE), _SLOT],
     "fabric_bytes": [Slot, _BYTES, _SIZE, _SLOT],
     "monitor_new": [ctypes.c_char_p, _SIZE, _BYTES, _SIZE, _SLOT],
@@ -37,13 +66,26 @@ _CODES = {
     "monitor_completion": [Slot, ctypes.c_uint8, ctypes.c_char_p, _SIZE, _BYTES, _SIZE, _SLOT],
     "monitor_give_up": [Slot, ctypes.c_uint8, ctypes.c_uint8, _SLOT],
     "monitor_acted": [Slot, ctypes.c_uint8, ctypes.c_uint32, _BYTES, _SIZE, _SLOT],
+    "endpoint_new": [_SIZE, ctypes.c_uint16, ctypes.c_uint16, _SLOT],
+    "endpoint_tlp": [Slot, ctypes.c_char_p, _SIZE, _SLOT],
+    "endpoint_next": [Slot, _BYTES, _SIZE, _SLOT],
+    "endpoint_bytes": [Slot, _BYTES, _SIZE, _SLOT],
     "check": [ctypes.c_char_p, _SIZE, _BYTES, _SIZE],
     "check_clocked": [ctypes.c_char_p, _SIZE, _BYTES, _SIZE],
     "search": [ctypes.c_char_p, _SIZE, ctypes.c_uint64, _BYTES, _SIZE, ctypes.POINTER(_SIZE)],
+    "search_with_reasons": [
+        ctypes.c_char_p, _SIZE, ctypes.c_uint64, ctypes.c_uint32, _BYTES, _SIZE, ctypes.POINTER(_SIZE), _BYTES, _SIZE,
+        ctypes.POINTER(_SIZE),
+    ],
     "decode": [ctypes.c_char_p, _SIZE, _BYTES, _SIZE],
+    "decode_tlp": [ctypes.c_char_p, _SIZE, ctypes.POINTER(Fields)],
     "encode": [ctypes.c_char_p, _SIZE, _BYTES, _SIZE],
     "fault_name": [ctypes.c_uint32, _BYTES, _SIZE],
     "version": [_BYTES, _SIZE],
+    "lcrc": [ctypes.c_char_p, _SIZE, _BYTES, _SIZE],
+    "lcrc_check": [ctypes.c_char_p, _SIZE],
+    "dllp_crc": [ctypes.c_char_p, _SIZE, _BYTES, _SIZE],
+    "dllp_check": [ctypes.c_char_p, _SIZE],
 }
 
 # The arguments and the result of each other function.
@@ -55,7 +97,28 @@ _OTHERS = {
     "fabric_free": ([Slot], None),
     "monitor_open": ([Slot, _SLOT], _SIZE),
     "monitor_free": ([Slot], None),
+    "endpoint_reset": ([Slot, _SLOT], None),
+    "endpoint_free": ([Slot], None),
 }
+
+
+class _Buffer(ctypes.c_ubyte * LINE):
+    """The buffer of one call. No other call has it: a signal's handler, a finalizer or another thread may run between a
+    call and the copy of its result, and make calls of its own."""
+
+
+class _Code(int):
+    """The code that a call returned, with the buffer that it wrote into."""
+
+    buffer: _Buffer
+
+
+def _with_buffer(code: int, function: object, arguments: tuple) -> int:
+    for it in arguments:
+        if isinstance(it, _Buffer):
+            code = _Code(code)
+            code.buffer = it
+    return code
 
 
 class _Library:
@@ -72,27 +135,37 @@ class _Library:
             self._take(library, name, arguments, ctypes.c_uint32)
         for name, (arguments, result) in _OTHERS.items():
             self._take(library, name, arguments, result)
+        text = _Buffer()
+        found = ctypes.string_at(text, self.version(text, LINE)).decode("ascii")
+        if found != f"pciex {VERSION}":
+            raise ImportError(f"{path} is {found}, and this package is for pciex {VERSION}")
 
     def _take(self, library: ctypes.CDLL, name: str, arguments: list, result: object) -> None:
         function = getattr(library, f"pciex_raw_{name}")
         function.argtypes, function.restype = arguments, result
+        if result is ctypes.c_uint32:
+            function.errcheck = _with_buffer
         setattr(self, name, function)
 
 
 library = _Library()
 
 
-class _Room(threading.local):
-    """The buffer for results. Each thread has its own: another thread may run between a call and the copy."""
+class _Room:
+    """The buffers for results."""
 
-    def __init__(self) -> None:
-        self.bytes = (ctypes.c_ubyte * LINE)()
+    @property
+    def bytes(self) -> _Buffer:
+        """A buffer for one call."""
+        return _Buffer()
 
-    def front(self, count: int) -> bytes:
-        return ctypes.string_at(self.bytes, count)
+    def front(self, code: int, less: int = 0) -> bytes:
+        """The first `code - less` bytes of what the call with this code wrote."""
+        count = code - less
+        return ctypes.string_at(code.buffer, count) if count else b""  # type: ignore[attr-defined]
 
-    def text(self, count: int) -> str:
-        return self.front(count).decode("ascii")
+    def text(self, code: int, less: int = 0) -> str:
+        return self.front(code, less).decode("ascii")
 
 
 room = _Room()

@@ -1,6 +1,5 @@
 use Rattle.std.proofs.Common.{◌≡◌, true, refl, Err}
 use Rattle.fabric_core.specs.declared.fault.Refusal.{Refusal}
-use Rattle.fabric_events.specs.Lent.{owned_event}
 use Rattle.fabric_core.specs.Answers.{answer}
 use Rattle.fabric_answers.specs.Told.{IsTold}
 use Rattle.fabric_settle.specs.Keeping.{IsRecorded}
@@ -14,7 +13,7 @@ returns-clause-ok c =
     let v = c.happen.new.witness in
     let k : KeptView = record { records = w.records.items; text = w.last.text.bytes } in
     let k' : KeptView = record { records = v.records.items; text = v.last.text.bytes } in
-    rw (← c.lent.ensures) (is_step c.happen.result c.args.fabric.now c.happen.new.fabric k k' (owned_event c.lent.result) c.happen.ensures.ok)
+    is_step c.happen.result c.args.fabric.now c.happen.new.fabric k k' c.args.event.now c.happen.ensures.ok
 
 pub returns-clause-session : goal.returns-clause-session
 returns-clause-session c =
@@ -22,13 +21,12 @@ returns-clause-session c =
     let v = c.happen.new.witness in
     let k : KeptView = record { records = w.records.items; text = w.last.text.bytes } in
     let k' : KeptView = record { records = v.records.items; text = v.last.text.bytes } in
-    stays_session (record { run = c.the_trace_belongs.ensures.run; step = c.each_event_keeps_it_sound.ensures.step }) c.happen.result c.args.fabric.now c.happen.new.fabric k k' (owned_event c.lent.result)
+    stays_session (record { run = c.the_trace_belongs.ensures.run; step = c.each_event_keeps_it_sound.ensures.step }) c.happen.result c.args.fabric.now c.happen.new.fabric k k' c.args.event.now
     c.sound.ensures c.happen.ensures.ok c.happen.ensures.lossless
 
 pub returns-clause-refused : goal.returns-clause-refused
 returns-clause-refused c =
-    rw (← c.lent.ensures)
-    (first_of c.happen.result IsTold (λ (r : Refusal). answer c.args.fabric.now (owned_event c.lent.result) ≡ Err r) _ _ c.happen.ensures.told)
+    first_of c.happen.result IsTold (λ (r : Refusal). answer c.args.fabric.now c.args.event.now ≡ Err r) _ _ c.happen.ensures.told
 
 pub returns-clause-no_memory : goal.returns-clause-no_memory
 returns-clause-no_memory c =
@@ -36,9 +34,8 @@ returns-clause-no_memory c =
     let v = c.happen.new.witness in
     let k : KeptView = record { records = w.records.items; text = w.last.text.bytes } in
     let k' : KeptView = record { records = v.records.items; text = v.last.text.bytes } in
-    rw (← c.lent.ensures)
-    (wanted c.each_event_has_one_answer.ensures.memory c.happen.result c.args.fabric.now c.happen.new.fabric true (owned_event c.lent.result) IsRecorded (λ recorded. (refl, recorded))
-    (fabric_stays c.happen.result c.args.fabric.now c.happen.new.fabric k k' c.happen.ensures.lossless) c.happen.ensures.memory)
+    wanted c.each_event_has_one_answer.ensures.memory c.happen.result c.args.fabric.now c.happen.new.fabric true c.args.event.now IsRecorded (λ recorded. (refl, recorded))
+    (fabric_stays c.happen.result c.args.fabric.now c.happen.new.fabric k k' c.happen.ensures.lossless) c.happen.ensures.memory
 
 pub returns-clause-err : goal.returns-clause-err
 returns-clause-err c =

@@ -1,6 +1,5 @@
 use Rattle.std.proofs.Common.{◌≡◌, false, Err}
 use Rattle.fabric_core.specs.declared.fault.Refusal.{Refusal}
-use Rattle.fabric_events.specs.Lent.{owned_event}
 use Rattle.fabric_core.specs.Answers.{answer}
 use Rattle.fabric_answers.specs.Told.{IsTold}
 use Rattle.fabric_settle.specs.Keeping.{Never}
@@ -9,19 +8,16 @@ use Rattle.c_fabric.proofs.happening.step_untraced.Goals as goal
 
 pub returns-clause-ok : goal.returns-clause-ok
 returns-clause-ok c =
-    rw (← c.lent.ensures)
-    (is_untraced c.happen.result c.args.fabric.now c.happen.new.fabric c.args.last.now.text.bytes c.happen.new.witness.text.bytes (owned_event c.lent.result) c.happen.ensures.ok)
+    is_untraced c.happen.result c.args.fabric.now c.happen.new.fabric c.args.last.now.text.bytes c.happen.new.witness.text.bytes c.args.event.now c.happen.ensures.ok
 
 pub returns-clause-refused : goal.returns-clause-refused
 returns-clause-refused c =
-    rw (← c.lent.ensures)
-    (first_of c.happen.result IsTold (λ (r : Refusal). answer c.args.fabric.now (owned_event c.lent.result) ≡ Err r) _ _ c.happen.ensures.told)
+    first_of c.happen.result IsTold (λ (r : Refusal). answer c.args.fabric.now c.args.event.now ≡ Err r) _ _ c.happen.ensures.told
 
 pub returns-clause-no_memory : goal.returns-clause-no_memory
 returns-clause-no_memory c =
-    rw (← c.lent.ensures)
-    (wanted c.each_event_has_one_answer.ensures.memory c.happen.result c.args.fabric.now c.happen.new.fabric false (owned_event c.lent.result) Never (λ lost. absurd lost)
-    (fabric_stays c.happen.result c.args.fabric.now c.happen.new.fabric c.args.last.now.text.bytes c.happen.new.witness.text.bytes c.happen.ensures.lossless) c.happen.ensures.memory)
+    wanted c.each_event_has_one_answer.ensures.memory c.happen.result c.args.fabric.now c.happen.new.fabric false c.args.event.now Never (λ lost. absurd lost)
+    (fabric_stays c.happen.result c.args.fabric.now c.happen.new.fabric c.args.last.now.text.bytes c.happen.new.witness.text.bytes c.happen.ensures.lossless) c.happen.ensures.memory
 
 pub returns-clause-err : goal.returns-clause-err
 returns-clause-err c =

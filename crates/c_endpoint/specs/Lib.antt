@@ -1,0 +1,4 @@
+pub mod Slot
+pub mod Calls
+pub use Rattle.c_buffer.specs.Buffer
+pub use Rattle.endpoint_core.specs.Steps

@@ -1,0 +1,4 @@
+use Rattle.c_fabric.proofs.settling.settle_fabric.Given as goal
+
+abbrev pub ghost-open : goal.ghost-open
+ghost-open g a = g.session
