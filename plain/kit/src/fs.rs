@@ -1,0 +1,60 @@
+//! Files.
+
+use std::io;
+use std::io::{Read, Write};
+
+/// An open file.
+#[derive(Debug)]
+pub struct File {
+    inner: std::fs::File,
+}
+
+impl File {
+    /// Opens a file to be read.
+    pub fn open<R>(_: &R, path: &str) -> io::Result<File> {
+        Ok(File {
+            inner: std::fs::File::open(path)?,
+        })
+    }
+
+    /// Makes a file, or empties the one that is there, to be written.
+    pub fn create<R>(_: &R, path: &str) -> io::Result<File> {
+        Ok(File {
+            inner: std::fs::File::create(path)?,
+        })
+    }
+}
+
+impl Read for File {
+    fn read(&mut self, buffer: &mut [u8]) -> io::Result<usize> {
+        self.inner.read(buffer)
+    }
+}
+
+impl Write for File {
+    fn write(&mut self, bytes: &[u8]) -> io::Result<usize> {
+        self.inner.write(bytes)
+    }
+
+    fn flush(&mut self) -> io::Result<()> {
+        self.inner.flush()
+    }
+}
+
+#[cfg(test)]
+mod tests {
+    use super::*;
+    use crate::rt::HostRuntime;
+
+    #[test]
+    fn a_file_that_is_not_there_is_an_error() {
+        let name = std::env::temp_dir().join(format!("kit-{}", std::process::id()));
+        let name = name.to_str().unwrap();
+        File::create(&HostRuntime, name).unwrap().write_all(b"a").unwrap();
+        let mut text = std::string::String::new();
+        File::open(&HostRuntime, name).unwrap().read_to_string(&mut text).unwrap();
+        assert_eq!(text, "a");
+        std::fs::remove_file(name).unwrap();
+        assert_eq!(File::open(&HostRuntime, name).unwrap_err().kind(), io::ErrorKind::NotFound);
+    }
+}

@@ -1,0 +1,5 @@
+//! Types that only proofs read.
+
+/// A type that stands for what a proof picks.
+#[derive(Clone, Copy, Debug)]
+pub enum Brand {}

@@ -1,0 +1,3 @@
+//! The crate `byteorder`.
+
+pub use ::byteorder::{BigEndian, ByteOrder, LittleEndian};

@@ -1,0 +1,3 @@
+//! The crate `itoa`.
+
+pub use ::itoa::Buffer;

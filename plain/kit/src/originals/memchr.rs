@@ -1,0 +1,3 @@
+//! The crate `memchr`.
+
+pub use ::memchr::{memchr, memmem};
