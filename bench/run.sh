@@ -1,7 +1,8 @@
 #!/bin/sh
 # Measures the built program and the built library for C, and prints a table in Markdown: run.sh [RUNS], 5 if not given.
 # With --alone ENGINE [FOLDER] it counts one engine's instructions a unit, in the whole program and in the program that
-# scripts/engine_alone.sh made in FOLDER, where each is built.
+# scripts/engine_alone.sh made in FOLDER, where each is built. With --threads [RUNS] it prints the processor seconds of
+# `run` by its number of workers, and of bench/lock.rs, which has the same fabric behind a lock, both in plain Rust.
 #
 # Seconds are processor seconds (user and system), the least of the runs. Instructions are counted by callgrind, as the
 # difference of two inputs of about 10,000 and 20,000 units, divided by the difference of the units. Peak memory is the
@@ -13,13 +14,19 @@
 # processor seconds.
 # shellcheck disable=SC2016 # backquotes of Markdown, and words of an inner shell
 set -eu
+unset CDPATH
 cd "$(dirname "$0")/.."
 alone=''
 if [ "${1:-}" = --alone ]; then
     [ $# -ge 2 ] || { echo "run.sh: --alone ENGINE [FOLDER]" >&2; exit 2; }
     alone=$2
-    program=${3:-/tmp/alone-$2}/crates/alone/out/alone
+    program=${3:-${XDG_CACHE_HOME:-$HOME/.cache}/pciex/alone-$2}/crates/alone/out/alone
     shift $#
+fi
+threads=''
+if [ "${1:-}" = --threads ]; then
+    threads=yes
+    shift
 fi
 runs=${1:-5}
 pciex=$PWD/crates/pciex/out/pciex
@@ -83,6 +90,29 @@ count() {
     counted "$kind" $((2 * small)) "$@"
     per_unit=$(((instructions - first) / (units - first_units)))
 }
+
+if [ -n "$threads" ]; then
+    python3 plain/translator/translate.py "$PWD" "$room/out" > /dev/null
+    mkdir -p "$room/lock/src"
+    cp bench/lock.rs "$room/lock/src/main.rs"
+    {
+        printf '%s\n' '[package]' 'name = "lock"' 'edition = "2024"' '[workspace]' '[dependencies]'
+        for crate in kit tlp_core dllp_core lane_core seq_memory history_check fabric_core; do
+            echo "$crate = { path = \"../out/$crate\" }"
+        done
+        sed -n '/^\[profile.release\]/,/^$/p' "$room/out/Cargo.toml"
+    } > "$room/lock/Cargo.toml"
+    export CARGO_TARGET_DIR="$room/target"
+    (cd "$room/out" && cargo build --offline --quiet --release --bin pciex) >&2
+    (cd "$room/lock" && cargo build --offline --quiet --release) >&2
+    : > "$room/input"
+    echo "140000 additions of 7 requesters: processor seconds, peak kilobytes"
+    echo "one lock: $("$room/measure" "$runs" "$room/input" "$room/target/release/lock" 7 20000)"
+    for workers in 1 2 4 8 34; do
+        echo "run --workers $workers: $("$room/measure" "$runs" "$room/input" "$room/target/release/pciex" run --requesters 7 --each 20000 --workers $workers)"
+    done
+    exit 0
+fi
 
 if [ -n "$alone" ]; then
     words=$alone

@@ -1,6 +1,7 @@
 #!/bin/sh
 # Tells whether the tests of the engines have the text of each file here: each stands under its name in a file of
 # crates/engine_tests. Those of a folder here are read elsewhere.
+unset CDPATH
 cd "$(dirname "$0")" || exit 1
 differ=0
 for file in *.txt *.out; do

@@ -1,11 +1,13 @@
 #!/bin/sh
 # Runs the program for each of its exit statuses, over the files of examples/ and over streams that fail, and tells each
-# run that prints or ends otherwise: built_program.sh [PROGRAM], the one that `rt ci` built if none is named. A program
-# with checks at run time (scripts/unproved.sh) is slower: a run of threads has 10 minutes.
+# run that prints or ends otherwise: built_program.sh [PROGRAM], that of program.sh if none is named. A run of
+# threads has 10 minutes.
+unset CDPATH
 pciex=$(sh "$(dirname "$0")/program.sh" "$@") || exit 1
 cd "$(dirname "$0")/.." || exit 1
 room=$(mktemp -d) || exit 1
 trap 'rm -rf "$room"' EXIT
+trap 'exit 1' HUP INT TERM
 runs=0
 failed=0
 
@@ -36,6 +38,12 @@ pciex: line 19: LengthMismatch (4 bytes follow the header where Length 2 asks fo
 end
 of_file examples/packets.txt tlp
 wants "tlp on packets.txt" 1 examples/packets.out "$room/faults"
+cat > "$room/reasons" << 'end'
+pciex: line 52: an odd number of hexadecimal digits (two a byte)
+pciex: line 53, column 1: 'nest' where a line is expected (tlp <bytes>, next, reset, trace)
+end
+of_file examples/endpoint.txt endpoint --trace
+wants "endpoint on endpoint.txt" 1 examples/endpoint.out "$room/reasons"
 grep -v '^4C0000' examples/packets.txt | grep -v ' 01000500 .* 07000000$' > "$room/sound.txt"
 grep -v '^fault' examples/packets.out > "$room/faultless"
 cat > "$room/reasons" << 'end'
@@ -97,16 +105,24 @@ cat > "$room/reasons" << 'end'
 pciex: lines 3 to 6 have no history, lines 3 to 5 have one
 pciex: line 6: ans 2 0 data 00000000, against these answers:
 pciex: line 5: ans 1 0 data 00000000
-pciex: 00000000 at 40 was there once, and two AtomicOps that change it were answered it
+pciex: with data 01000000 in line 6, lines 3 to 6 have a history
+pciex: 00000000 at 40 was there once, and two AtomicOps that change it were answered it (lines 5 and 6)
 end
 of_file "$room/lost_update" search
 wants "search on a lost update" 1 "$room/none" "$room/reasons"
+of_file "$room/lost_update" search --core
+wants "search --core on a lost update" 1 "$room/lost_update" "$room/reasons"
 echo "fault 7 Section" > "$room/fault"
 cat > "$room/reasons" << 'end'
 pciex: line 7: the text ends where a record or the end is expected (sub <requester> <number> <operation>, ans <requester> <number> <reply>, end)
 end
 of_file "$room/begun" search
 wants "search on a log without its end" 1 "$room/fault" "$room/reasons"
+{ cat "$room/begun"; printf 'ans 2 0 data 00000000\nend\n'; } > "$room/answered_twice"
+echo "flaw 6 Again 4" > "$room/flaw"
+echo "pciex: line 7: a second answer to request 0 of requester 2, the first is on line 6" > "$room/reasons"
+of_file "$room/answered_twice" search
+wants "search on a log with a second answer" 1 "$room/flaw" "$room/reasons"
 cat > "$room/hard" << 'the end'
 pciex-log 1
 memory 0 4096 64
@@ -122,14 +138,14 @@ end
 the end
 echo "limit 1" > "$room/limit"
 of_file "$room/hard" search --limit 1
-wants "search --limit 1" 3 "$room/limit" "$room/nothing"
-printf '8 records\n1 of 1 choices\n' > "$room/stages"
+printf 'pciex: given up at line 8 (open requests: 5)\npciex: lines 3 to 7 have a history\n' > "$room/far"
+wants "search --limit 1" 3 "$room/limit" "$room/far"
+{ printf '8 records\n1 of 1 choices\n' && cat "$room/far"; } > "$room/stages"
 of_file "$room/hard" search --limit 1 --progress
 wants "search --progress" 3 "$room/limit" "$room/stages"
-echo "limit 2" > "$room/limit"
-printf '8 records\n1 of 2 choices\n2 of 2 choices\n' > "$room/stages"
-of_file "$room/hard" search --limit 2 --progress
-wants "search --progress while it goes on" 3 "$room/limit" "$room/stages"
+of_file "$room/hard" search --work 1
+echo "limit 1000000" > "$room/limit"
+wants "search --work 1" 3 "$room/limit" "$room/nothing"
 
 # A script goes on after a refusal where it is to, and shows its lines where it is to.
 sed 's/^submit/collect 1\nsubmit/' examples/first_script.txt > "$room/refused.txt"
@@ -204,7 +220,7 @@ of_file "$room/flawed" check
 wants "check on a trace with a wrong reply" 1 "$room/flaw" "$room/reasons"
 of_file "$room/flawed" draw
 [ -s "$room/output" ] && cp "$room/output" "$room/picture" || echo "a picture" > "$room/picture"
-wants "draw on a trace with a wrong reply" 1 "$room/picture" "$room/nothing"
+wants "draw on a trace with a wrong reply" 1 "$room/picture" "$room/reasons"
 
 # Wrong words have status 2 and write nothing on standard output; a value out of its range is told in two lines.
 echo "pciex: options" > "$room/options"
@@ -217,13 +233,16 @@ refuses() {
 }
 refuses "invalid value '100' for --size: expected 128 to 1048576, a multiple of 128" tlp --size 100 --block 1
 refuses "invalid value '1' for --block: expected 64 or 128" tlp --block 1
+refuses "invalid value '5000' for --size: expected a power of two from 4096 to 1048576" endpoint --size 5000 --id 1
+refuses "invalid value '12347C1E' for --id: expected four hexadecimal digits, ':' and four more" endpoint --id 12347C1E
 refuses "invalid value '0' for --limit: expected 1 to 1000000000" search --limit 0
+refuses "invalid value '0' for --work: expected 1 to 1000000000000" search --work 0
 refuses "invalid value '2' for --to: expected 0 to 18446744073709551615, at least --from" draw --from 3 --to 2
 refuses "invalid value 'x' for --seed: expected 0 to 18446744073709551615" generate --seed x --events 1
 refuses "invalid value '8' for --requesters: expected 1 to 7" run --requesters 8 --each 1
 of_file examples/packets.txt tlp "$(printf '\377')"
 wants "a word that is no text" 2 "$room/nothing" "$room/options"
-for words in "" "tpl" "tlp 0" "step --trace=no" "check --trace" "help tpl"; do
+for words in "" "tpl" "tlp 0 --size 128" "step --trace=no" "check --trace" "help tpl"; do
     # shellcheck disable=SC2086
     of_file examples/packets.txt $words
     [ -s "$room/errors" ] && cp "$room/errors" "$room/told" || echo "a text" > "$room/told"
@@ -258,16 +277,18 @@ for words in "--requesters 1 --each 1 --lose 1" "--requesters 2 --each 1 --corru
     wants "run $words --turns 1000" 3 "$room/halt" "$room/nothing"
 done
 
-# With --progress the error stream tells how far the run is, and nothing else.
+# With --progress the error stream tells how far the run is, and nothing else. The first line comes after two seconds.
 printf 'answered %s\nhistory %s\nword %s\ncheck ok\n' 140000 140000 140000 > "$room/counted"
+begun=$(date +%s)
 timeout 600 "$pciex" run --requesters 7 --each 20000 --progress < /dev/null > "$room/output" 2> "$room/errors"
 status=$?
+ended=$(date +%s)
 grep '^[0-9]* of 140000$' "$room/errors" > "$room/told"
-[ -s "$room/told" ] || echo "a line" > "$room/told"
+[ -s "$room/told" ] || [ $((ended - begun)) -lt 4 ] || echo "a line" > "$room/told"
 wants "run --progress" 0 "$room/counted" "$room/told"
 
 # A text that was asked for has status 0, is not on the error stream, and has lines of at most 100 characters.
-for words in --version --help -h help "help step" "tlp --help" "decode --help" "encode --help" "check --help" "search --help" "draw --help" "chart --help" "upgrade --help" \
+for words in --version --help -h help "help step" "tlp --help" "endpoint --help" "decode --help" "encode --help" "check --help" "search --help" "draw --help" "chart --help" "upgrade --help" \
     "step --help" "generate --help" "run --help" "tlp -h" "step -h" "generate -h" "run -h"; do
     # shellcheck disable=SC2086
     of_file examples/packets.txt $words
@@ -276,13 +297,45 @@ for words in --version --help -h help "help step" "tlp --help" "decode --help" "
 done
 
 # A reader and a writer that fail have status 1.
-echo "pciex: read" > "$room/read"
-echo "pciex: write" > "$room/write"
-for words in tlp decode encode check search draw chart upgrade step "step --trace" "step --keep-going --echo"; do
+echo "pciex: read: Is a directory (os error 21)" > "$room/read"
+echo "pciex: write: No space left on device (os error 28)" > "$room/write"
+for words in tlp endpoint "endpoint --trace" decode encode check search draw chart upgrade step "step --trace" "step --keep-going --echo"; do
     # shellcheck disable=SC2086
     of_file / $words
     wants "$words, where standard input is a folder" 1 "$room/nothing" "$room/read"
+    # shellcheck disable=SC2086
+    of_file /dev/null $words /
+    wants "$words, where the file is a folder" 1 "$room/nothing" "$room/read"
 done
+
+# The file that the last word names is read in place of standard input. One that isn't there is told.
+of_file / check --clocked examples/trace.txt
+wants "check of a file" 0 "$room/ok" "$room/nothing"
+echo "pciex: $room/absent: No such file or directory (os error 2)" > "$room/told"
+of_file / check "$room/absent"
+wants "check of a file that isn't there" 1 "$room/nothing" "$room/told"
+
+# Of an output that nobody reads any more nothing is told.
+{ "$pciex" generate --seed 1 --events 100000 < /dev/null 2> "$room/errors"; echo $? > "$room/status"; } | head -n 1 > "$room/output"
+status=$(cat "$room/status")
+cp "$room/output" "$room/told"
+wants "generate, where nobody reads on" 1 "$room/told" "$room/nothing"
+
+# A text of another kind is told, and so is why a request isn't served.
+echo "fault 1 Head" > "$room/head"
+echo "pciex: line 1, column 1: 'fabric' where the head is expected (pciex-trace 1, pciex-trace 2; step --trace prints one); so begins a script, which 'pciex step' reads" > "$room/told"
+printf 'fabric 1 0 4096\n' > "$room/script"
+of_file "$room/script" check
+wants "check of a script" 1 "$room/head" "$room/told"
+printf 'fabric 1 0 4096\nsubmit 1 read 40 32 F F\nsettle\nsubmit 1 read 2000 1 F 0\nsettle\n' > "$room/script"
+printf 'pciex: line 3: ca (the request crosses a block)\npciex: line 5: ur (the request isn'"'"'t within the memory)\n' > "$room/told"
+of_file "$room/script" step
+cp "$room/output" "$room/answers"
+wants "step of requests that aren't served" 0 "$room/answers" "$room/told"
+of_file examples/credits_used_up.txt chart
+cp "$room/output" "$room/picture"
+echo "pciex: line 9: 'submit 1 add 40 01000000' is refused: NoCredits NP (the lane that the packet would enter has too few non-posted credits)" > "$room/told"
+wants "chart of a script with a refusal" 1 "$room/picture" "$room/told"
 if [ -c /dev/full ]; then
     : > "$room/output"
     timeout 10 "$pciex" tlp < examples/packets.txt > /dev/full 2> "$room/errors"

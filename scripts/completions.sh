@@ -1,7 +1,8 @@
 #!/bin/sh
 # Writes the completion of `pciex` for bash, zsh and fish, scripts/completions/, from the program's help alone:
-# completions.sh [--check] [PROGRAM], the one that `rt ci` built if none is named. With --check nothing is written: it fails
+# completions.sh [--check] [PROGRAM], that of program.sh if none is named. With --check nothing is written: it fails
 # if a file is not what would be written, and tries each of them in its shell, if there is that shell.
+unset CDPATH
 check=
 if [ "${1:-}" = --check ]; then
     check=1
@@ -11,6 +12,7 @@ pciex=$(sh "$(dirname "$0")/program.sh" "$@") || exit 1
 cd "$(dirname "$0")/.." || exit 1
 room=$(mktemp -d) || exit 1
 trap 'rm -rf "$room"' EXIT
+trap 'exit 1' HUP INT TERM
 say() { echo "completions: $*"; }
 
 # entries SUBCOMMAND: the help of the program or of a subcommand as lines of four fields: a subcommand, an option, the name
@@ -192,7 +194,7 @@ for shell in bash fish; do
     if command -v $shell > /dev/null; then
         completes $shell "pciex st" step
         completes $shell "pciex step --k" --keep-going
-        completes $shell "pciex search --" "--granularity --help --limit --progress"
+        completes $shell "pciex search --" "--core --granularity --help --limit --progress --work"
         completes $shell "pciex search --granularity 1" 16
         completes $shell "pciex tlp --block 1" 128
         completes $shell "pciex chart --lane i" in

@@ -3,17 +3,24 @@
 #
 # ENGINE is a subcommand: tlp, decode, check, upgrade, step or trace (`step --trace`). FOLDER gets copies of the
 # crates that the engine stands on, with what was proved of them here, and a program `alone` of a few lines, which `rt run`
-# proves and builds; it is /tmp/alone-ENGINE if it isn't given. Run again over the same FOLDER it copies what changed.
+# proves and builds; it is ~/.cache/pciex/alone-ENGINE if it isn't given. Run again over the same FOLDER it copies what
+# changed. It writes into no folder that has something in it, unless it made that folder itself.
 #
-#     sh scripts/engine_alone.sh tlp && cd /tmp/alone-tlp/crates/alone && rt run < /dev/null
+#     cd "$(sh scripts/engine_alone.sh tlp)/crates/alone" && rt run < /dev/null
 #     sh bench/run.sh --alone tlp
 #
 # The first build takes 45 seconds; after an edit of a body, all above it is proved and built in about 80.
 set -eu
-cd "$(dirname "$0")/.."
+unset CDPATH
 if [ $# -lt 1 ] || [ $# -gt 2 ]; then echo "engine_alone.sh: ENGINE [FOLDER]" >&2; exit 2; fi
 engine=$1
-folder=${2:-/tmp/alone-$engine}
+folder=${2:-${XDG_CACHE_HOME:-$HOME/.cache}/pciex/alone-$engine}
+case $folder in
+    /*) ;;
+    *) folder=$PWD/$folder ;;
+esac
+cd "$(dirname "$0")/.."
+mark=$folder/made-by-engine-alone
 uses='' before='' more=''
 case $engine in
     tlp)
@@ -43,7 +50,16 @@ case $engine in
 esac
 
 # The crates below the engine, itself included, as lines of crates.txt; the kit's are left out.
+if [ -L "$folder" ] || { [ -e "$folder" ] && [ "$(stat -c %u "$folder")" != "$(id -u)" ]; }; then
+    echo "engine_alone.sh: $folder is a link, or another user's" >&2
+    exit 1
+fi
+if [ ! -f "$mark" ] && [ -e "$folder" ] && [ -n "$(ls -A "$folder")" ]; then
+    echo "engine_alone.sh: $folder has something in it that engine_alone.sh didn't make" >&2
+    exit 1
+fi
 mkdir -p "$folder/crates/alone/src"
+: > "$mark"
 awk -v top="$crate" '
     /^#/ || !/:/ { next }
     { name = $1; sub(":", "", name); line[name] = $0; order[++count] = name }

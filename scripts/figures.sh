@@ -3,6 +3,7 @@
 # A page cites a figure on one line, outside a block of code, as <!--NAME-->VALUE<!---->. With --check nothing is written:
 # each figure or page that would change is reported, and the script fails. Measured figures are changed in docs/figures.txt.
 set -eu
+unset CDPATH
 case "$#${1:-}" in
     0) check= ;;
     1--check) check=1 ;;

@@ -1,7 +1,8 @@
 #!/bin/sh
 # Builds the program without its proofs (scripts/unproved.sh), and runs it and the proved one on each file of
-# examples/first: first_examples.sh [PROGRAM], the one that `rt ci` built if none is named. Both have to print the same, with
+# examples/first: first_examples.sh [PROGRAM], that of program.sh if none is named. Both have to print the same, with
 # the same status. Tells each file where they don't.
+unset CDPATH
 pciex=$(sh "$(dirname "$0")/program.sh" "$@") || exit 1
 cd "$(dirname "$0")/.." || exit 1
 say() { echo "first examples: $*"; }
@@ -11,6 +12,7 @@ if ! command -v rt > /dev/null; then
 fi
 room=$(mktemp -d) || exit 1
 trap 'rm -rf "$room"' EXIT
+trap 'exit 1' HUP INT TERM
 mkdir "$room/tmp" || exit 1
 TMPDIR=$room/tmp sh scripts/unproved.sh "$room/pciex" > "$room/log" 2>&1 || { cat "$room/log"; exit 1; }
 files=0

@@ -1,17 +1,20 @@
 #!/bin/sh
 # Tries a release: makes its archive, unpacks it in an empty folder, compares the sums, runs the program on an example,
 # compiles a C program with the flags of pkg-config alone, once against the static library and once against the shared
-# object, runs the Python package and a SystemVerilog testbench, reads the manual page, and completes words in bash. Program
-# and library were built before. Fails if one of them fails. The last line says what was left out for lack of a tool.
+# object, runs the Python package and a SystemVerilog testbench, reads the manual page, completes words in bash, runs the
+# commands of the pages, and removes what was installed. Program and library were built before, or are named by the options
+# of install.sh. Fails if one of them fails. The last line says what was left out for lack of a tool.
 # shellcheck disable=SC2016 # words of inner shells
+unset CDPATH
 cd "$(dirname "$0")/.." || exit 1
 say() { echo "installed: $*"; }
-if [ ! -e crates/pciex_c/out/libpciex_c.a ] || ! command -v cc > /dev/null; then
+if ! command -v cc > /dev/null || { [ $# -eq 0 ] && [ ! -e crates/pciex_c/out/libpciex_c.a ]; }; then
     say "not tried: the library isn't built, or there is no cc"
     exit 0
 fi
 room=$(mktemp -d) || exit 1
 trap 'rm -rf "$room"' EXIT
+trap 'exit 1' HUP INT TERM
 version=$(sh scripts/version.sh)
 runs=0
 failed=0
@@ -30,7 +33,7 @@ prints() {
     fi
 }
 
-tar=$(sh scripts/release.sh "$room" 2> "$room/log") || { cat "$room/log"; exit 1; }
+tar=$(sh scripts/release.sh "$room" "$@" 2> "$room/log") || { cat "$room/log"; exit 1; }
 grep -q 'left out: nothing$' "$room/log" || left_out=$(sed -n 's/^installed: .*; left out: /, /p' "$room/log")
 mkdir "$room/empty" || exit 1
 tar -C "$room/empty" -xzf "$tar" || exit 1
@@ -107,5 +110,8 @@ if command -v bash > /dev/null; then
 else
     left_out="$left_out, the completion, since there is no bash"
 fi
+prints "the commands of the pages" "" sh -c 'sh "$0/scripts/pages.sh" > /dev/null' "$home"
+prints "a log of this machine" "" sh -c 'sh "$0/scripts/this_machine.sh" > /dev/null' "$home"
+prints "the removal of what was installed" "" sh -c 'cd "$0" && xargs rm < share/pciex/files && find bin include lib share ! -type d' "$home"
 say "$runs runs of $(basename "$tar"), $([ $failed -eq 0 ] && echo "each as it should be" || echo "not each as it should be"); left out: ${left_out:-, nothing}" | sed 's/: , /: /'
 exit $failed

@@ -1,9 +1,10 @@
 #!/bin/sh
 # Runs the program on inputs that are too large for a test's table: a memory of 1 MiB with a trace of 200,001
-# records, a lane with 2047 packets that no Ack has told of, a requester with 256 open tags, logs that are long or
-# hard, and a chart of a long script. It tells each run that ends otherwise than it should: large_inputs.sh [PROGRAM],
-# the one that `rt ci` built if none is named. With a folder in its place the inputs are written there and nothing is
-# run.
+# records, a fabric of 1 MiB, a lane with 2047 packets that no Ack has told of, a requester with 256 open tags, logs
+# that are long or hard, and a chart of a long script. It tells each run that ends otherwise than it should:
+# large_inputs.sh [PROGRAM], that of program.sh if none is named. With a folder in its place the inputs are written there
+# and nothing is run.
+unset CDPATH
 folder=
 if [ -d "${1:-}" ]; then
     folder=$(cd "$1" && pwd) || exit 1
@@ -13,6 +14,7 @@ fi
 cd "$(dirname "$0")/.." || exit 1
 room=$(mktemp -d) || exit 1
 trap 'rm -rf "$room"' EXIT
+trap 'exit 1' HUP INT TERM
 runs=0
 failed=0
 
@@ -179,6 +181,35 @@ lost_at_start() {
     }'
 }
 
+# Nine additions that weren't answered, and two reads: the second saw less than the first. No order of them gives that.
+sums() {
+    awk 'BEGIN {
+        print "pciex-log 1"
+        print "memory 0 4096 64"
+        for (k = 1; k < 10; k++) {
+            print "sub " (k - 1) % 6 + 1 " " int((k - 1) / 6) " add 40 " sprintf("%02X%02X0000", 2 ^ k % 256, 2 ^ k / 256)
+        }
+        print "sub 7 0 read 40 1 F 0"
+        print "ans 7 0 data 0E000000"
+        print "sub 7 1 read 40 1 F 0"
+        print "ans 7 1 data 01000000"
+        print "end"
+    }'
+}
+
+# A fabric of 1 MiB: requests at its first and last word, and one behind it.
+mebibyte() {
+    echo fabric 7 0 1048576
+    echo submit 7 write FFFFC F 0 01020304
+    echo settle
+    echo submit 1 add FFFFC 01000000
+    echo submit 2 read 0 1 F 0
+    echo settle
+    echo submit 7 read FFFFC 1 F 0
+    echo submit 3 read 100000 1 F 0
+    echo settle
+}
+
 trace 0 > "$room/explained_trace"
 trace 1 > "$room/flawed_trace"
 window > "$room/window_script"
@@ -191,10 +222,13 @@ far > "$room/far_log"
 pairs 2000 4000 > "$room/lost_answers_log"
 pairs 250 2000 > "$room/junk_log"
 lost_at_start > "$room/lost_at_start_log"
+sums > "$room/sums_log"
+mebibyte > "$room/mebibyte_script"
 if [ -n "$folder" ]; then
     cp "$room/explained_trace" "$room/flawed_trace" "$room/window_script" "$room/tags_script" \
         "$room/mixed_log" "$room/wrong_log" "$room/flushes_log" "$room/writes_log" "$room/far_log" \
-        "$room/lost_answers_log" "$room/junk_log" "$room/lost_at_start_log" "$folder"
+        "$room/lost_answers_log" "$room/junk_log" "$room/lost_at_start_log" "$room/sums_log" "$room/mebibyte_script" \
+        "$folder"
     exit
 fi
 
@@ -259,8 +293,22 @@ ans 1 0 data 00000000
 sub 1 257
 end
 ends "step with 256 open tags" 1 "$room/tags_script" step --keep-going
+cat > "$room/told" << 'end'
+ans 1 0 data 01020304
+ans 2 0 data 00000000
+settled
+sub 7 1
+sub 3 0
+ans 3 0 ur
+ans 7 1 data 02020304
+settled
+end
+ends "step on a fabric of 1 MiB" 0 "$room/mebibyte_script" step
+echo "none 12" > "$room/told"
+ends "search that takes more than 1,000 choices" 1 "$room/sums_log" search --limit 100000
 echo end > "$room/told"
 ends "search on 100,000 records" 0 "$room/mixed_log" search --limit 10000
+ends "search in pieces of 4 bytes on 100,000 records" 0 "$room/mixed_log" search --granularity 4 --limit 10000
 ends "search on 1,000,000 writes and flushes" 0 "$room/flushes_log" search --limit 1
 within 60 400
 ends "search on 100,000 writes that nobody reads" 0 "$room/writes_log" search --limit 1
@@ -274,6 +322,7 @@ seconds=600
 kilobytes=unlimited
 echo "none 96667" > "$room/told"
 ends "search on 100,000 records with a wrong answer" 1 "$room/wrong_log" search
+ends "search in pieces of 4 bytes on 100,000 records with a wrong answer" 1 "$room/wrong_log" search --granularity 4
 awk -v rounds=99 -f bench/script.awk > "$room/long_script"
 draws "chart on 100,486 lines" "$room/long_script" chart
 echo "large inputs: $runs runs, $([ $failed -eq 0 ] && echo "all as they should be" || echo "not all as they should be")"

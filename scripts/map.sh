@@ -9,9 +9,11 @@
 #   each contract and definition quoted in docs/reading-proofs.md stands in the file that is named last above it
 #   each record in docs/adr has its four parts, in at most 150 words
 # map.sh --write puts the numbers of lines into docs/promises.md.
+unset CDPATH
 cd "$(dirname "$0")/.." || exit 1
 room=$(mktemp -d) || exit 1
 trap 'rm -rf "$room"' EXIT
+trap 'exit 1' HUP INT TERM
 failed=0
 
 # fail TEXT: reports what differs.

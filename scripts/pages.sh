@@ -1,12 +1,14 @@
 #!/bin/sh
 # Runs each command that a page shows behind `$ `, from the top of the repository and with the program on the path, and
 # compares what it prints, on either stream, with what the page shows below it. Fails where one differs: pages.sh
-# [PROGRAM], the one that `rt ci` built if none is named.
+# [PROGRAM], that of program.sh if none is named.
+unset CDPATH
 pciex=$(sh "$(dirname "$0")/program.sh" "$@") || exit 1
 cd "$(dirname "$0")/.." || exit 1
 room=$(mktemp -d) || exit 1
 bin=$(mktemp -d) || exit 1
 trap 'rm -rf "$room" "$bin"' EXIT
+trap 'exit 1' HUP INT TERM
 help=$bin/help
 ln -s "$pciex" "$bin/pciex"
 PATH=$bin:$PATH
@@ -22,7 +24,7 @@ failed=0
     done
     echo '```'
 } > "$help"
-for page in "$help" README.md docs/tutorial.md docs/qemu.md; do
+for page in "$help" README.md docs/tutorial.md docs/qemu.md docs/bring-it-up.md docs/formats.md; do
     rm -f "$room"/*
     awk -v room="$room" '
         /^```/ { inside = !inside; wanted = ""; next }

@@ -1,11 +1,13 @@
 #!/bin/sh
 # Draws and charts the examples, and reads each picture with python's parser of XML, where there is python. Tells each
 # picture that is no XML, and whether docs/overlaps.svg, examples/lost_ack.svg and examples/first_script.svg are the
-# pictures of their examples: pictures.sh [PROGRAM], the one that `rt ci` built if none is named.
+# pictures of their examples: pictures.sh [PROGRAM], that of program.sh if none is named.
+unset CDPATH
 pciex=$(sh "$(dirname "$0")/program.sh" "$@") || exit 1
 cd "$(dirname "$0")/.." || exit 1
 room=$(mktemp -d) || exit 1
 trap 'rm -rf "$room"' EXIT
+trap 'exit 1' HUP INT TERM
 failed=0
 count=0
 
@@ -15,7 +17,8 @@ is_xml() {
     python3 -c 'import sys, xml.etree.ElementTree as tree; tree.parse(sys.argv[1])' "$1" 2> /dev/null
 }
 
-# makes WHAT STATUS SUBCOMMAND WORD..: makes a picture of the file $room/input, and looks at the status and the picture.
+# makes WHAT STATUS SUBCOMMAND WORD..: makes a picture of the file $room/input, and looks at the status, the picture, and
+# whether a reason is told just where the status is 1.
 makes() {
     what=$1
     want=$2
@@ -23,8 +26,10 @@ makes() {
     timeout 10 "$pciex" "$@" < "$room/input" > "$room/picture" 2> "$room/errors"
     status=$?
     count=$((count + 1))
-    if [ $status -ne "$want" ] || [ -s "$room/errors" ] || ! is_xml "$room/picture"; then
-        echo "pictures: $what: status $status, and not $want, or no XML"
+    told=0
+    [ ! -s "$room/errors" ] || told=1
+    if [ $status -ne "$want" ] || [ $told -ne "$want" ] || ! is_xml "$room/picture"; then
+        echo "pictures: $what: status $status, and not $want, a reason or none, or no XML"
         failed=1
     fi
 }

@@ -1,6 +1,7 @@
 #!/bin/sh
 # Runs built programs with each of their allocations refused in turn, and tells each run that does not end as it should.
 # `rt ci` has to have built them: it refuses no allocation itself. Without a C compiler nothing is run, and that is told.
+unset CDPATH
 cd "$(dirname "$0")/.." || exit 1
 if ! command -v cc > /dev/null; then
     echo "refused allocations: left out, since there is no cc"
@@ -8,6 +9,7 @@ if ! command -v cc > /dev/null; then
 fi
 room=$(mktemp -d) || exit 1
 trap 'rm -rf "$room"' EXIT
+trap 'exit 1' HUP INT TERM
 library=$room/refuse_allocation.so
 cc -O1 -Wall -Wextra -Werror -shared -fPIC -o "$library" scripts/refuse_allocation.c -ldl || exit 1
 runs=0
@@ -107,6 +109,8 @@ each_refused stops_for_memory examples/packets.txt $pciex tlp --base 0 --size 25
 each_refused stops_for_memory examples/packets.txt $pciex tlp --size 100
 each_refused stops_for_memory examples/packets.txt $pciex tpl
 each_refused stops_for_memory examples/packets.txt $pciex step --help
+each_refused stops_for_memory examples/endpoint.txt $pciex endpoint --trace
+each_refused stops_for_memory examples/endpoint.txt $pciex endpoint --size 65536
 each_refused stops_for_memory examples/packets.txt $pciex decode
 each_refused stops_for_memory examples/words.txt $pciex encode
 each_refused stops_for_memory examples/trace.txt $pciex check

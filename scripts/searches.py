@@ -147,6 +147,25 @@ def text_of(records):
     return HEAD + "".join(line_of(r) for r in records) + "end\n"
 
 
+def first_flaw(records):
+    """The number, the name and the place of the log's first bookkeeping mistake, None if there is none."""
+    counts, waiting, answered = {}, set(), set()
+    for place, (kind, requester, number, what) in enumerate(records):
+        if kind == "sub":
+            if number != counts.get(requester, 0):
+                return 1, "Numbering", place
+            counts[requester] = number + 1
+            if what.kind != "write":
+                waiting.add((requester, number))
+        elif (requester, number) in answered:
+            return 6, "Again", place
+        elif (requester, number) not in waiting:
+            return 5, "Unasked", place
+        else:
+            answered.add((requester, number))
+    return None
+
+
 def is_well_formed(records):
     """Requests are numbered 0, 1, 2, .. by requester; each answer is the only one to an earlier one that isn't posted."""
     counts, open_requests = {}, set()
@@ -449,7 +468,7 @@ def log_in_pieces(seed, defect):
 
 class Judge:
     def __init__(self, program):
-        self.program, self.failures = program, 0
+        self.program, self.failures, self.errors, self.expected, self.cores = program, 0, "", 0, 0
 
     def run(self, words, text):
         done = subprocess.run([self.program] + words, input=text, capture_output=True, text=True, timeout=60)
@@ -464,11 +483,18 @@ class Judge:
         self.say("%s: %s\n%s" % (name, why, text_of(records).rstrip("\n")))
 
     def answer(self, name, records, size=None):
-        """What the program says: found, none, the place and the longer and the shorter prefix that it tells of; else None."""
+        """What the program says: found, flaw, none, with the longer and the shorter prefix that it tells of; else None."""
         words = ["search", "--limit", LIMIT] + (["--granularity", str(size)] if size else [])
         status, output, errors = self.run(words, text_of(records))
+        self.errors = errors
+        flaw = first_flaw(records)
+        if flaw:
+            if (status, output) != (1, "flaw %d %s %d\n" % flaw):
+                self.tell(name, "status %d and %r, and the first flaw is %d %s %d" % (status, output, *flaw), records, size)
+                return None
+            return "flaw", None, None
         if status == 0:
-            if not is_well_formed(records) or not self.is_history(output, in_pieces(records, size) if size else records):
+            if not self.is_history(output, in_pieces(records, size) if size else records):
                 self.tell(name, "the history that is found does not explain the log", records, size)
                 return None
             return "found", None, None
@@ -499,6 +525,8 @@ class Judge:
         if answer is None:
             return "limit"
         kind, count, explained = answer
+        if kind == "flaw":
+            return kind
         if (kind == "found") != is_explainable(records, size):
             self.tell(name, "%s, and by all histories it is the other way round" % kind, records, size)
         elif kind == "none":
@@ -506,7 +534,41 @@ class Judge:
                 self.tell(name, "the first %d records have a history" % count, records, size)
             elif explained != count - 1 or not is_explainable(records[:explained], size):
                 self.tell(name, "%s records are said to have a history, and %d none" % (explained, count), records, size)
+            elif not self.is_expected(records[:count]):
+                self.tell(name, "the records have no history with the reply that is told", records, size)
+            self.judge_core(name, records, size)
         return kind
+
+    def judge_core(self, name, records, size):
+        """Whether the short log that is printed in place of `none`, if one is, has requests and answers of the log and no
+        history."""
+        words = ["search", "--limit", LIMIT, "--core"] + (["--granularity", str(size)] if size else [])
+        status, output, _ = self.run(words, text_of(records))
+        if status == 1 and output.startswith("none "):
+            return
+        cut = in_pieces(records, size) if size else records
+        ops = {(requester, what.text()): what for kind, requester, _, what in cut if kind == "sub"}
+        core = []
+        for line in output.splitlines()[2:-1]:
+            kind, requester, number, rest = line.split(" ", 3)
+            what = ops.get((int(requester), rest)) if kind == "sub" else rest
+            core.append((kind, int(requester), int(number), what))
+        self.cores += 1
+        if status != 1 or output != text_of(core) or any(what is None for *_, what in core) or len(core) > len(cut):
+            self.tell(name, "status %d and %r with --core" % (status, output), records, size)
+        elif is_explainable(core):
+            self.tell(name, "the short log has a history:\n" + output, records, size)
+
+    def is_expected(self, records):
+        """Whether the records have a history with the reply that is told in place of the last one, if one is told."""
+        told = re.search("^pciex: with (.*) in line ([0-9]+), lines 3 to ([0-9]+) have a history$", self.errors, re.M)
+        if not told:
+            return True
+        kind, requester, number, _ = records[-1]
+        self.expected += 1
+        line = len(records) + 2
+        return (kind == "ans" and told.group(2) == told.group(3) == str(line)
+                and is_explainable(records[:-1] + [(kind, requester, number, told.group(1))]))
 
     def judge_pieces(self):
         """How many logs of a device that acts DW by DW have no history of whole requests: each has one of pieces."""
@@ -547,8 +609,8 @@ def judge(program):
     logs = {"small log %d" % seed: small_log(seed) for seed in range(SMALL_LOGS)}
     kinds = [judge.judge_small(name, records) for name, records in logs.items()]
     cut = [judge.judge_small(name, records, 4) for name, records in logs.items()]
-    for kind in ["found", "none"]:
-        if kinds.count(kind) < SMALL_LOGS // 4 or cut.count(kind) < SMALL_LOGS // 4:
+    for kind, least in [("found", SMALL_LOGS // 4), ("none", SMALL_LOGS // 6), ("flaw", SMALL_LOGS // 25)]:
+        if kinds.count(kind) < least or cut.count(kind) < least:
             judge.say("only %d and %d of %d small logs are %s" % (kinds.count(kind), cut.count(kind), SMALL_LOGS, kind))
     for seed in range(DEVICE_LOGS):
         records, _ = device_log(seed, None)
@@ -559,12 +621,16 @@ def judge(program):
     for defect, count in counts.items():
         if count is None:
             judge.say("each log of a device where %s has a history" % DEFECTS.get(defect, FALLING))
+    if judge.expected < SMALL_LOGS // 8:
+        judge.say("only %d small logs are told a reply with which they have a history" % judge.expected)
+    if judge.cores < SMALL_LOGS // 8:
+        judge.say("only %d short logs are printed in place of `none`" % judge.cores)
     torn = judge.judge_pieces()
     if torn == 0:
         judge.say("each log of a device that acts in pieces has a history of whole requests")
-    print("searches: %d small logs, %d with a history, %d with one of pieces of 4 bytes; of %d logs of a device that acts in "
+    print("searches: %d small logs, %d with a history, %d with one of pieces of 4 bytes, %d with a flaw, %d short logs without one; of %d logs of a device that acts in "
           "pieces each has one of pieces, and %d have none of whole requests; defects, and logs until one has none: %s; %s" % (
-              SMALL_LOGS, kinds.count("found"), cut.count("found"), DEVICE_LOGS, torn,
+              SMALL_LOGS, kinds.count("found"), cut.count("found"), kinds.count("flaw"), judge.cores, DEVICE_LOGS, torn,
               ", ".join("%s %s" % c for c in counts.items()),
               "%d failures" % judge.failures if judge.failures else "each answer is right"))
     return judge.failures > 0

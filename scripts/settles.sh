@@ -2,8 +2,9 @@
 # Runs the program on 2,000 random scripts that end in `settle`, and tells each that does not end in `settled`. Their
 # fabrics have one to seven requesters and the least credits, all credits or those that a line without credits means; the
 # events before `settle` lose packets and DLLPs and fail checks, and right before it there is nothing more, a link that
-# stops, or a packet that fails its check: settles.sh [PROGRAM], the one that `rt ci` built if none is named. With a folder
+# stops, or a packet that fails its check: settles.sh [PROGRAM], that of program.sh if none is named. With a folder
 # in its place the scripts are written there and nothing is run.
+unset CDPATH
 folder=
 if [ -d "${1:-}" ]; then
     folder=$(cd "$1" && pwd) || exit 1
@@ -14,6 +15,7 @@ cd "$(dirname "$0")/.." || exit 1
 number=2000
 room=$(mktemp -d) || exit 1
 trap 'rm -rf "$room"' EXIT
+trap 'exit 1' HUP INT TERM
 
 # write_scripts FOLDER: the same scripts in each run and with each awk, as the random numbers are its own.
 write_scripts() {

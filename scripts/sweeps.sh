@@ -1,8 +1,11 @@
 #!/bin/sh
-# Tries examples/sweep.sh: sweeps.sh [PROGRAM], the one that `rt ci` built if none is named. A sweep over 200 seeds, on all
+# Tries examples/sweep.sh: sweeps.sh [PROGRAM], that of program.sh if none is named. A sweep over 200 seeds, on all
 # processors, is ended by `kill -9` in the middle; the same command then does the other seeds: each stands once in the log,
 # each is ok, and none that stood there was begun again. Then two of 40 seeds fail, and the least of them is printed with
-# the command that repeats it. Without GNU parallel nothing is run, and that is told.
+# the command that repeats it. A sweep of nothing is an error. Last, if there is sshd, a sweep over two machines, which are
+# two sshd on this one: one is ended by `kill -9`, and each seed stands once in the log and is ok. Without GNU parallel
+# nothing is run, and that is told.
+unset CDPATH
 pciex=$(sh "$(dirname "$0")/program.sh" "$@") || exit 1
 cd "$(dirname "$0")/.." || exit 1
 say() { echo "sweeps: $*"; }
@@ -12,13 +15,24 @@ for tool in bash parallel setsid pkill; do
     exit 0
 done
 room=$(mktemp -d) || exit 1
-trap 'rm -rf "$room"' EXIT
+machines=
+trap 'lose $machines; rm -rf "$room"' EXIT
+trap 'exit 1' HUP INT TERM
 failed=0
 
 # wrong WHAT: tells what isn't as it should be.
 wrong() {
     say "$*"
     failed=1
+}
+
+# lose PROCESS..: ends these processes and all below them.
+lose() {
+    for process in "$@"; do
+        # shellcheck disable=SC2046 # one number a word
+        lose $(pgrep -P "$process")
+        kill -9 "$process" 2> /dev/null
+    done
 }
 
 # The program, which notes each seed that it begins, and fails for two of them if the file $room/fails is there.
@@ -72,5 +86,75 @@ sh examples/sweep.sh "$log" 1 40 --events 99 > /dev/null 2> "$room/errors"
 status=$?
 { [ $status -eq 2 ] && grep -q 'is of another sweep$' "$room/errors"; } || wrong "the log of another sweep is taken"
 
-say "200 seeds, ended by force after $before and resumed ($again that ran then were begun again), $([ $failed -eq 0 ] && echo "all as it should be" || echo "not all as it should be")"
+# refused WHAT WORD..: whether a sweep with these words has status 2, tells why, and says ok of nothing.
+refused() {
+    what=$1
+    shift
+    sh examples/sweep.sh "$room/refused" "$@" > "$room/output" 2> "$room/errors"
+    status=$?
+    { [ $status -eq 2 ] && [ ! -s "$room/output" ] && grep -q '^sweep.sh: ' "$room/errors"; } || wrong "$what: status $status, $(cat "$room/output")"
+}
+refused "words that are no seeds" a b
+refused "a sweep of nothing" 5 3
+refused "a wrong last seed" 1 1x
+refused "an option that is a command" 1 2 --events "10' ; echo injected; '"
+rm -f "$room/fails" "$log"
+sh examples/sweep.sh "$log" 18446744073709551614 18446744073709551615 --events 10 > "$room/output" 2>&1 &&
+    sh examples/sweep.sh "$log" 18446744073709551614 18446744073709551615 --events 10 >> "$room/output" 2>&1
+[ "$(grep -c 'each is ok$' "$room/output")" -eq 2 ] || wrong "the greatest seeds: $(cat "$room/output")"
+
+# machine NAME PORT: starts sshd as the machine NAME, whose program notes its seeds in the same file.
+machine() {
+    cat > "$room/$1.sshd" << end
+ListenAddress 127.0.0.1
+Port $2
+HostKey $room/host_key
+AuthorizedKeysFile $room/key.pub
+StrictModes no
+UsePAM no
+PidFile none
+SetEnv PATH=$PATH
+end
+    printf 'Host %s\n  HostName 127.0.0.1\n  Port %s\n' "$1" "$2" >> "$room/ssh"
+    "$sshd" -D -f "$room/$1.sshd" -E "$room/$1.log" &
+    machines="$machines $!"
+}
+
+# two_machines: a sweep on both, of which the first is lost in the middle.
+two_machines() {
+    rm -f "$log" "$room/begun"
+    PARALLEL='--sshlogin 2/first,2/second' PARALLEL_SSH="ssh -F $room/ssh" sh examples/sweep.sh "$log" 1 60 \
+        > "$room/output" 2>&1 &
+    sweep=$!
+    while kill -0 $sweep 2> /dev/null && [ "$(ended | wc -l)" -lt 12 ]; do sleep 0.05; done
+    # shellcheck disable=SC2086
+    lose ${machines% *}
+    wait $sweep
+    status=$?
+    { [ $status -eq 0 ] && [ "$(cat "$room/output")" = "seeds 1 to 60: each is ok" ]; } || wrong "two machines: status $status, $(tail -n 3 "$room/output")"
+    seq 60 > "$room/all"
+    ended | cmp -s - "$room/all" || wrong "two machines: a seed is lost, or stands twice in the log"
+    on_first=$(grep -c "$(printf '\tfirst\t')" "$log")
+    { [ "$on_first" -ge 1 ] && [ "$on_first" -lt 59 ]; } || wrong "two machines: the first did $on_first of 60 seeds"
+    shared="60 seeds on two machines, of which one was lost after $on_first"
+}
+shared="more machines left out"
+sshd=$(PATH=$PATH:/usr/sbin:/sbin command -v sshd)
+if [ -n "$sshd" ] && command -v ssh > /dev/null; then
+    ssh-keygen -q -t ed25519 -N '' -f "$room/key" && ssh-keygen -q -t ed25519 -N '' -f "$room/host_key"
+    printf 'StrictHostKeyChecking no\nUserKnownHostsFile /dev/null\nLogLevel ERROR\nIdentitiesOnly yes\nIdentityFile %s\n' "$room/key" > "$room/ssh"
+    # sshd of root wants this folder, which the system makes when it starts its own.
+    [ "$(id -u)" -ne 0 ] || mkdir -p /run/sshd
+    port=$((20000 + $$ % 20000))
+    machine first $port
+    machine second $((port + 1))
+    sleep 1
+    if ssh -F "$room/ssh" first true 2> "$room/errors" && ssh -F "$room/ssh" second true 2>> "$room/errors"; then
+        two_machines
+    else
+        say "sshd can't be used here: $(head -n 1 "$room/errors")"
+    fi
+fi
+
+say "200 seeds, ended by force after $before and resumed ($again that ran then were begun again), $shared, $([ $failed -eq 0 ] && echo "all as it should be" || echo "not all as it should be")"
 exit $failed

@@ -2,7 +2,8 @@
 # Threads use the memory of this machine (c/examples/this_machine.c), and `pciex search` judges what they were told:
 # atomic operations have a history; additions that are split into a load and a store have none; a store and then a load
 # of another word have one, unless both threads loaded 0. It tells each log that is judged otherwise: this_machine.sh
-# [PROGRAM], the one that `rt ci` built if none is named.
+# [PROGRAM], that of program.sh if none is named.
+unset CDPATH
 pciex=$(sh "$(dirname "$0")/program.sh" "$@") || exit 1
 cd "$(dirname "$0")/.." || exit 1
 if ! command -v cc > /dev/null; then
@@ -11,6 +12,7 @@ if ! command -v cc > /dev/null; then
 fi
 room=$(mktemp -d) || exit 1
 trap 'rm -rf "$room"' EXIT
+trap 'exit 1' HUP INT TERM
 cc -Wall -Wextra -Werror -std=c11 -O2 -pthread -o "$room/this_machine" c/examples/this_machine.c || exit 1
 runs=0
 failed=0

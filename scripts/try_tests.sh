@@ -9,6 +9,7 @@
 #     run_tests, additions::seven_requesters_count_over_bad_links: 20 additions each in place of 600
 #     run_tests, mixed::mixed_operations_are_explained: 20 operations each in place of 200
 set -eu
+unset CDPATH
 cd "$(dirname "$0")/.."
 # shellcheck disable=SC2046 # names of crates have no spaces
 [ $# -gt 0 ] || set -- $(grep -rls --include='*.rt' '#\[test\]' crates/*/src | cut -d / -f 2 | sort -u)

@@ -2,6 +2,7 @@
 # Prints the version, which stands in c/rust/Cargo.toml. With --check it also looks at each other place that has to name it,
 # and fails if one names another.
 set -eu
+unset CDPATH
 cd "$(dirname "$0")/.."
 version=$(sed -n 's/^version = "\(.*\)"$/\1/p' c/rust/Cargo.toml | head -n 1)
 failed=0
@@ -17,6 +18,7 @@ if [ "${1:-}" = --check ]; then
     has c/pciex.h "#define PCIEX_VERSION \"$version\""
     has c/rust/Cargo.lock "version = \"$version\""
     has c/python/pyproject.toml "version = \"$version\""
+    has c/python/src/pciex/_raw.py "VERSION = \"$version\""
     [ ! -e CHANGELOG.md ] || has CHANGELOG.md "## $version"
     [ $failed -eq 0 ] || exit 1
     echo "version: $version, in each place"

@@ -4,6 +4,7 @@
 # only what no earlier run on this machine proved; with a kit whose `rt ci` takes no name, by `rt must-fail CRATE..`. The
 # edits of crates/CRATE/must-fail are tried by the gate. The last line counts the edits.
 set -eu
+unset CDPATH
 cd "$(dirname "$0")/.."
 # shellcheck disable=SC2046 # names of crates have no spaces
 [ $# -gt 0 ] || set -- $(for folder in crates/*/wrong-bodies; do basename "${folder%/*}"; done)

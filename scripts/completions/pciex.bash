@@ -5,7 +5,9 @@ _pciex() {
         --base) words="" ;;
         --size) words="" ;;
         --block) words="64 128" ;;
+        --id) words="" ;;
         --limit) words="" ;;
+        --work) words="" ;;
         --granularity) words="4 8 16 64 whole" ;;
         --from) words="" ;;
         --to) words="" ;;
@@ -20,13 +22,14 @@ _pciex() {
         --workers) words="" ;;
         *)
             case "$COMP_CWORD ${COMP_WORDS[1]}" in
-                "1 "*) words="tlp decode encode check search draw upgrade step chart generate run help --help --version" ;;
-                "2 help") words="tlp decode encode check search draw upgrade step chart generate run help" ;;
+                "1 "*) words="tlp endpoint decode encode check search draw upgrade step chart generate run help --help --version" ;;
+                "2 help") words="tlp endpoint decode encode check search draw upgrade step chart generate run help" ;;
                 *" tlp") words="--base --size --block --help" ;;
+                *" endpoint") words="--size --id --trace --help" ;;
                 *" decode") words="--help" ;;
                 *" encode") words="--help" ;;
                 *" check") words="--clocked --help" ;;
-                *" search") words="--limit --granularity --progress --help" ;;
+                *" search") words="--limit --work --granularity --core --progress --help" ;;
                 *" draw") words="--from --to --help" ;;
                 *" upgrade") words="--help" ;;
                 *" step") words="--trace --keep-going --echo --help" ;;

@@ -1,0 +1,160 @@
+"""Compares `pciex search` on the logs of examples/jepsen.py with a decider of its own: jepsen.py PROGRAM CONVERTER.
+
+80 random histories of registers, as Jepsen writes them: reads, writes and compare-and-sets of several processes, some of
+which end in a crash. Half of the histories are of right registers, the others of registers with a defect that shows or not.
+What is right is known by a search of Wing and Gong's kind, which knows nothing of logs. The histories are the same in each
+run.
+"""
+
+import subprocess
+import sys
+
+HISTORIES = 80
+OPERATIONS = 60
+VALUES = 4
+INITIAL = "nil"
+NEVER = 1 << 30
+
+
+class Random:
+    """Random numbers of its own, so that each version of Python draws the same histories."""
+
+    def __init__(self, seed):
+        self.state = seed * 2654435761 % (1 << 64) + 1
+
+    def below(self, n):
+        self.state ^= self.state << 13 & 0xFFFFFFFFFFFFFFFF
+        self.state ^= self.state >> 7
+        self.state ^= self.state << 17 & 0xFFFFFFFFFFFFFFFF
+        return (self.state >> 16) % n
+
+    def once_in(self, n):
+        return self.below(n) == 0
+
+
+class Operation:
+    """An operation of a process on a register. `begin` and `end` are its entries' places in the history."""
+
+    def __init__(self, process, kind, register, arguments, begin):
+        self.process, self.kind, self.register, self.arguments = process, kind, register, arguments
+        self.begin, self.end, self.result, self.outcome = begin, NEVER, None, "info"
+        self.has_acted = False
+
+    def entry(self, outcome):
+        value = " ".join(self.arguments) or self.result or "nil"
+        if self.kind == "cas":
+            value = "[%s]" % value
+        return "{:type :%s, :f :%s, :value [%d %s], :process %d, :time 0}" % (
+            outcome, self.kind, self.register, value, self.process)
+
+
+class Registers:
+    """Registers with one of these defects, or none: a stale read, a lost write, or a compare-and-set that compares
+    nothing."""
+
+    def __init__(self, count, defect):
+        self.values = [[INITIAL] for _ in range(count)]
+        self.defect = defect
+
+    def act(self, operation, random):
+        values = self.values[operation.register]
+        operation.has_acted, operation.outcome = True, "ok"
+        is_wrong = self.defect and random.once_in(10)
+        if operation.kind == "read":
+            is_stale = is_wrong and self.defect == "stale read" and len(values) > 1
+            operation.result = values[-2 if is_stale else -1]
+        elif operation.kind == "write":
+            if not (is_wrong and self.defect == "lost write"):
+                values.append(operation.arguments[0])
+        elif values[-1] == operation.arguments[0] or (is_wrong and self.defect == "no comparison"):
+            values.append(operation.arguments[1])
+        else:
+            operation.outcome = "fail"
+
+
+def drawn(random, defect):
+    """A history: its text in EDN and its operations."""
+    registers, lines, operations = Registers(1 + random.below(3), defect), [], []
+    at_work = [None] * (2 + random.below(5))
+    names = list(range(len(at_work)))  # a process that crashed goes on under another name
+    while len(operations) < OPERATIONS or any(at_work):
+        place = random.below(len(at_work))
+        operation = at_work[place]
+        if operation is None:
+            if len(operations) < OPERATIONS:
+                kind = ("read", "read", "write", "cas")[random.below(4)]
+                arguments = tuple(str(random.below(VALUES)) for _ in range({"read": 0, "write": 1, "cas": 2}[kind]))
+                operation = Operation(names[place], kind, random.below(len(registers.values)), arguments, len(lines))
+                lines.append(operation.entry("invoke"))
+                operations.append(operation)
+                at_work[place] = operation
+        elif random.once_in(33):
+            operation.outcome = "info"
+            operation.result = None
+            if random.once_in(2):  # else it never ends
+                lines.append(operation.entry("info"))
+            names[place] += 100
+            at_work[place] = None
+        elif not operation.has_acted:
+            registers.act(operation, random)
+        else:
+            operation.end = len(lines)
+            lines.append(operation.entry(operation.outcome))
+            at_work[place] = None
+    return "\n".join(lines) + "\n", operations
+
+
+def after(value, operation):
+    """The register's value after the operation, or None if it can't act there with what it was answered."""
+    if operation.kind == "read":
+        return value if operation.result == value else None
+    if operation.kind == "write":
+        return operation.arguments[0]
+    return operation.arguments[1] if operation.arguments[0] == value else None
+
+
+def has_order(operations):
+    """Whether operations on one register have an order: each acts between its beginning and its end, and one that crashed
+    acts at any time after its beginning, or never."""
+    todo = [it for it in operations if it.outcome == "ok" or (it.outcome == "info" and it.kind != "read")]
+    answered = sum(1 << place for place, it in enumerate(todo) if it.outcome == "ok")
+    seen, places = set(), [(0, INITIAL)]
+    while places:
+        done, value = place = places.pop()
+        if done & answered == answered:
+            return True
+        if place in seen:
+            continue
+        seen.add(place)
+        left = [(bit, it) for bit, it in enumerate(todo) if not done >> bit & 1]
+        soonest = min(it.end for bit, it in left if it.outcome == "ok")
+        for bit, it in left:
+            if it.begin < soonest and after(value, it) is not None:
+                places.append((done | 1 << bit, after(value, it)))
+    return False
+
+
+def is_right(operations):
+    return all(has_order([it for it in operations if it.register == register])
+               for register in {it.register for it in operations})
+
+
+def main(program, converter):
+    found = {True: 0, False: 0}
+    for seed in range(1, HISTORIES + 1):
+        defect = (None, "stale read", None, "lost write", None, "no comparison")[seed % 6]
+        text, operations = drawn(Random(seed), defect)
+        log = subprocess.run([sys.executable, converter], input=text, stdout=subprocess.PIPE, text=True, check=True).stdout
+        searched = subprocess.run([program, "search"], input=log, capture_output=True, text=True, check=False)
+        wanted = is_right(operations)
+        if searched.returncode != (0 if wanted else 1) or searched.stdout.startswith("none") == wanted:
+            print(text, log, sep="\n")
+            sys.exit("jepsen: history %d, %s: search has status %d and prints %s, and %s order explains it" % (
+                seed, defect or "no defect", searched.returncode, searched.stdout[:20], "an" if wanted else "no"))
+        found[wanted] += 1
+    print("jepsen: %d histories with an order, %d with none, each as search says of its log" % (found[True], found[False]))
+    return 0 if min(found.values()) >= 10 else "jepsen: too few of one kind"
+
+
+if __name__ == "__main__":
+    sys.exit(main(*sys.argv[1:]))
