@@ -3,14 +3,12 @@ ghost use Rattle.std.specs.Prelude.{◌≡◌, ◌<◌, ◌++◌, ℕ, vec_len, 
 ghost use Rattle.fabric_laws.specs.Fabric as fabrics;
 ghost use Rattle.fabric_events.specs.Events as events;
 ghost use Rattle.fabric_core.specs.Answers.{answer};
-ghost use Rattle.fabric_core.specs.Faults.{is_memory};
+ghost use Rattle.fabric_core.specs.Faults.{is_memory, IsTold};
 ghost use Rattle.fabric_core.specs.Runs.{has_record};
-ghost use Rattle.fabric_answers.specs.Told.{IsTold};
 ghost use Rattle.fabric_rounds.specs.Happenings.{Happening, happening, Answers};
 ghost use Rattle.fabric_settle.specs.Keeping.{Witnessed, IsLossless, WantsMemory};
 ghost use Rattle.fabric_settle.specs.Reached.{Reached};
 
-use fabric_answers::laws::each_event_has_one_answer;
 use fabric_core::{ANSWER_ROOM, EventRef, Fabric, Refusal, SeenRef, record_of};
 use history_check::Record;
 use std::alloc::AllocError;
@@ -154,7 +152,6 @@ pub fn happen<W: Witness>(
     ensures memory { IfErr result (λ r. is_memory r ≡ true → WantsMemory W.needs_room W.may_lose fabric.new event.now) }
     ensures reached { Reached (W.saw line) (IsLossless W.may_lose) fabric.old (W.kept witness.old) fabric.new (W.kept witness.new) }
 {
-    each_event_has_one_answer();
     prepare(witness, event)?;
     let mut room = ANSWER_ROOM;
     match fabric.step(event, &mut room) {
