@@ -1,7 +1,8 @@
 -- The digits of numbers and of bytes.
 use Rattle.std.proofs.Common.{◌≡◌, ℕ, zero, suc, ◌+◌, ◌/◌, ◌%◌, ◌^◌, ◌<◌, ◌≤◌, Bool, true, List, [], ◌∷◌, ◌++◌, length, get_or, slice_index, refl, sym, ap, ◌∙◌, append_assoc, length-append, inl, inr, arith, drop, drop-cons}
 use Rattle.std.specs.Prelude.{◌==◌, ◌&&◌, cond}
-use Rattle.std.specs.Fmt.{digits, digits_onto, digit_glyph}
+use Rattle.std.specs.Fmt.{decimal, digits, digits_onto, digit_glyph}
+use Rattle.std.proofs.lemmas.Fmt.{decimal_digit}
 use Rattle.std.proofs.lemmas.Bool.{and_parts, cases_lt, eqb-true, ne_eqb, eq-eqb}
 use Rattle.hex.specs.Hex.{encode_with, encode_upper, upper_digits}
 use Rattle.operation_text.specs.Texts.{hexadecimal, octet_text}
@@ -95,6 +96,10 @@ encode-next bytes i lt fits =
     rw (next, drop-cons bytes i 0 lt, high, low) refl
 
 pub ruleset short_rules = (hexadecimal-short)
+
+-- a number of one digit
+pub one_digit : (n : ℕ) → n < 10 → decimal n ≡ (48 + n) ∷ []
+one_digit n lt = decimal_digit n lt
 
 -- the digits of a byte
 pub octet_is : (n : ℕ) → n < 256 → encode_upper (n ∷ []) ≡ octet_text n

@@ -1,5 +1,5 @@
 -- A number that is read digit by digit from a line's front.
-use Rattle.std.proofs.Common.{◌≡◌, ◌≢◌, ◌∙◌, ℕ, suc, ◌+◌, ◌*◌, ◌^◌, ◌<◌, ◌≤◌, Bool, true, false, List, [], ◌∷◌, ◌++◌, length, take, get_or, refl, sym, ap, Some, None, inl, inr, arith}
+use Rattle.std.proofs.Common.{◌≡◌, ◌≢◌, ◌∙◌, ℕ, suc, ◌+◌, ◌*◌, ◌^◌, ◌<◌, ◌≤◌, Bool, true, false, List, [], ◌∷◌, ◌++◌, length, take, get_or, refl, sym, ap, Some, None, inl, inr, arith, add-one}
 use Rattle.std.specs.Prelude.{◌⊎◌, ◌==◌, ◌&&◌, not, nat_lt, nat_le, cond}
 use Rattle.std.specs.Char.{digit_value}
 use Rattle.std.proofs.Math.Seq.{take-suc}
@@ -7,6 +7,7 @@ use Rattle.std.proofs.lemmas.List.{get_or-take, length-take-le}
 use Rattle.std.proofs.lemmas.Bool.{cases_Bool, cases_lt, ne_eqb}
 use Rattle.std.proofs.lemmas.Bool.Decides.{nat_tests}
 use Rattle.std.proofs.lemmas.Nat.{mul-le}
+use Rattle.std.proofs.Math.Nat.{pow-suc, pow-le-pow_right}
 use Rattle.operation_text.specs.Words.{words, first_field, is_space}
 use Rattle.operation_text.specs.Numbers.{numeral, numeral_after}
 
@@ -35,9 +36,31 @@ next-digit radix most n v at line inside is h lt le =
 pub grows : (radix n v : ℕ) → 2 ≤ radix → n ≤ n * radix + v
 grows radix n v low = let m = mul-le n 1 n radix (omega arith) (omega arith) in omega arith
 
+-- with a digit more the number is still below what so many digits can write
+pub grows-below : (radix n v k : ℕ) → radix ≤ 16 → v < radix → n < 16 ^ k → n * radix + v < 16 ^ (k + 1)
+grows-below radix n v k high lt small =
+    let m = mul-le n radix n 16 (omega arith) high in
+    let next : 16 ^ (k + 1) ≡ 16 ^ k * 16 = ap (λ (i : ℕ). 16 ^ i) (add-one k) ∙ pow-suc 16 k in
+    rw next (omega (arith, m, lt, high, small))
+
+-- a number of at most 15 digits has 60 bits
+few-digits : (n k : ℕ) → k ≤ 15 → n < 16 ^ k → n < 2 ^ 60
+few-digits n k few small =
+    let m : 16 ^ k ≤ 16 ^ 15 = pow-le-pow_right (omega arith) few in
+    omega (arith, m, small)
+
 -- a digit more fits
-pub fits-digit : (radix n v : ℕ) → radix ≤ 16 → v < radix → n < 2 ^ 60 → n * radix + v < 2 ^ 64
-fits-digit radix n v high lt small = let m = mul-le n radix n 16 (omega arith) high in omega arith
+pub product-fits : (radix n k : ℕ) → radix ≤ 16 → k ≤ 15 → n < 16 ^ k → n * radix < 2 ^ 64
+product-fits radix n k high few small =
+    let m = mul-le n radix n 16 (omega arith) high in
+    let bits = few-digits n k few small in
+    omega arith
+
+pub digit-fits : (radix n v k : ℕ) → radix ≤ 16 → v < radix → k ≤ 15 → n < 16 ^ k → n * radix + v < 2 ^ 64
+digit-fits radix n v k high lt few small =
+    let m = mul-le n radix n 16 (omega arith) high in
+    let bits = few-digits n k few small in
+    omega arith
 
 -- no digit is a space
 not-space : (c v : ℕ) → digit_value c ≡ v → v < 16 → is_space c ≡ false

@@ -4,6 +4,9 @@ ghost use Rattle.std.specs.Char.{digit_value};
 ghost use Rattle.operation_text.specs.Words.{words, words_behind, first_field, is_space};
 ghost use Rattle.operation_text.specs.Numbers.{numeral, numeral_after};
 
+/// A number of that many digits, of any radix up to 16, has at most 60 bits.
+const MOST_DIGITS: usize = 15;
+
 /// The hexadecimal digit's value, 16 where it is none.
 #[inline(always)]
 fn digit_of(c: u8) -> u64
@@ -17,6 +20,19 @@ fn digit_of(c: u8) -> u64
     })
 }
 
+/// How many of the line's first bytes are looked at.
+#[inline(always)]
+fn few(line: &[u8]) -> usize
+    ensures line { result ≤ length line.now }
+    ensures few { result ≤ 15 }
+{
+    if line.len() < MOST_DIGITS {
+        line.len()
+    } else {
+        MOST_DIGITS
+    }
+}
+
 /// The number that the first digits of the line write, and how many they are: no more than surely fit.
 #[inline(always)]
 fn first_digits(line: &[u8], radix: u64) -> (u64, usize)
@@ -26,9 +42,10 @@ fn first_digits(line: &[u8], radix: u64) -> (u64, usize)
     ensures digits { (i : ℕ) → i < result.1 → is_space (get_or line.now i 0) ≡ false }
     ensures fits { result.1 ≤ length line.now }
 {
+    let most = few(line);
     let mut number: u64 = 0;
     let mut count = 0;
-    while count < line.len() && number < 1 << 60 {
+    while count < most {
         let digit = digit_of(line[count]);
         if digit >= radix {
             break;

@@ -158,14 +158,30 @@ fn op_by<'r>(
     }
 }
 
+/// The operation that the text spells, whatever its first word is.
+#[inline(never)]
+fn any_op<'r>(text: &[u8], room: &'r mut [u8; MAX_PAYLOAD]) -> Result<OpForm<'r>, Misfit>
+    ensures value { option_map owned (result_ok result) ≡ spelled.op_spelled (words text.now) }
+    ensures sizes { IfOk result HasSizes }
+{
+    let (kind, rest) = cut(text);
+    op_by(kind, rest, text, room)
+}
+
 /// The operation that the text spells: its bytes are put into the room, whose content doesn't count.
 #[inline(always)]
 pub fn read_op_lent<'r>(text: &[u8], room: &'r mut [u8; MAX_PAYLOAD]) -> Result<OpForm<'r>, Misfit>
     ensures value { option_map owned (result_ok result) ≡ spelled.op_spelled (words text.now) }
     ensures sizes { IfOk result HasSizes }
 {
-    let (kind, rest) = cut(text);
-    op_by(kind, rest, text, room)
+    match text {
+        [b'r', b'e', b'a', b'd', b' ', rest @ ..] => read(Some(rest)),
+        [b'w', b'r', b'i', b't', b'e', b' ', rest @ ..] => write(Some(rest), room),
+        [b'a', b'd', b'd', b' ', rest @ ..] => add(Some(rest), room),
+        [b's', b'w', b'a', b'p', b' ', rest @ ..] => swap(Some(rest), room),
+        [b'c', b'a', b's', b' ', rest @ ..] => cas(Some(rest), room),
+        _ => any_op(text, room),
+    }
 }
 
 /// As [`read_op_lent`], of the rest of a line; none where there is no rest. `rest` is what [`cut`]

@@ -44,6 +44,16 @@ fn reply_by<'r>(
     }
 }
 
+/// The reply that the text spells, whatever its first word is.
+#[inline(never)]
+fn any_reply<'r>(text: &[u8], room: &'r mut [u8; MAX_PAYLOAD]) -> Result<ReplyForm<'r>, Misfit>
+    ensures value { option_map owned_reply (result_ok result) ≡ spelled.reply_spelled (words text.now) }
+    ensures room { IfOk result HasRoom }
+{
+    let (kind, rest) = cut(text);
+    reply_by(kind, rest, text, room)
+}
+
 /// The reply that the text spells: its data is put into the room, whose content doesn't count.
 #[inline(always)]
 pub fn read_reply_lent<'r>(
@@ -53,8 +63,10 @@ pub fn read_reply_lent<'r>(
     ensures value { option_map owned_reply (result_ok result) ≡ spelled.reply_spelled (words text.now) }
     ensures room { IfOk result HasRoom }
 {
-    let (kind, rest) = cut(text);
-    reply_by(kind, rest, text, room)
+    match text {
+        [b'd', b'a', b't', b'a', b' ', rest @ ..] => data(Some(rest), room),
+        _ => any_reply(text, room),
+    }
 }
 
 /// As [`read_reply_lent`], of the rest of a line; none where there is no rest. `rest` is what

@@ -59,12 +59,28 @@ pub fn write_hexadecimal(number: u64, out: &mut ArrayString<512>)
     put_hexadecimal(number, out);
 }
 
+/// Adds the digit of a number below 10.
+#[inline(always)]
+#[tactic(auto, using(crate::proofs::DigitLemmas::one_digit))]
+fn put_one(number: u8, out: &mut ArrayString<512>)
+    requires number { number < 10 }
+    requires room { array_string_len out.old + 1 ≤ 512 }
+    ensures text { out.new.bytes ≡ out.old.bytes ++ decimal number }
+    ensures len { array_string_len out.new ≡ array_string_len out.old + 1 }
+{
+    out.push(char::from(b'0' + number));
+}
+
 /// Adds the number in decimal, without leading zeros.
 pub fn write_decimal(number: u64, out: &mut ArrayString<512>)
     requires { array_string_len out.old + 20 ≤ 512 }
     ensures text { out.new.bytes ≡ out.old.bytes ++ decimal number }
     ensures len { array_string_len out.new ≤ array_string_len out.old + 20 }
 {
+    if number < 10 {
+        put_one(number as u8, out);
+        return;
+    }
     let mut buffer = Buffer::new();
     out.push_str(buffer.format(number));
 }

@@ -1,7 +1,7 @@
 //! The fields of lines.
-ghost use Rattle.std.specs.Prelude.{◌≡◌, option_map};
+ghost use Rattle.std.specs.Prelude.{◌≡◌, IfSome, Some, option_map};
 ghost use Rattle.std.specs.Result.{result_ok};
-ghost use Rattle.operation_text.specs.Words.{words_behind, first_field};
+ghost use Rattle.operation_text.specs.Words.{words, words_behind, first_field};
 ghost use Rattle.record_text.specs.Forms as forms;
 
 use operation_text::{BASE, BLOCK, Expected, Misfit, SIZE, alone, cut, number};
@@ -14,9 +14,9 @@ const REQUESTER: Expected = Expected::Between("a requester", 1, 7);
 
 const NUMBER: Expected = Expected::Between("a request's number", 0, MAX_NUMBER);
 
-/// The requester that comes first, 1 to 7, and what is behind it.
-#[inline(always)]
-pub fn requester(rest: Option<&[u8]>) -> Result<(u8, Option<&[u8]>), Misfit>
+/// The requester that the next word spells, whatever is behind it.
+#[inline(never)]
+fn any_requester(rest: Option<&[u8]>) -> Result<(u8, Option<&[u8]>), Misfit>
     ensures { first_field forms.requester (words_behind rest.entry) ≡ option_map (λ s. (s.0, words_behind s.1)) (result_ok result) }
 {
     let (requester, behind) = number(rest, 10, 7, REQUESTER)?;
@@ -24,6 +24,32 @@ pub fn requester(rest: Option<&[u8]>) -> Result<(u8, Option<&[u8]>), Misfit>
         return Err(REQUESTER.at(rest));
     }
     Ok((requester as u8, behind))
+}
+
+/// The requester that is the first word of a line, if the word has one digit and another follows it. Of other lines it
+/// says nothing.
+#[inline(always)]
+#[tactic(auto, using(crate::proofs::DigitLemmas::one_digit))]
+fn first_requester(line: &[u8]) -> Option<(u8, &[u8])>
+    ensures { IfSome result (λ s. first_field forms.requester (words line.now) ≡ Some (s.0, words s.1.now)) }
+{
+    match line {
+        [digit @ b'1'..=b'7', b' ', rest @ ..] => Some((*digit - b'0', rest)),
+        _ => None,
+    }
+}
+
+/// The requester that comes first, 1 to 7, and what is behind it.
+#[inline(always)]
+pub fn requester(rest: Option<&[u8]>) -> Result<(u8, Option<&[u8]>), Misfit>
+    ensures { first_field forms.requester (words_behind rest.entry) ≡ option_map (λ s. (s.0, words_behind s.1)) (result_ok result) }
+{
+    if let Some(line) = rest {
+        if let Some((requester, behind)) = first_requester(line) {
+            return Ok((requester, Some(behind)));
+        }
+    }
+    any_requester(rest)
 }
 
 /// The number of a request that comes first, below 2^32 - 1, and what is behind it.

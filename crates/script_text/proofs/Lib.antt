@@ -1,2 +1,3 @@
+mod LaneLemmas
 mod ReadBack
 mod Operations

@@ -21,7 +21,7 @@ const REQUESTER: Expected = Expected::Between("a requester", 1, REQUESTERS as u6
 
 const POSITION: Expected = Expected::Of("a position", "0 or more");
 
-fn submit<'r>(rest: Option<&[u8]>, room: &'r mut Op) -> Result<EventRef<'r>, Misfit>
+pub(crate) fn submit<'r>(rest: Option<&[u8]>, room: &'r mut Op) -> Result<EventRef<'r>, Misfit>
     ensures { result_ok result ≡ forms.submit_of (words_behind rest.entry) }
 {
     let (port, rest) = octet(rest, REQUESTER)?;
@@ -30,14 +30,14 @@ fn submit<'r>(rest: Option<&[u8]>, room: &'r mut Op) -> Result<EventRef<'r>, Mis
     Ok(EventRef::Submit(port, OpLent::new(room)))
 }
 
-fn transmit(rest: Option<&[u8]>) -> Result<EventRef<'static>, Misfit>
+pub(crate) fn transmit(rest: Option<&[u8]>) -> Result<EventRef<'static>, Misfit>
     ensures { result_ok result ≡ forms.transmit_of (words_behind rest.entry) }
 {
     let (lane, rest) = lane(rest)?;
     alone(EventRef::Transmit(lane), rest)
 }
 
-fn deliver(rest: Option<&[u8]>) -> Result<EventRef<'static>, Misfit>
+pub(crate) fn deliver(rest: Option<&[u8]>) -> Result<EventRef<'static>, Misfit>
     ensures { result_ok result ≡ forms.deliver_of (words_behind rest.entry) }
 {
     let (lane, rest) = lane(rest)?;
@@ -45,7 +45,7 @@ fn deliver(rest: Option<&[u8]>) -> Result<EventRef<'static>, Misfit>
     alone(EventRef::Deliver(lane, fate), rest)
 }
 
-fn dllp(rest: Option<&[u8]>) -> Result<EventRef<'static>, Misfit>
+pub(crate) fn dllp(rest: Option<&[u8]>) -> Result<EventRef<'static>, Misfit>
     ensures { result_ok result ≡ forms.dllp_of (words_behind rest.entry) }
 {
     let (lane, rest) = lane(rest)?;
@@ -53,7 +53,7 @@ fn dllp(rest: Option<&[u8]>) -> Result<EventRef<'static>, Misfit>
     alone(EventRef::SendDllp(lane, kind), rest)
 }
 
-fn deliver_dllp(rest: Option<&[u8]>) -> Result<EventRef<'static>, Misfit>
+pub(crate) fn deliver_dllp(rest: Option<&[u8]>) -> Result<EventRef<'static>, Misfit>
     ensures { result_ok result ≡ forms.deliver_dllp_of (words_behind rest.entry) }
 {
     let (lane, rest) = lane(rest)?;
@@ -75,7 +75,7 @@ fn retrained(rest: Option<&[u8]>) -> Result<EventRef<'static>, Misfit>
     alone(EventRef::Retrained(lane), rest)
 }
 
-fn forward(rest: Option<&[u8]>) -> Result<EventRef<'static>, Misfit>
+pub(crate) fn forward(rest: Option<&[u8]>) -> Result<EventRef<'static>, Misfit>
     ensures { result_ok result ≡ forms.forward_of (words_behind rest.entry) }
 {
     let (lane, rest) = lane(rest)?;
@@ -83,14 +83,14 @@ fn forward(rest: Option<&[u8]>) -> Result<EventRef<'static>, Misfit>
     alone(EventRef::Forward(lane, place), rest)
 }
 
-fn serve(rest: Option<&[u8]>) -> Result<EventRef<'static>, Misfit>
+pub(crate) fn serve(rest: Option<&[u8]>) -> Result<EventRef<'static>, Misfit>
     ensures { result_ok result ≡ forms.serve_of (words_behind rest.entry) }
 {
     let (place, rest) = count(rest, POSITION)?;
     alone(EventRef::Serve(place), rest)
 }
 
-fn collect(rest: Option<&[u8]>) -> Result<EventRef<'static>, Misfit>
+pub(crate) fn collect(rest: Option<&[u8]>) -> Result<EventRef<'static>, Misfit>
     ensures { result_ok result ≡ forms.collect_of (words_behind rest.entry) }
 {
     let (port, rest) = octet(rest, REQUESTER)?;

@@ -4,8 +4,11 @@ ghost use Rattle.std.specs.Result.{result_ok};
 ghost use Rattle.operation_text.specs.Words.{words, words_behind};
 ghost use Rattle.script_text.specs.Forms as forms;
 ghost use Rattle.script_text.specs.Lent.{owned_line};
+ghost use Rattle.script_text.specs.declared.line.Line.TheVariants as lines;
 
-use crate::events::{EVENT, event_by};
+use crate::events::{
+    EVENT, collect, deliver, deliver_dllp, dllp, event_by, forward, serve, submit, transmit,
+};
 use crate::fabric::{FABRIC, fabric, misfit_of};
 use fabric_core::{Config, Event, EventRef};
 use operation_text::{Misfit, alone, cut};
@@ -55,8 +58,9 @@ pub const ROOM: Op = Op::Read {
     last: 0,
 };
 
-/// As [`read_line`], but the operation of an event is put into the room, and lent from there.
-pub fn read_line_lent<'r>(text: &[u8], room: &'r mut Op) -> Result<LineForm<'r>, Misfit>
+/// The line that the text spells, whatever its first word is.
+#[inline(never)]
+fn any_line<'r>(text: &[u8], room: &'r mut Op) -> Result<LineForm<'r>, Misfit>
     ensures value { option_map owned_line (result_ok result) ≡ forms.line_of (words text.now) }
 {
     let (kind, rest) = cut(text);
@@ -67,6 +71,96 @@ pub fn read_line_lent<'r>(text: &[u8], room: &'r mut Op) -> Result<LineForm<'r>,
         return alone(LineForm::Settle, rest);
     }
     Ok(LineForm::Event(event_by(kind, rest, text, room)?))
+}
+
+/// The line of an event.
+#[inline(always)]
+fn event_line<'r>(event: Result<EventRef<'r>, Misfit>) -> Result<LineForm<'r>, Misfit>
+    ensures { option_map owned_line (result_ok result) ≡ option_map lines.Event (result_ok event.entry) }
+{
+    Ok(LineForm::Event(event?))
+}
+
+/// The line that the text spells, that of a requester's event first.
+#[inline(always)]
+fn requester_line<'r>(text: &[u8], room: &'r mut Op) -> Result<LineForm<'r>, Misfit>
+    ensures value { option_map owned_line (result_ok result) ≡ forms.line_of (words text.now) }
+{
+    match text {
+        [b's', b'u', b'b', b'm', b'i', b't', b' ', rest @ ..] => event_line(submit(
+            Some(rest),
+            room,
+        )),
+        [b'c', b'o', b'l', b'l', b'e', b'c', b't', b' ', rest @ ..] => event_line(collect(Some(
+            rest,
+        ))),
+        _ => any_line(text, room),
+    }
+}
+
+/// The line that the text spells, that of the switch's or the memory's event first.
+#[inline(always)]
+fn switch_line<'r>(text: &[u8], room: &'r mut Op) -> Result<LineForm<'r>, Misfit>
+    ensures value { option_map owned_line (result_ok result) ≡ forms.line_of (words text.now) }
+{
+    match text {
+        [b's', b'e', b'r', b'v', b'e', b' ', rest @ ..] => event_line(serve(Some(rest))),
+        [b'f', b'o', b'r', b'w', b'a', b'r', b'd', b' ', rest @ ..] => event_line(forward(Some(
+            rest,
+        ))),
+        _ => requester_line(text, room),
+    }
+}
+
+/// The line that the text spells, that of a DLLP first.
+#[inline(always)]
+fn dllp_line<'r>(text: &[u8], room: &'r mut Op) -> Result<LineForm<'r>, Misfit>
+    ensures value { option_map owned_line (result_ok result) ≡ forms.line_of (words text.now) }
+{
+    match text {
+        [b'd', b'l', b'l', b'p', b' ', rest @ ..] => event_line(dllp(Some(rest))),
+        [
+            b'd',
+            b'e',
+            b'l',
+            b'i',
+            b'v',
+            b'e',
+            b'r',
+            b'-',
+            b'd',
+            b'l',
+            b'l',
+            b'p',
+            b' ',
+            rest @ ..,
+        ] => event_line(deliver_dllp(Some(rest))),
+        _ => switch_line(text, room),
+    }
+}
+
+/// As [`read_line`], but the operation of an event is put into the room, and lent from there.
+pub fn read_line_lent<'r>(text: &[u8], room: &'r mut Op) -> Result<LineForm<'r>, Misfit>
+    ensures value { option_map owned_line (result_ok result) ≡ forms.line_of (words text.now) }
+{
+    match text {
+        [b'd', b'e', b'l', b'i', b'v', b'e', b'r', b' ', rest @ ..] => event_line(deliver(Some(
+            rest,
+        ))),
+        [
+            b't',
+            b'r',
+            b'a',
+            b'n',
+            b's',
+            b'm',
+            b'i',
+            b't',
+            b' ',
+            rest @ ..,
+        ] => event_line(transmit(Some(rest))),
+        _ => dllp_line(text, room),
+    }
 }
 
 /// The line that the text spells, which is given without what ends it. If it has no known form, or a
