@@ -118,6 +118,7 @@ each_refused stops_for_memory examples/trace.txt $pciex search
 each_refused stops_for_memory examples/trace.txt $pciex draw
 each_refused stops_for_memory examples/trace.txt $pciex upgrade
 each_refused stops_for_memory /dev/null $pciex generate --seed 1 --events 300 --lose 8 --corrupt 9
+each_refused stops_for_memory /dev/null $pciex sweep --seeds 1..2 --events 20 --workers 1
 each_refused stops_for_memory examples/credits_used_up.txt $pciex step --keep-going --echo
 for script in lost_ack write_passes_read credits_used_up stopped_link first_script; do
     each_refused stops_for_memory examples/$script.txt $pciex step

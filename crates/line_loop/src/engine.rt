@@ -220,6 +220,7 @@ impl<P: Responder> Engine<P> {
             → Begins P.responses start done written (read ++ bytes.now))) }
     {
         let fed = self.feed(bytes);
+        self.responder.on_block();
         self.flush(writer)?;
         fed?;
         Ok(())
@@ -238,6 +239,7 @@ impl<P: Responder> Engine<P> {
             → IsBeginning (written ++ done) (run_of P.responses start read).text)) }
     {
         let ended = self.finish();
+        self.responder.on_block();
         self.flush(writer)?;
         ended?;
         Ok(self.status)

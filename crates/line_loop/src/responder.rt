@@ -28,4 +28,10 @@ pub trait Responder: Drop {
     fn on_end(&mut self, out: &mut Vec<u8>) -> Result<Verdict, AllocError>
         ensures ok { IfOk result (λ verdict. IsAnswer self.new out.old.items out.new.items verdict (responses.on_end self.old)) }
         ensures err { OnErr result (out.new.items ≡ out.old.items) };
+
+    /// Writes what is kept for other streams. It is called before the answers to a block of input are written, so
+    /// before more of it is read.
+    fn on_block(&mut self)
+        ensures { self.new ≡ self.old }
+    {}
 }

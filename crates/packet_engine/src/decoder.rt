@@ -68,7 +68,7 @@ pub fn run_decode_with_reasons<R: Read, W: Write, E: Write>(
         line: HexLine::new(),
         text: ArrayString::new(),
     };
-    let decoder = Reasoned::new(decoder, PacketLines::Bytes, errors);
+    let decoder = Reasoned::new(alloc, decoder, PacketLines::Bytes, errors);
     run(alloc, decoder, reader, writer)
 }
 

@@ -68,7 +68,7 @@ pub fn run_encode_with_reasons<R: Read, W: Write, E: Write>(
     ensures err { OnErr result (IsPart out_encode (R.remaining reader.old) (R.remaining reader.new) (W.contents writer.old) (W.contents writer.new)) }
     ensures read { IfErr result (λ f. f ≡ EngineFault.Read → IsCaughtUp encode_responses tt (R.remaining reader.old) (R.remaining reader.new) (W.contents writer.old) (W.contents writer.new)) }
 {
-    let encoder = Reasoned::new(Encoder {}, PacketLines::Words, errors);
+    let encoder = Reasoned::new(alloc, Encoder {}, PacketLines::Words, errors);
     run(alloc, encoder, reader, writer)
 }
 

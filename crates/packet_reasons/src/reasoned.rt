@@ -4,9 +4,9 @@ ghost use Rattle.diagnostics.specs.Told.{IsReasonTold, IsReasonBegun};
 
 use crate::bytes::{packet_reason, request_reason};
 use diagnostics::{tell_long_line, tell_misfit, tell_refusal};
-use line_loop::{EngineFault, Responder, Verdict};
+use line_loop::{EngineFault, Responder, Verdict, write_out};
 use packet_text::{Unread, read_words};
-use std::alloc::AllocError;
+use std::alloc::{AllocError, Global};
 use std::io::Write;
 use std::marker::Model;
 
@@ -70,7 +70,11 @@ pub struct Reasoned<P, E> {
     lines: PacketLines,
     /// How many lines were answered.
     count: u64,
-    /// Where reasons are told.
+    /// The reasons that are to be written.
+    reasons: Vec<u8>,
+    /// Whether memory for a reason ran out: then no further line is answered.
+    is_lost: bool,
+    /// Where reasons are told, a block at a time.
     errors: E,
 }
 
@@ -83,13 +87,15 @@ impl<P, E> Model for Reasoned<P, E> {
 impl<P, E> Reasoned<P, E> {
     /// The responder, before its first line, what it reads of a line, and the stream on which its
     /// reasons are told.
-    pub fn new(responder: P, lines: PacketLines, errors: E) -> Reasoned<P, E>
+    pub fn new(alloc: Global, responder: P, lines: PacketLines, errors: E) -> Reasoned<P, E>
         ensures { result ≡ responder }
     {
         Reasoned {
             responder,
             lines,
             count: 0,
+            reasons: Vec::new(alloc),
+            is_lost: false,
             errors,
         }
     }
@@ -99,22 +105,39 @@ impl<P: Responder, E: Write + Drop> Responder for Reasoned<P, E> {
     ghost responses = { P.responses };
 
     fn on_line(&mut self, line: &[u8], out: &mut Vec<u8>) -> Result<Verdict, AllocError> {
+        if self.is_lost {
+            return Err(AllocError);
+        }
         self.count = self.count.saturating_add(1);
         let verdict = self.responder.on_line(line, out)?;
         if verdict.is_fault() {
-            let _ = explain(self.lines, line, Some(self.count), &mut self.errors);
+            let told = explain(self.lines, line, Some(self.count), &mut self.reasons);
+            self.is_lost = told.is_err();
         }
         Ok(verdict)
     }
 
     fn on_long_line(&mut self, out: &mut Vec<u8>) -> Result<Verdict, AllocError> {
+        if self.is_lost {
+            return Err(AllocError);
+        }
         self.count = self.count.saturating_add(1);
         let verdict = self.responder.on_long_line(out)?;
-        let _ = tell_long_line(verdict.is_fault().then_some(self.count), &mut self.errors);
+        let told = tell_long_line(verdict.is_fault().then_some(self.count), &mut self.reasons);
+        self.is_lost = told.is_err();
         Ok(verdict)
     }
 
     fn on_end(&mut self, out: &mut Vec<u8>) -> Result<Verdict, AllocError> {
+        if self.is_lost {
+            return Err(AllocError);
+        }
         self.responder.on_end(out)
+    }
+
+    fn on_block(&mut self) {
+        self.responder.on_block();
+        let _ = write_out(&mut self.errors, self.reasons.as_slice());
+        self.reasons.clear();
     }
 }

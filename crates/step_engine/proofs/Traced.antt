@@ -21,8 +21,8 @@ use Rattle.fabric_core.specs.Runs.{Runs}
 use Rattle.fabric_core.specs.Answers.{answer}
 use Rattle.fabric_settle.specs.Happenings.{Happening, Leads}
 use Rattle.fabric_settle.specs.Keeping.{with_record}
-use Rattle.fabric_answers.specs.Told.{IsTold}
-use Rattle.fabric_answers.specs.New.{new_fabric, config_fault}
+use Rattle.fabric_core.specs.Faults.{IsTold}
+use Rattle.fabric_core.specs.New.{new_fabric, config_fault}
 use Rattle.operation_text.specs.Words.{words}
 use Rattle.trace_text.specs.Texts.{trace_text}
 use Rattle.script_text.specs.declared.line.Line.{Line}

@@ -8,7 +8,7 @@ use Rattle.fabric_core.specs.declared.fault.Refusal.{Refusal}
 use Rattle.fabric_core.specs.Config.{IsNewWith}
 use Rattle.fabric_core.specs.Steps.{Refused}
 use Rattle.fabric_core.specs.Runs.{Recorded}
-use Rattle.fabric_answers.specs.Told.{IsTold}
+use Rattle.fabric_core.specs.Faults.{IsTold}
 use Rattle.operation_text.specs.Words.{words}
 use Rattle.script_text.specs.declared.line.Line.{Line}
 use Rattle.script_text.specs.declared.line.Line.TheVariants as lines

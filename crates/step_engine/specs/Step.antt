@@ -10,7 +10,7 @@ use Rattle.fabric_events.specs.Events.{Event, Seen}
 use Rattle.fabric_core.specs.declared.fault.Refusal.{Refusal}
 use Rattle.fabric_core.specs.Kept.{records_of}
 use Rattle.fabric_core.specs.Answers.{answer}
-use Rattle.fabric_answers.specs.New.{new_fabric, config_fault}
+use Rattle.fabric_core.specs.New.{new_fabric, config_fault}
 use Rattle.text_lines.specs.Lines.{is_skipped}
 use Rattle.operation_text.specs.Words.{words}
 use Rattle.trace_text.specs.Texts.{trace_text}

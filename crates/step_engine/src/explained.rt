@@ -8,7 +8,7 @@ use crate::options::StepOptions;
 use crate::step::{Rooms, Stepper};
 use arrayvec::ArrayString;
 use diagnostics::{Reason, tell_long_line, tell_misfit, tell_refusal};
-use line_loop::{EngineFault, Responder, Verdict, run};
+use line_loop::{EngineFault, Responder, Verdict, run, write_out};
 use script_text::{script_misfit, write_refusal};
 use std::alloc::{AllocError, Global};
 use std::io::{Read, Write};
@@ -57,10 +57,12 @@ fn explain_answers<E: Write>(text: &[u8], number: u64, errors: &mut E) -> Result
 
 /// Whether the text may have an answer of a request that isn't served: it says so at its end, or `settle` wrote it.
 fn may_be_unserved(text: &[u8]) -> bool {
-    match text.strip_suffix(b"\n") {
-        Some(answer) => unserved(answer).is_some() || answer.ends_with(b"settled"),
-        None => false,
-    }
+    matches!(
+        text,
+        [.., b' ', b'c', b'a', b'\n']
+            | [.., b' ', b'u', b'r', b'\n']
+            | [.., b's', b'e', b't', b't', b'l', b'e', b'd', b'\n']
+    )
 }
 
 /// A script that is run line by line, and the stream on which reasons are told.
@@ -68,6 +70,10 @@ fn may_be_unserved(text: &[u8]) -> bool {
 struct Explained<E> {
     stepper: Stepper,
     rooms: Rooms,
+    /// The reasons that are to be written.
+    reasons: Vec<u8>,
+    /// Whether memory for a reason ran out: then no further line is answered.
+    is_lost: bool,
     errors: E,
 }
 
@@ -85,27 +91,41 @@ impl<E: Write + Drop> Responder for Explained<E> {
     ghost responses = { step_responses };
 
     fn on_line(&mut self, line: &[u8], out: &mut Vec<u8>) -> Result<Verdict, AllocError> {
+        if self.is_lost {
+            return Err(AllocError);
+        }
         let before = out.len();
         let verdict = self.stepper.answer(line, &mut self.rooms, out)?;
         if verdict.is_fault() {
-            let _ = explain(&mut self.stepper, line, &mut self.errors);
+            self.is_lost = explain(&mut self.stepper, line, &mut self.reasons).is_err();
         } else if may_be_unserved(&out[before.min(out.len())..]) {
             let number = self.stepper.lines();
             let text = &out[before.min(out.len())..];
-            let _ = explain_answers(text, number, &mut self.errors);
+            self.is_lost = explain_answers(text, number, &mut self.reasons).is_err();
         }
         Ok(verdict)
     }
 
     fn on_long_line(&mut self, out: &mut Vec<u8>) -> Result<Verdict, AllocError> {
+        if self.is_lost {
+            return Err(AllocError);
+        }
         let verdict = self.stepper.answer_long(out)?;
         let fault = verdict.is_fault().then_some(self.stepper.lines());
-        let _ = tell_long_line(fault, &mut self.errors);
+        self.is_lost = tell_long_line(fault, &mut self.reasons).is_err();
         Ok(verdict)
     }
 
     fn on_end(&mut self, out: &mut Vec<u8>) -> Result<Verdict, AllocError> {
+        if self.is_lost {
+            return Err(AllocError);
+        }
         self.stepper.answer_end(out)
+    }
+
+    fn on_block(&mut self) {
+        let _ = write_out(&mut self.errors, self.reasons.as_slice());
+        self.reasons.clear();
     }
 }
 
@@ -125,6 +145,8 @@ pub fn run_step_with_reasons<R: Read, W: Write, E: Write>(
     let explained = Explained {
         stepper: Stepper::new(alloc, options),
         rooms: Rooms::new(),
+        reasons: Vec::new(alloc),
+        is_lost: false,
         errors,
     };
     run(alloc, explained, reader, writer)

@@ -15,8 +15,10 @@ ghost use Rattle.step_engine.specs.Options.{traced};
 ghost use Rattle.step_engine.specs.Script.{IsScript, Progress, RunsThrough};
 ghost use Rattle.step_engine.specs.Step.{claim_with, out_step, out_step_with};
 
-use fabric_answers::laws::{a_configuration_has_one_answer, each_event_has_one_answer};
-use fabric_core::laws::{a_new_fabric_is_sound, each_event_keeps_it_sound};
+use fabric_core::laws::{
+    a_configuration_has_one_answer, a_new_fabric_is_sound, each_event_has_one_answer,
+    each_event_keeps_it_sound,
+};
 use fabric_laws::laws::the_trace_belongs;
 use trace_engine::laws::{a_clocked_trace_is_ok, an_explained_trace_is_ok};
 use trace_text::told_trace_is_read_back;

@@ -1,9 +1,8 @@
 //! The subcommand `step`: scripts of events for a fabric.
-ghost use Rattle.std.specs.Prelude.{◌≡◌, ◌≤◌, ◌+◌, ◌++◌, ◌∷◌, [], length, is_some, Some, None, Ok, Err, IfOk, IfErr, OnOk, OnErr};
+ghost use Rattle.std.specs.Prelude.{◌≡◌, ◌≤◌, ◌+◌, ◌++◌, ◌∷◌, [], length, is_some, Ok, Err, IfOk, IfErr, OnOk, OnErr};
 ghost use Rattle.arrayvec.specs.ArrayString.{array_string_len};
 ghost use Rattle.fabric_core.specs.Answers.{answer};
-ghost use Rattle.fabric_answers.specs.Told.{IsTold};
-ghost use Rattle.fabric_answers.specs.New.{new_fabric, config_fault};
+ghost use Rattle.fabric_core.specs.Faults.{IsTold};
 ghost use Rattle.fabric_core.specs.Config.{fault_name};
 ghost use Rattle.script_text.specs.Names.{refusal_text};
 ghost use Rattle.script_text.specs.Texts.{seen_text, settled_text};
@@ -15,7 +14,6 @@ use crate::answering::{ending, put_shown};
 use crate::explained::run_step_with_reasons;
 use crate::options::StepOptions;
 use arrayvec::ArrayString;
-use fabric_answers::laws::{a_configuration_has_one_answer, each_event_has_one_answer};
 use fabric_core::{ANSWER_ROOM, Config, ConfigFault, EventRef, Fabric, Refusal, SeenRef};
 use fabric_settle::{happen, settle};
 use history_check::Record;
@@ -33,15 +31,6 @@ use text_lines::is_skipped;
 use tlp_core::Op;
 use trace_engine::tell_trace;
 
-/// A new fabric.
-fn make(config: Config, alloc: Global) -> Result<Fabric, ConfigFault>
-    ensures ok { IfOk result (λ f. (f ≡ new_fabric config) × (config_fault config ≡ None)) }
-    ensures fault { IfErr result (λ fault. (fault ≡ ConfigFault.Memory → ⊥) → config_fault config ≡ Some fault) }
-{
-    a_configuration_has_one_answer();
-    Fabric::new(config, alloc)
-}
-
 /// What is seen of an event that happens to the fabric.
 #[inline(always)]
 fn see<'a>(
@@ -53,7 +42,6 @@ fn see<'a>(
     ensures refused { IfErr result (λ r. IsTold r → answer fabric.old event.now ≡ Err r) }
     ensures err { OnErr result (fabric.new ≡ fabric.old) }
 {
-    each_event_has_one_answer();
     fabric.step(event, room)
 }
 
@@ -270,7 +258,7 @@ impl Stepper {
         if self.fabric.is_some() {
             return self.no_line(out);
         }
-        match make(config, self.alloc) {
+        match Fabric::new(config, self.alloc) {
             Ok(fabric) => {
                 self.fabric = Some(fabric);
                 self.count();

@@ -249,7 +249,7 @@ pub fn run_tlp_with_reasons<R: Read, W: Write, E: Write>(
     reading_is_spelling();
     history_grows_by_steps();
     let completer = Completer::new(alloc, extent)?;
-    let reasoned = Reasoned::new(completer, PacketLines::Requests, errors);
+    let reasoned = Reasoned::new(alloc, completer, PacketLines::Requests, errors);
     run(alloc, reasoned, reader, writer)
 }
 

@@ -1,7 +1,7 @@
 use Rattle.std.proofs.Common.{rules, ◌≡◌, ◌∙◌, List, ℕ, false, refl, sym, ap, subst, Option, Some, None}
 use Rattle.std.specs.Prelude.{is_some}
 use Rattle.std.proofs.lemmas.List.{append-nil}
-use Rattle.fabric_answers.specs.New.{new_fabric, config_fault}
+use Rattle.fabric_core.specs.New.{new_fabric, config_fault}
 use Rattle.fabric_laws.specs.Fabric.{Fabric}
 use Rattle.line_loop.specs.declared.verdict.Verdict.TheVariants as verdicts
 use Rattle.line_loop.specs.Run.{IsAnswer}
@@ -22,4 +22,4 @@ is_made s c f new out none fault made_is now =
 pub returns-in-Ok-clause-ok : goal.returns-in-Ok-clause-ok
 returns-in-Ok-clause-ok c =
     is_made c.args.self.now c.args.config c.in-Ok.fabric c.count.new.self c.args.out.now.items
-    (sym (ap (λ (s : StepperView). s.fabric) c.self.view_is) ∙ none_of c.self.inside.fabric (sym c.is_some.ensures ∙ c.if-is_some.false)) c.in-Ok.ensures.ok.1 c.in-Ok.ensures.ok.0 (search rules)
+    (sym (ap (λ (s : StepperView). s.fabric) c.self.view_is) ∙ none_of c.self.inside.fabric (sym c.is_some.ensures ∙ c.if-is_some.false)) c.in-Ok.ensures.faultless c.in-Ok.ensures.new (search rules)
