@@ -11,7 +11,7 @@ use Rattle.fabric_core.specs.Kept.{records_of}
 use Rattle.fabric_core.specs.Answers.{Happens, answer, Refused}
 use Rattle.fabric_core.specs.Faults.{is_memory}
 use Rattle.fabric_core.specs.Runs.{has_record}
-use Rattle.fabric_answers.specs.New.{config_fault}
+use Rattle.fabric_core.specs.New.{config_fault}
 use Rattle.fabric_settle.specs.Happenings.{Happening, Leads}
 use Rattle.fabric_settle.specs.Rounds.{settlement}
 use Rattle.operation_text.specs.Words.{words}

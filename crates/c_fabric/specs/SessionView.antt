@@ -5,7 +5,7 @@ use Rattle.history_check.specs.Claim.{Claim}
 use Rattle.fabric_laws.specs.Fabric.{Fabric, whole_of}
 use Rattle.fabric_laws.specs.Trace.{Belongs}
 use Rattle.fabric_core.specs.declared.config.Config.{Config}
-use Rattle.fabric_answers.specs.New.{new_fabric}
+use Rattle.fabric_core.specs.New.{new_fabric}
 use Rattle.fabric_settle.specs.Happenings.{Happening}
 use Rattle.fabric_settle.specs.Keeping.{with_record}
 use Rattle.trace_text.specs.Texts.{trace_text}

@@ -2,7 +2,7 @@
 ghost use Rattle.std.specs.Prelude.{◌≡◌, ◌≤◌, Option, Some, None, Err, true, IsOk, IsErr, IfOk, IfErr, OnOk, length};
 ghost use Rattle.fabric_core.specs.declared.config.Config as configs;
 ghost use Rattle.fabric_core.specs.Config.{IsConfig, fault_name};
-ghost use Rattle.fabric_answers.specs.New as new;
+ghost use Rattle.fabric_core.specs.New as new;
 ghost use Rattle.c_buffer.specs.declared.outcome.Failure.TheVariants.{Text, NoMemory};
 ghost use Rattle.c_buffer.specs.Buffer.{filled, is_silent};
 ghost use Rattle.c_fabric.specs.SessionView.{SessionView, new_session};
@@ -14,7 +14,6 @@ use crate::witness::{LastSeen, SessionWitness};
 use arrayvec::ArrayString;
 use c_box::Parts;
 use c_buffer::{Failure, LINE_BUFFER, tell_fault};
-use fabric_answers::laws::a_configuration_has_one_answer;
 use fabric_core::{Config, ConfigFault, Fabric};
 use script_text::{Line, read_line, write_config_fault};
 use std::alloc::Global;
@@ -78,7 +77,6 @@ fn make(alloc: Global, config: Config, is_traced: bool) -> Result<Session, Confi
     ensures config { OnOk result (IsConfig config) }
     ensures no_memory { IfErr result (λ fault. fault ≡ ConfigFault.Memory → IsConfig config) }
 {
-    a_configuration_has_one_answer();
     let fabric = Fabric::new(config, alloc)?;
     Ok(Session {
         fabric,

@@ -32,7 +32,7 @@ use Rattle.fabric_core.specs.declared.fault.Refusal.{Refusal}
 use Rattle.fabric_core.specs.declared.fault.Refusal.TheVariants as refusals
 use Rattle.fabric_core.specs.Answers.{map_ok, some_or, transmit_on, deliver_on, deliver_dllp_on, timer_on, retrained_on, send_dllp_on, submit_on, forward_on, serve_on, collect_on, part_at, with_part, with_lane, with_requester, lane_to, port_from, or_no_port, link_on, link_at, forward_to, destination_on, answer}
 use Rattle.fabric_core.specs.Answers as parts
-use Rattle.fabric_answers.specs.New.{new_fabric, config_fault}
+use Rattle.fabric_core.specs.New.{new_fabric, config_fault}
 use Rattle.chart_rows.specs.declared.row.Deed.{Deed}
 use Rattle.chart_rows.specs.declared.row.PacketSent.{PacketSent}
 use Rattle.chart_links.specs.CourseView.{CourseView}

@@ -4,7 +4,7 @@
 ghost use Rattle.std.specs.Prelude.{◌≡◌, ◌<◌, ℕ, List, None, length, take};
 ghost use Rattle.fabric_laws.specs.Fabric.{Fabric};
 ghost use Rattle.fabric_core.specs.declared.config.Config.{Config};
-ghost use Rattle.fabric_answers.specs.New.{new_fabric, config_fault};
+ghost use Rattle.fabric_core.specs.New.{new_fabric, config_fault};
 ghost use Rattle.chart_links.specs.declared.window.ChartWindow.{ChartWindow};
 ghost use Rattle.chart_links.specs.ChartView.{new_chart};
 ghost use Rattle.chart_laws.specs.Arrows.{Tale, NeverMore, beginnings, sendings};

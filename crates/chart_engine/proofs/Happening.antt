@@ -1,5 +1,5 @@
 -- The chart of a script is told what happens to its fabric.
-use Rattle.std.proofs.Common.{◌≡◌, ◌∙◌, ◌+◌, ◌++◌, ℕ, zero, suc, Bool, true, false, List, [], ◌∷◌, refl, sym, ap, subst, inl, inr, fold, cond, length, map, length-append, append_assoc, add-zero, zero-add, arith, Result, Ok, Err}
+use Rattle.std.proofs.Common.{◌≡◌, ◌∙◌, ◌+◌, ◌++◌, ℕ, Bool, true, false, List, [], ◌∷◌, refl, sym, ap, subst, inl, inr, fold, cond, length, map, length-append, append_assoc, add-zero, zero-add, arith, Result, Ok, Err}
 use Rattle.std.proofs.lemmas.List.{append-nil}
 use Rattle.std.specs.Prelude.{nat_lt, Option, Some, None}
 use Rattle.fabric_laws.specs.Fabric.{Fabric}
@@ -8,7 +8,7 @@ use Rattle.fabric_core.specs.declared.config.ConfigFault.{ConfigFault}
 use Rattle.fabric_events.specs.Events.{Event, Seen}
 use Rattle.fabric_core.specs.declared.fault.Refusal.{Refusal}
 use Rattle.fabric_core.specs.Answers.{answer}
-use Rattle.fabric_answers.specs.New.{new_fabric, config_fault}
+use Rattle.fabric_core.specs.New.{new_fabric, config_fault}
 use Rattle.fabric_settle.specs.Happenings.{Happening, Answers, Leads}
 use Rattle.fabric_settle.specs.Rounds.{settlement}
 use Rattle.script_text.specs.declared.line.Line.{Line}

@@ -9,7 +9,7 @@ use Rattle.fabric_events.specs.Events.{Event}
 use Rattle.fabric_core.specs.declared.fault.Refusal.{Refusal}
 use Rattle.fabric_core.specs.Config.{fault_name}
 use Rattle.fabric_core.specs.Answers.{answer}
-use Rattle.fabric_answers.specs.New.{new_fabric, config_fault}
+use Rattle.fabric_core.specs.New.{new_fabric, config_fault}
 use Rattle.script_text.specs.Names.{refusal_text}
 use Rattle.line_loop.specs.declared.verdict.Verdict.{Verdict}
 use Rattle.line_loop.specs.declared.verdict.Verdict.TheVariants as verdicts

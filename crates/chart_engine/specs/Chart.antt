@@ -10,7 +10,7 @@ use Rattle.fabric_events.specs.Events.{Event, Seen}
 use Rattle.fabric_core.specs.declared.fault.Refusal.{Refusal}
 use Rattle.fabric_core.specs.Config.{fault_name}
 use Rattle.fabric_core.specs.Answers.{answer}
-use Rattle.fabric_answers.specs.New.{new_fabric, config_fault}
+use Rattle.fabric_core.specs.New.{new_fabric, config_fault}
 use Rattle.fabric_settle.specs.Happenings.{Happening}
 use Rattle.fabric_settle.specs.Rounds.{Settling, settlement}
 use Rattle.text_lines.specs.Lines.{is_skipped}

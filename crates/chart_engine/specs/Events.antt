@@ -6,7 +6,7 @@ use Rattle.fabric_events.specs.Events.{Event, Seen}
 use Rattle.fabric_core.specs.declared.fault.Refusal.{Refusal}
 use Rattle.fabric_laws.specs.Fabric.{Fabric}
 use Rattle.fabric_core.specs.Answers.{answer}
-use Rattle.fabric_answers.specs.New.{new_fabric, config_fault}
+use Rattle.fabric_core.specs.New.{new_fabric, config_fault}
 use Rattle.chart_links.specs.declared.window.ChartWindow.{ChartWindow}
 use Rattle.chart_links.specs.ChartView.{ChartView, new_chart}
 use Rattle.chart_links.specs.Levels.{new_lines}

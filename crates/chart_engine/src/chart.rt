@@ -3,22 +3,22 @@ ghost use Rattle.std.specs.Prelude.{◌≡◌, ◌≤◌, ◌++◌, ◌∷◌, [
 ghost use Rattle.std.specs.Fmt.{decimal};
 ghost use Rattle.arrayvec.specs.ArrayString.{array_string_len};
 ghost use Rattle.fabric_core.specs.Answers.{answer};
-ghost use Rattle.fabric_answers.specs.Told.{IsTold};
+ghost use Rattle.fabric_core.specs.Faults.{IsTold};
 ghost use Rattle.fabric_core.specs.Config.{fault_name};
 ghost use Rattle.script_text.specs.Names.{refusal_text};
 ghost use Rattle.line_loop.specs.Run.{IsAnswer};
 ghost use Rattle.chart_engine.specs.Chart as spec;
 
-use crate::making::{is_no_memory, make};
+use crate::making::is_no_memory;
 use crate::witness::ChartWitness;
 use arrayvec::ArrayString;
 use chart_links::ChartWindow;
 use chart_page::put_title_chart;
-use fabric_core::{Config, ConfigFault, Event, Fabric, Refusal};
+use fabric_core::{Config, ConfigFault, EventRef, Fabric, Refusal};
 use fabric_settle::{happen, settle};
 use line_loop::{Responder, Verdict};
 use operation_text::write_decimal;
-use script_text::{Line, read_line, write_config_fault, write_refusal};
+use script_text::{LineForm, ROOM, read_line_lent, write_config_fault, write_refusal};
 use std::alloc::{AllocError, Global};
 use std::marker::Model;
 use std::mem;
@@ -68,17 +68,17 @@ fn told(kind: &str, line: u64) -> ArrayString<512>
 fn tell_refused(
     witness: &mut ChartWitness,
     line: u64,
-    event: Event,
+    event: &EventRef<'_>,
     refusal: Refusal,
     fabric: &Fabric,
 ) -> Result<(), AllocError>
     ensures told { OnOk result (IsTold refusal) }
-    ensures chart { OnOk result (witness.new ≡ spec.refused_with witness.old line event refusal fabric.now) }
+    ensures chart { OnOk result (witness.new ≡ spec.refused_with witness.old line event.now refusal fabric.now) }
 {
     if refusal.is_memory() {
         return Err(AllocError);
     }
-    witness.refused(line, event, refusal, fabric)
+    witness.refused(line, event.to_owned(), refusal, fabric)
 }
 
 /// An event happens to a fabric or is refused, and its chart is told. Gives why it was refused.
@@ -86,13 +86,13 @@ fn happen_charted(
     fabric: &mut Fabric,
     chart: &mut ChartWitness,
     line: u64,
-    event: Event,
+    event: &EventRef<'_>,
 ) -> Result<Option<Refusal>, AllocError>
-    ensures fabric { OnOk result (fabric.new ≡ (spec.left_by line (spec.session fabric.old chart.old) event (answer fabric.old event)).fabric) }
-    ensures chart { OnOk result (chart.new ≡ (spec.left_by line (spec.session fabric.old chart.old) event (answer fabric.old event)).chart) }
-    ensures refusal { IfOk result (λ r. r ≡ spec.refusal_in (answer fabric.old event)) }
+    ensures fabric { OnOk result (fabric.new ≡ (spec.left_by line (spec.session fabric.old chart.old) event.now (answer fabric.old event.now)).fabric) }
+    ensures chart { OnOk result (chart.new ≡ (spec.left_by line (spec.session fabric.old chart.old) event.now (answer fabric.old event.now)).chart) }
+    ensures refusal { IfOk result (λ r. r ≡ spec.refusal_in (answer fabric.old event.now)) }
 {
-    match happen(fabric, chart, line, &event.lend()) {
+    match happen(fabric, chart, line, event) {
         Ok(()) => Ok(None),
         Err(refusal) => {
             tell_refused(chart, line, event, refusal, fabric)?;
@@ -190,7 +190,7 @@ impl Charter {
         if self.session.is_some() {
             return Ok(self.no_line());
         }
-        match make(config, self.alloc) {
+        match Fabric::new(config, self.alloc) {
             Ok(fabric) => {
                 let chart = ChartWitness::new(self.alloc, self.window, config.requesters)?;
                 self.session = Some(Session { fabric, chart });
@@ -205,8 +205,8 @@ impl Charter {
     }
 
     /// An event happens, or is refused.
-    fn happen(&mut self, event: Event) -> Result<Verdict, AllocError>
-        ensures { IfOk result (λ verdict. (o : _) → IsAnswer self.new o o verdict (spec.happened self.old self.old.session event)) }
+    fn happen(&mut self, event: &EventRef<'_>) -> Result<Verdict, AllocError>
+        ensures { IfOk result (λ verdict. (o : _) → IsAnswer self.new o o verdict (spec.happened self.old self.old.session event.now)) }
     {
         let line = self.next_line();
         let Some(session) = &mut self.session else {
@@ -282,11 +282,12 @@ impl Responder for Charter {
             self.count();
             return Ok(Verdict::Fine);
         }
-        match read_line(line) {
+        let mut room = ROOM;
+        match read_line_lent(line, &mut room) {
             Err(_) => Ok(self.no_line()),
-            Ok(Line::Fabric(config)) => self.make(config),
-            Ok(Line::Event(event)) => self.happen(event),
-            Ok(Line::Settle) => self.settle(),
+            Ok(LineForm::Fabric(config)) => self.make(config),
+            Ok(LineForm::Event(event)) => self.happen(&event),
+            Ok(LineForm::Settle) => self.settle(),
         }
     }
 

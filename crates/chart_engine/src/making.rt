@@ -1,20 +1,8 @@
-//! A new fabric.
-ghost use Rattle.std.specs.Prelude.{◌≡◌, None, Some, IfOk, IfErr, OnOk, OnErr};
-ghost use Rattle.fabric_answers.specs.New.{new_fabric, config_fault};
+//! Why no fabric was made.
+ghost use Rattle.std.specs.Prelude.{◌≡◌, OnOk, OnErr};
 
-use fabric_answers::laws::a_configuration_has_one_answer;
-use fabric_core::{Config, ConfigFault, Fabric};
-use std::alloc::{AllocError, Global};
-
-/// A new fabric.
-pub(crate) fn make(config: Config, alloc: Global) -> Result<Fabric, ConfigFault>
-    ensures ok { IfOk result (λ f. f ≡ new_fabric config) }
-    ensures faultless { IfOk result (λ f. config_fault config ≡ None) }
-    ensures fault { IfErr result (λ fault. (fault ≡ ConfigFault.Memory → ⊥) → config_fault config ≡ Some fault) }
-{
-    a_configuration_has_one_answer();
-    Fabric::new(config, alloc)
-}
+use fabric_core::ConfigFault;
+use std::alloc::AllocError;
 
 /// Out of memory is none of a configuration's faults.
 pub(crate) fn is_no_memory(fault: ConfigFault) -> Result<(), AllocError>

@@ -1,21 +1,19 @@
-use Rattle.std.proofs.Common.{◌≡◌, ◌∙◌, sym, ap, subst, Result, Err}
+use Rattle.std.proofs.Common.{◌∙◌, sym, ap, Result}
 use Rattle.fabric_laws.specs.Fabric.{Fabric}
-use Rattle.fabric_events.specs.Events.{Event, Seen}
+use Rattle.fabric_events.specs.Events.{Seen}
 use Rattle.fabric_core.specs.declared.fault.Refusal.{Refusal}
-use Rattle.fabric_core.specs.Answers.{answer}
-use Rattle.fabric_settle.specs.Keeping.{Witnessed}
 use Rattle.chart_engine.specs.ChartWitnessView.{ChartWitnessView}
-use Rattle.chart_engine.specs.Chart.{session, left_by, refusal_in, refused_with, charted_of}
+use Rattle.chart_engine.specs.Chart.{session, left_by, refusal_in, refused_with}
 use Rattle.chart_engine.proofs.chart.happen_charted.Goals as goal
 
 pub returns-in-Ok : goal.returns-in-Ok
 returns-in-Ok c =
     let p = session c.args.fabric.now c.args.chart.now in
-    let w = subst (λ (event : Event). Witnessed (charted_of c.args.line) c.args.fabric.now c.args.chart.now event c.happen.new.fabric c.happen.new.witness) c.lend.ensures c.in-Ok.ensures.ok in
+    let w = c.in-Ok.ensures.ok in
     let is = w.happens.0 in
     record {
-      fabric = sym (ap (λ (a : Result (Seen × Fabric) Refusal). (left_by c.args.line p c.args.event a).fabric) is);
-      chart = w.now ∙ sym (ap (λ (a : Result (Seen × Fabric) Refusal). (left_by c.args.line p c.args.event a).chart) is);
+      fabric = sym (ap (λ (a : Result (Seen × Fabric) Refusal). (left_by c.args.line p c.args.event.now a).fabric) is);
+      chart = w.now ∙ sym (ap (λ (a : Result (Seen × Fabric) Refusal). (left_by c.args.line p c.args.event.now a).chart) is);
       refusal = sym (ap (λ (a : Result (Seen × Fabric) Refusal). refusal_in a) is);
     }
 
@@ -23,12 +21,12 @@ pub returns-in_ok-tell_refused-in-Err : goal.returns-in_ok-tell_refused-in-Err
 returns-in_ok-tell_refused-in-Err c =
     let p = session c.args.fabric.now c.args.chart.now in
     let told = c.in-Err.ensures.told c.in_ok-tell_refused-in-Err.ensures.told in
-    let is = subst (λ (event : Event). answer c.args.fabric.now event ≡ Err c.in-Err.refusal) c.lend.ensures told.0 in
+    let is = told.0 in
     record {
-      fabric = told.1 ∙ sym (ap (λ (a : Result (Seen × Fabric) Refusal). (left_by c.args.line p c.args.event a).fabric) is);
+      fabric = told.1 ∙ sym (ap (λ (a : Result (Seen × Fabric) Refusal). (left_by c.args.line p c.args.event.now a).fabric) is);
       chart = c.in_ok-tell_refused-in-Err.ensures.chart
-          ∙ ap (λ (v : ChartWitnessView). refused_with v c.args.line c.args.event c.in-Err.refusal c.happen.new.fabric) told.2
-          ∙ ap (λ (f : Fabric). refused_with c.args.chart.now c.args.line c.args.event c.in-Err.refusal f) told.1
-          ∙ sym (ap (λ (a : Result (Seen × Fabric) Refusal). (left_by c.args.line p c.args.event a).chart) is);
+          ∙ ap (λ (v : ChartWitnessView). refused_with v c.args.line c.args.event.now c.in-Err.refusal c.happen.new.fabric) told.2
+          ∙ ap (λ (f : Fabric). refused_with c.args.chart.now c.args.line c.args.event.now c.in-Err.refusal f) told.1
+          ∙ sym (ap (λ (a : Result (Seen × Fabric) Refusal). (left_by c.args.line p c.args.event.now a).chart) is);
       refusal = sym (ap (λ (a : Result (Seen × Fabric) Refusal). refusal_in a) is);
     }
