@@ -4,16 +4,16 @@
 ghost use Rattle.std.specs.Prelude.{◌≡◌, true, false, ℕ, List, codes};
 ghost use Rattle.fabric_laws.specs.Fabric.{Fabric};
 ghost use Rattle.fabric_core.specs.declared.config.Config.{Config};
-ghost use Rattle.trace_engine.specs.Check.{out_check};
-ghost use Rattle.trace_text.specs.Tellable.{IsTellable};
+ghost use Rattle.trace_engine.specs.Check.{out_check, out_check_clocked};
 ghost use Rattle.trace_text.specs.Texts.{trace_text};
 ghost use Rattle.step_engine.specs.Script.{IsScript};
 ghost use Rattle.step_engine.specs.Step.{claim_with, out_step};
 ghost use Rattle.generate_engine.specs.Script.{IsScriptOf};
 
-use fabric_answers::laws::a_configuration_has_one_answer;
+use fabric_core::laws::a_configuration_has_one_answer;
 use script_text::laws::{own_line_spells_event, own_line_spells_fabric};
-use step_engine::laws::{a_traced_script_is_explained, a_traced_script_is_ok};
+use step_engine::laws::a_traced_script_is_explained;
+use step_laws::what_is_traced_is_ok;
 
 /// What `generate` writes is read as the fabric and the events that happened.
 pub fn a_generated_script_is_read()
@@ -24,17 +24,20 @@ pub fn a_generated_script_is_read()
 }
 
 /// `step` refuses no line of what `generate` writes: with no option it ends with status 0. With `--trace` it does too,
-/// and writes the trace of all its events, with the history that they left. And `check` says `ok` to that trace, if
-/// lines can tell it.
+/// and writes the trace of all its events, with the history that they left. And `check` says `ok` to that trace, and so
+/// does `check --clocked`.
 pub fn nothing_generated_is_refused()
     ensures plain { (c : Config) (count : ℕ) (text : List ℕ) (f : Fabric) (s : IsScriptOf c count text f) → (out_step false text).status ≡ 0 }
-    ensures text { (c : Config) (count : ℕ) (text : List ℕ) (f : Fabric) (s : IsScriptOf c count text f) → (out_step true text).text ≡ trace_text (claim_with f s.happened.records) }
+    ensures text { (c : Config) (count : ℕ) (text : List ℕ) (f : Fabric) (s : IsScriptOf c count text f) →
+        (out_step true text).text ≡ trace_text (claim_with f s.happened.records) }
     ensures status { (c : Config) (count : ℕ) (text : List ℕ) (f : Fabric) (s : IsScriptOf c count text f) → (out_step true text).status ≡ 0 }
-    ensures ok { (c : Config) (count : ℕ) (text : List ℕ) (f : Fabric) (s : IsScriptOf c count text f) →
-        IsTellable (claim_with f s.happened.records) → (out_check (out_step true text).text).text ≡ codes "ok\n" }
+    ensures ok { (c : Config) (count : ℕ) (text : List ℕ) (f : Fabric) → IsScriptOf c count text f →
+        (out_check (out_step true text).text).text ≡ codes "ok\n" }
+    ensures clocked { (c : Config) (count : ℕ) (text : List ℕ) (f : Fabric) → IsScriptOf c count text f →
+        (out_check_clocked (out_step true text).text).text ≡ codes "ok\n" }
 {
     a_configuration_has_one_answer();
     a_generated_script_is_read();
     a_traced_script_is_explained();
-    a_traced_script_is_ok();
+    what_is_traced_is_ok();
 }

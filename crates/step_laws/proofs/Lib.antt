@@ -1,0 +1,10 @@
+mod Spelled
+mod Replies
+mod Requests
+mod Load
+mod Made
+mod Requesters
+mod Told
+mod Lines
+mod Kept
+mod Through
