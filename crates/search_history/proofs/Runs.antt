@@ -46,7 +46,7 @@ is_run t count log xs all extent run formed =
 pub outcome_of : (t : TraceView) (count : ℕ) (log : LogView) (o : Outcome) → AreAllEvents (take count t.records) log.events → log.extent ≡ observed t → IsRight log o → IsWellFormed (take count t.records) → IsOutcomeOf (prefix count t) o
 outcome_of t count log (outcomes.Run xs) all extent right formed = is_run t count log xs.items all extent right formed
 outcome_of t count log outcomes.Dead all extent right formed = tt
-outcome_of t count log outcomes.Limit all extent right formed = tt
+outcome_of t count log (outcomes.Limit bound) all extent right formed = tt
 
 pub whole : (t : TraceView) (v : Verdict) → IsVerdictOf (prefix (length t.records) t) v → IsVerdictOf t v
 whole t v x = subst (λ (rs : List Record). IsVerdictOf (record { base = t.base; size = t.size; block = t.block; records = rs }) v) (take-length t.records) x
@@ -80,12 +80,12 @@ explainable law t xs run = law t run.events run.formed run.all (live (of (observ
 abbrev pub runs : Outcome → Bool
 runs (outcomes.Run xs) = true
 runs outcomes.Dead = false
-runs outcomes.Limit = false
+runs (outcomes.Limit bound) = false
 
 pub explainable_if : RunsAreHistories → (t : TraceView) (o : Outcome) → IsOutcomeOf t o → runs o ≡ true → IsExplainable t
 explainable_if law t (outcomes.Run xs) x e = explainable law t xs.items x
 explainable_if law t outcomes.Dead x e = cc
-explainable_if law t outcomes.Limit x e = cc
+explainable_if law t (outcomes.Limit bound) x e = cc
 
 pub other_default : {X : Type 0} → (xs : List X) (i : ℕ) (x y : X) → i < length xs → get_or xs i x ≡ get_or xs i y
 other_default [] i x y l = absurd (omega arith)

@@ -23,7 +23,7 @@ pub record IsRunOf (t : TraceView) (xs : List Step) : Type 0 where
 abbrev pub IsOutcomeOf : TraceView → Outcome → Type 0
 IsOutcomeOf t (outcomes.Run xs) = IsRunOf t xs.items
 IsOutcomeOf t outcomes.Dead = Unit {0}
-IsOutcomeOf t outcomes.Limit = Unit {0}
+IsOutcomeOf t (outcomes.Limit bound) = Unit {0}
 
 abbrev pub IsVerdictOf : TraceView → Verdict → Type 0
 IsVerdictOf t (verdicts.Run xs) = IsRunOf t xs.items

@@ -2,12 +2,13 @@
 ghost use Rattle.std.specs.Prelude.{◌≡◌, ◌≤◌, IfOk, IsSome};
 ghost use Rattle.log_runs.specs.Runs.{Dead, start};
 ghost use Rattle.log_cells.specs.Places.{ArePlaces};
+ghost use Rattle.search_run.specs.Watched.{Saw, Spends};
 
-use crate::within::Within;
+use crate::within::{Within, explore_within};
 use log_cells::{Cells, part};
 use log_runs::{Log, Step};
 use search_choices::{NO_PART, Turn};
-use search_run::{Bounds, Exploration, Outcome, Watch, Way, explore_watched};
+use search_run::{Bound, Bounds, Exploration, Outcome, Watch};
 use std::alloc::{AllocError, Global};
 
 /// A log, and the cells that it may be cut by.
@@ -38,11 +39,12 @@ pub(crate) fn explored_on<W: Watch>(
     requires places { ArePlaces field.log.now.events field.cells.now.places }
     ensures dead { IfOk result (λ r. r.found.outcome ≡ Outcome.Dead → Dead field.entry.log.now (start field.entry.log.now)) }
     ensures states { IfOk result (λ r. r.found.states ≤ bounds.choices) }
+    ensures saw { IfOk result (λ r. Saw W.sees r.found.states watch.old watch.new) }
 {
     let Field { log, cells } = field;
     let Some(part) = part(alloc, log, cells, range.0, range.1)? else {
         let found = Exploration {
-            outcome: Outcome::Limit,
+            outcome: Outcome::Limit(Bound::Choices),
             states: 0,
             reach: 0,
             work: bounds.work,
@@ -57,7 +59,7 @@ pub(crate) fn explored_on<W: Watch>(
         names: &part.names,
         range: Some(range),
     };
-    let mut found = explore_watched(alloc, &part.log, Way::Part, bounds, &mut within)?;
+    let mut found = explore_within(alloc, &part.log, bounds, &mut within)?;
     found.reach = part.names.get(found.reach).copied().unwrap_or(log.len());
     Ok(Explored {
         found,
@@ -200,6 +202,7 @@ fn each_of<W: Watch>(
     requires places { ArePlaces task.field.log.now.events task.field.cells.now.places }
     ensures dead { IfOk result (λ r. IsSome r.dead → Dead task.entry.field.log.now (start task.entry.field.log.now)) }
     ensures states { IfOk result (λ r. r.left.choices ≤ bounds.choices) }
+    ensures saw { IfOk result (λ r. Spends W.sees bounds.choices r.left.choices watch.old watch.new) }
 {
     let Task {
         field,
@@ -226,10 +229,28 @@ fn each_of<W: Watch>(
                 let reach = named(places, found.reach).unwrap_or(usize::MAX);
                 return Ok(so_far(Some(DeadRange { range, reach }), left, work));
             }
-            Outcome::Limit => {}
+            Outcome::Limit(_) => {}
         }
     }
     Ok(so_far(None, left, work))
+}
+
+/// [`each_of`], seen within a part of the log.
+fn each_seen_within<W: Watch>(
+    alloc: Global,
+    task: Task<'_>,
+    turns: &mut Vec<Turn>,
+    bounds: Bounds,
+    within: &mut Within<'_, W>,
+) -> Result<Tried, AllocError>
+    requires places { ArePlaces task.field.log.now.events task.field.cells.now.places }
+    ensures dead { IfOk result (λ r. IsSome r.dead → Dead task.entry.field.log.now (start task.entry.field.log.now)) }
+    ensures states { IfOk result (λ r. r.left.choices ≤ bounds.choices) }
+    ensures same { IfOk result (λ r. within.new.watch.ghost_name ≡ within.old.watch.ghost_name) }
+    ensures saw { IfOk result (λ r. Spends W.sees bounds.choices r.left.choices within.old.watch.now within.new.watch.now) }
+{
+    let tried = each_of(alloc, task, turns, bounds, within)?;
+    Ok(tried)
 }
 
 /// [`each_of`], in the part of the log on all of the ranges.
@@ -243,6 +264,7 @@ fn each_within<W: Watch>(
     requires places { ArePlaces task.field.log.now.events task.field.cells.now.places }
     ensures dead { IfOk result (λ r. IsSome r.dead → Dead task.entry.field.log.now (start task.entry.field.log.now)) }
     ensures states { IfOk result (λ r. r.left.choices ≤ bounds.choices) }
+    ensures saw { IfOk result (λ r. Spends W.sees bounds.choices r.left.choices watch.old watch.new) }
 {
     let Field { log, cells } = task.field;
     let Some((low, high)) = task.ranges.whole() else {
@@ -265,7 +287,7 @@ fn each_within<W: Watch>(
         names: &group.names,
         range: None,
     };
-    each_of(alloc, within, turns, bounds, &mut seen)
+    each_seen_within(alloc, within, turns, bounds, &mut seen)
 }
 
 /// How many ranges a part of a log has at least that is found by way of a part on several.
@@ -290,6 +312,7 @@ fn each_part<W: Watch>(
     requires places { ArePlaces field.log.now.events field.cells.now.places }
     ensures dead { IfOk result (λ r. IsSome r.dead → Dead field.entry.log.now (start field.entry.log.now)) }
     ensures states { IfOk result (λ r. r.left.choices ≤ bounds.choices) }
+    ensures saw { IfOk result (λ r. Spends W.sees bounds.choices r.left.choices watch.old watch.new) }
 {
     let count = field.cells.count();
     if count < MANY {
@@ -322,6 +345,7 @@ pub(crate) fn parts_of<W: Watch>(
 ) -> Result<Parts, AllocError>
     ensures dead { IfOk result (λ r. IsSome r.dead → Dead log.now (start log.now)) }
     ensures states { IfOk result (λ r. r.states ≤ bounds.choices) }
+    ensures saw { IfOk result (λ r. Saw W.sees r.states watch.old watch.new) }
 {
     let cells = Cells::of(alloc, log)?;
     if cells.count() <= 1 {

@@ -1,11 +1,12 @@
 //! Whether a run leads through the first records.
-ghost use Rattle.std.specs.Prelude.{◌≡◌, ◌≤◌, true, IfOk, IfSome, length, take};
+ghost use Rattle.std.specs.Prelude.{◌≡◌, ◌<◌, ◌≤◌, true, IfOk, IfSome, length, take};
 ghost use Rattle.log_events.specs.Joined.{ArePartners};
 ghost use Rattle.log_runs.specs.Runs.{Dead, start};
 ghost use Rattle.log_runs.specs.Explainable.{IsExplainable, prefix};
 ghost use Rattle.log_runs.specs.Tasks.{IsWellFormed};
 ghost use Rattle.search_history.specs.Runs.{IsOutcomeOf};
 ghost use Rattle.search_run.specs.Outcomes.{IsRight};
+ghost use Rattle.search_run.specs.Watched.{Saw};
 
 use crate::alone::{Field, explored_on, parts_of};
 use history_check::Trace;
@@ -15,8 +16,9 @@ use log_runs::laws::{
     a_run_is_a_history, explainable_has_a_run, explainable_is_well_formed, prefix_is_explainable,
 };
 use log_runs::{Log, Step};
+use search_counts::first_overdrawn;
 use search_rules::first_unanswerable;
-use search_run::{Bounds, Outcome, Unwatched, Watch, Way, explore_watched};
+use search_run::{Bound, Bounds, Outcome, Unwatched, Watch, Way, explore_watched};
 use std::alloc::{AllocError, Global};
 
 /// The first `count` records of a trace.
@@ -73,6 +75,17 @@ fn dead(states: u64, range: Option<(u64, u64)>, reach: usize) -> Judgment
     }
 }
 
+/// How much work there is for the whole log, if so much of the half for its parts is left.
+fn work_for_all(all: u64, half: u64, left: u64) -> u64
+    requires { half ≤ all }
+    ensures { all ≡ 18446744073709551615 → result ≡ all }
+{
+    if all == u64::MAX {
+        return all;
+    }
+    (all - half).saturating_add(left)
+}
+
 /// Looks for a run through the log, first through its part on each cell of the memory, with a tenth of
 /// the choices and half of the work. The runs through its parts are a guide to the whole.
 fn explored_parts<W: Watch>(
@@ -83,7 +96,9 @@ fn explored_parts<W: Watch>(
 ) -> Result<Judgment, AllocError>
     ensures right { IfOk result (λ r. IsRight log.now r.outcome) }
     ensures states { IfOk result (λ r. r.states ≤ bounds.choices) }
-    ensures limit { IfOk result (λ r. r.outcome ≡ Outcome.Limit → r.states ≡ bounds.choices) }
+    ensures limit { IfOk result (λ r. r.outcome ≡ Outcome.Limit Bound.Choices → r.states ≡ bounds.choices) }
+    ensures work { IfOk result (λ r. r.outcome ≡ Outcome.Limit Bound.Work → bounds.work < 18446744073709551615) }
+    ensures saw { IfOk result (λ r. Saw W.sees r.states watch.old watch.new) }
 {
     let few = Bounds {
         choices: bounds.choices / 10,
@@ -95,7 +110,7 @@ fn explored_parts<W: Watch>(
     }
     let rest = Bounds {
         choices: bounds.choices - parts.states,
-        work: (bounds.work - few.work).saturating_add(parts.work),
+        work: work_for_all(bounds.work, few.work, parts.work),
     };
     let found = explore_watched(alloc, log, Way::Whole(&parts.turns), rest, watch)?;
     let clue = Clue {
@@ -109,7 +124,18 @@ fn explored_parts<W: Watch>(
     })
 }
 
-/// Looks for a run through the log, within the bounds. An answer that no memory gives ends it at once.
+/// The place of an answer by which it is seen at once that there is no run: no memory gives it, or up to it something was
+/// taken more often than put.
+fn refuted_at(alloc: Global, log: &Log<'_>) -> Result<Option<usize>, AllocError>
+    ensures { IfOk result (λ found. IfSome found (λ at. Dead log.now (start log.now))) }
+{
+    if let Some(at) = first_unanswerable(log) {
+        return Ok(Some(at));
+    }
+    first_overdrawn(alloc, log)
+}
+
+/// Looks for a run through the log, within the bounds. An answer by which it is seen that there is none ends it at once.
 fn explored<W: Watch>(
     alloc: Global,
     log: &Log<'_>,
@@ -118,9 +144,11 @@ fn explored<W: Watch>(
 ) -> Result<Judgment, AllocError>
     ensures right { IfOk result (λ r. IsRight log.now r.outcome) }
     ensures states { IfOk result (λ r. r.states ≤ bounds.choices) }
-    ensures limit { IfOk result (λ r. r.outcome ≡ Outcome.Limit → r.states ≡ bounds.choices) }
+    ensures limit { IfOk result (λ r. r.outcome ≡ Outcome.Limit Bound.Choices → r.states ≡ bounds.choices) }
+    ensures work { IfOk result (λ r. r.outcome ≡ Outcome.Limit Bound.Work → bounds.work < 18446744073709551615) }
+    ensures saw { IfOk result (λ r. Saw W.sees r.states watch.old watch.new) }
 {
-    match first_unanswerable(log) {
+    match refuted_at(alloc, log)? {
         Some(at) => Ok(dead(0, None, at)),
         None => explored_parts(alloc, log, bounds, watch),
     }
@@ -137,7 +165,9 @@ pub(crate) fn judged<W: Watch>(
     ensures run { IfOk result (λ r. ArePartners records.entry.partners.now (take records.entry.count records.entry.trace.now.records) → IsWellFormed (take records.entry.count records.entry.trace.now.records) → IsOutcomeOf (prefix records.entry.count records.entry.trace.now) r.outcome) }
     ensures none { IfOk result (λ r. r.outcome ≡ Outcome.Dead → IsExplainable (prefix records.entry.count records.entry.trace.now) → ⊥) }
     ensures states { IfOk result (λ r. r.states ≤ bounds.choices) }
-    ensures limit { IfOk result (λ r. r.outcome ≡ Outcome.Limit → r.states ≡ bounds.choices) }
+    ensures limit { IfOk result (λ r. r.outcome ≡ Outcome.Limit Bound.Choices → r.states ≡ bounds.choices) }
+    ensures work { IfOk result (λ r. r.outcome ≡ Outcome.Limit Bound.Work → bounds.work < 18446744073709551615) }
+    ensures saw { IfOk result (λ r. Saw W.sees r.states watch.old watch.new) }
 {
     explainable_has_a_run();
     let log = log_of(alloc, records.trace, records.partners, records.count)?;

@@ -1,5 +1,5 @@
 //! Whether a history explains a log.
-ghost use Rattle.std.specs.Prelude.{ℕ, ◌≡◌, ◌<◌, ◌≤◌, ◌+◌, IfOk, length, take};
+ghost use Rattle.std.specs.Prelude.{ℕ, ◌≡◌, ◌⊎◌, ◌<◌, ◌≤◌, ◌+◌, IfOk, length, take};
 ghost use Rattle.log_events.specs.Formed.{MisformedAt};
 ghost use Rattle.log_events.specs.Joined.{ArePartners};
 ghost use Rattle.log_runs.specs.Explainable.{SeenAlike, prefix};
@@ -7,6 +7,7 @@ ghost use Rattle.log_runs.specs.Tasks.{IsWellFormed};
 ghost use Rattle.search_history.specs.Prefixes.{IsUnexplained};
 ghost use Rattle.search_history.specs.Answers.{IsFound, IsNone};
 ghost use Rattle.search_history.specs.Runs.{IsAnswered, IsVerdictOf};
+ghost use Rattle.search_run.specs.Watched.{Saw};
 
 use crate::judging::{Judgment, Records, judged};
 use crate::moments::history_by;
@@ -63,8 +64,9 @@ fn well_formed<W: Watch>(
     requires { records.count ≤ length records.trace.now.records }
     ensures run { IfOk result (λ r. ArePartners records.entry.partners.now (take records.entry.count records.entry.trace.now.records) → IsWellFormed (take records.entry.count records.entry.trace.now.records) → IsVerdictOf (prefix records.entry.count records.entry.trace.now) r.0) }
     ensures none { IfOk result (λ r. (prefix : ℕ) → r.0 ≡ Verdict.None prefix → IsUnexplained records.entry.trace.now prefix) }
-    ensures limit { IfOk result (λ r. r.0 ≡ Verdict.Limit → r.1 ≡ bounds.choices) }
+    ensures limit { IfOk result (λ r. r.0 ≡ Verdict.Limit → (r.1 ≡ bounds.choices) ⊎ (bounds.work < 18446744073709551615)) }
     ensures states { IfOk result (λ r. r.1 ≤ bounds.choices) }
+    ensures saw { IfOk result (λ r. Saw W.sees r.1 watch.old watch.new) }
 {
     let Judgment {
         outcome,
@@ -78,7 +80,7 @@ fn well_formed<W: Watch>(
             let prefix = shortened(alloc, records, clue, bounds.choices)?;
             Ok((Verdict::None(prefix), states))
         }
-        Outcome::Limit => Ok((Verdict::Limit, states)),
+        Outcome::Limit(_) => Ok((Verdict::Limit, states)),
     }
 }
 
@@ -93,6 +95,7 @@ fn misformed<W: Watch>(
     requires { MisformedAt records.trace.now.records records.count }
     ensures none { IfOk result (λ r. IsUnexplained records.entry.trace.now r.0) }
     ensures states { IfOk result (λ r. r.1 ≤ bounds.choices) }
+    ensures saw { IfOk result (λ r. Saw W.sees r.1 watch.old watch.new) }
 {
     explainable_is_well_formed();
     let (before, states) = well_formed(alloc, records, bounds, watch)?;
@@ -111,8 +114,9 @@ fn searched<W: Watch>(
 ) -> Result<(Verdict, u64), AllocError>
     ensures run { IfOk result (λ r. IsVerdictOf trace.now r.0) }
     ensures none { IfOk result (λ r. (prefix : ℕ) → r.0 ≡ Verdict.None prefix → IsUnexplained trace.now prefix) }
-    ensures limit { IfOk result (λ r. r.0 ≡ Verdict.Limit → r.1 ≡ bounds.choices) }
+    ensures limit { IfOk result (λ r. r.0 ≡ Verdict.Limit → (r.1 ≡ bounds.choices) ⊎ (bounds.work < 18446744073709551615)) }
     ensures states { IfOk result (λ r. r.1 ≤ bounds.choices) }
+    ensures saw { IfOk result (λ r. Saw W.sees r.1 watch.old watch.new) }
 {
     let form = form_of(alloc, &trace.records)?;
     let records = Records {
@@ -151,8 +155,8 @@ fn answered(alloc: Global, trace: &mut Trace, verdict: Verdict) -> Result<Sought
 
 /// Looks for a history that explains the log: what the trace's requesters submitted and were
 /// answered, in the order of its records, whatever its n's are. Keeps within the bounds: `watch` sees each choice, and
-/// the second number is how many there were. Where the work ends it, that is as many as the bounds allow. The searches for a
-/// shorter prefix have bounds of their own and aren't counted or seen.
+/// the second number is how many it saw: as many as the bounds allow, where it isn't found out, unless the work ended
+/// first. The searches for a shorter prefix have bounds of their own and aren't counted or seen.
 ///
 /// Only n's of the trace change. Fails where memory can't be allocated; nothing is known then.
 pub fn search_watched<W: Watch>(
@@ -164,8 +168,9 @@ pub fn search_watched<W: Watch>(
     ensures alike { SeenAlike trace.old trace.new }
     ensures found { IfOk result (λ r. IsFound trace.new r.0) }
     ensures none { IfOk result (λ r. IsNone trace.old r.0) }
-    ensures limit { IfOk result (λ r. r.0 ≡ Sought.Limit → r.1 ≡ bounds.choices) }
+    ensures limit { IfOk result (λ r. r.0 ≡ Sought.Limit → (r.1 ≡ bounds.choices) ⊎ (bounds.work < 18446744073709551615)) }
     ensures states { IfOk result (λ r. r.1 ≤ bounds.choices) }
+    ensures saw { IfOk result (λ r. Saw W.sees r.1 watch.old watch.new) }
 {
     prefix_is_explainable();
     let (verdict, states) = searched(alloc, trace, bounds, watch)?;

@@ -82,7 +82,7 @@ fn halved(
             Outcome::Dead if turn == 0 && middle > LONG => return Ok(middle),
             Outcome::Dead => high = middle,
             Outcome::Run(_) => low = middle,
-            Outcome::Limit => return Ok(high),
+            Outcome::Limit(_) => return Ok(high),
         }
     }
     Ok(high)

@@ -4,3 +4,4 @@ pub mod Marks
 pub mod Stacked
 pub mod Frames
 pub mod Outcomes
+pub mod Watched

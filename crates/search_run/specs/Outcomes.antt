@@ -16,4 +16,4 @@ pub record IsRun (log : LogView) (xs : List Step) : Type 0 where
 abbrev pub IsRight : LogView → Outcome → Type 0
 IsRight log (outcomes.Run xs) = IsRun log xs.items
 IsRight log outcomes.Dead = Dead log (start log)
-IsRight log outcomes.Limit = Unit {0}
+IsRight log (outcomes.Limit bound) = Unit {0}

@@ -1,14 +1,24 @@
 //! Whether a run leads through a log to its end.
-ghost use Rattle.std.specs.Prelude.{◌≡◌, ◌≤◌, IfOk, OnOk, IfSome, IfNone, length};
+ghost use Rattle.std.specs.Prelude.{◌≡◌, ◌<◌, ◌≤◌, IfOk, OnOk, IfSome, IfNone, length};
 ghost use Rattle.search_forced.specs.Catalogs.{IsCatalog};
 ghost use Rattle.search_run.specs.Frames.{IsAt};
 ghost use Rattle.search_run.specs.Outcomes.{IsRun, IsRight};
+ghost use Rattle.search_run.specs.Watched.{Saw};
 
 use crate::walk::{Walk, advance, begin, settle};
 use crate::watching::{Spot, Unwatched, Watch};
 use log_runs::{Log, Step};
 use search_forced::{Catalog, Way, catalog_of};
 use std::alloc::{AllocError, Global};
+
+/// Which bound ended a search.
+#[derive(Clone, Copy, Debug, PartialEq, Eq)]
+pub enum Bound {
+    /// It looked at as many choices as it may.
+    Choices,
+    /// It did as much work as it may.
+    Work,
+}
 
 /// What a search for a run says.
 #[derive(Debug, Drop)]
@@ -17,8 +27,8 @@ pub enum Outcome {
     Run(Vec<Step>),
     /// No steps do.
     Dead,
-    /// It wasn't found out.
-    Limit,
+    /// It wasn't found out within this bound.
+    Limit(Bound),
 }
 
 /// What a search found out.
@@ -38,7 +48,7 @@ pub struct Exploration {
 pub struct Bounds {
     /// How many choices it looks at.
     pub choices: u64,
-    /// How much work it does: about as many steps, or requests that are looked at for one.
+    /// How much work it does: about as many steps, or requests that are looked at for one. `u64::MAX` is as much as it takes.
     pub work: u64,
 }
 
@@ -76,10 +86,12 @@ fn explored(outcome: Outcome, states: u64, walk: &Walk) -> Exploration
     }
 }
 
-/// How many choices may be looked at, and who sees each.
-struct Tries<'w, W> {
-    limit: u64,
-    watch: &'w mut W,
+/// Where a run is looked for, and within which bounds.
+#[derive(Clone, Copy)]
+struct Course<'a> {
+    log: &'a Log<'a>,
+    catalog: &'a Catalog<'a>,
+    bounds: Bounds,
 }
 
 /// How far the search is.
@@ -92,27 +104,33 @@ fn spot_of(walk: &Walk) -> Spot {
     }
 }
 
-/// Goes on from the start of the log, at no more than the limit of choices.
+/// Goes on from the start of the log, within the bounds.
 fn choose<W: Watch>(
     walk: &mut Walk,
     alloc: Global,
-    log: &Log,
-    catalog: &Catalog,
-    tries: Tries<'_, W>,
+    course: Course<'_>,
+    watch: &mut W,
 ) -> Result<Exploration, AllocError>
-    requires at { IsAt log.now walk.old }
-    requires catalog { IsCatalog log.now catalog.now }
-    ensures right { IfOk result (λ r. IsRight log.now r.outcome) }
-    ensures states { IfOk result (λ r. r.states ≤ tries.entry.limit) }
-    ensures limit { IfOk result (λ r. r.outcome ≡ Outcome.Limit → r.states ≡ tries.entry.limit) }
+    requires at { IsAt course.log.now walk.old }
+    requires catalog { IsCatalog course.log.now course.catalog.now }
+    ensures right { IfOk result (λ r. IsRight course.entry.log.now r.outcome) }
+    ensures states { IfOk result (λ r. r.states ≤ course.entry.bounds.choices) }
+    ensures limit { IfOk result (λ r. r.outcome ≡ Outcome.Limit Bound.Choices → r.states ≡ course.entry.bounds.choices) }
+    ensures work { IfOk result (λ r. r.outcome ≡ Outcome.Limit Bound.Work → course.entry.bounds.work < 18446744073709551615) }
+    ensures saw { IfOk result (λ r. Saw W.sees r.states watch.old watch.new) }
 {
-    let Tries { limit, watch } = tries;
+    let Course {
+        log,
+        catalog,
+        bounds,
+    } = course;
+    let limit = bounds.choices;
     for states in 0..limit {
         if let Some(steps) = finished(walk, alloc, log, catalog)? {
             return Ok(explored(Outcome::Run(steps), states, walk));
         }
-        if walk.work == 0 {
-            return Ok(explored(Outcome::Limit, limit, walk));
+        if walk.work == 0 && bounds.work < u64::MAX {
+            return Ok(explored(Outcome::Limit(Bound::Work), states, walk));
         }
         watch.choice(spot_of(walk));
         if !advance(walk, alloc, log, catalog)? {
@@ -121,12 +139,11 @@ fn choose<W: Watch>(
     }
     match finished(walk, alloc, log, catalog)? {
         Some(steps) => Ok(explored(Outcome::Run(steps), limit, walk)),
-        None => Ok(explored(Outcome::Limit, limit, walk)),
+        None => Ok(explored(Outcome::Limit(Bound::Choices), limit, walk)),
     }
 }
 
-/// Looks for steps that lead from the start of the log to its end, within the bounds. Where the work ends
-/// it, as many choices are said to have been looked at as the bounds allow. `watch` sees each choice that is
+/// Looks for steps that lead from the start of the log to its end, within the bounds. `watch` sees each choice that is
 /// looked at.
 pub fn explore_watched<W: Watch>(
     alloc: Global,
@@ -137,7 +154,9 @@ pub fn explore_watched<W: Watch>(
 ) -> Result<Exploration, AllocError>
     ensures right { IfOk result (λ r. IsRight log.now r.outcome) }
     ensures states { IfOk result (λ r. r.states ≤ bounds.choices) }
-    ensures limit { IfOk result (λ r. r.outcome ≡ Outcome.Limit → r.states ≡ bounds.choices) }
+    ensures limit { IfOk result (λ r. r.outcome ≡ Outcome.Limit Bound.Choices → r.states ≡ bounds.choices) }
+    ensures work { IfOk result (λ r. r.outcome ≡ Outcome.Limit Bound.Work → bounds.work < 18446744073709551615) }
+    ensures saw { IfOk result (λ r. Saw W.sees r.states watch.old watch.new) }
 {
     let mut catalog = catalog_of(alloc, log, way)?;
     let mut walk = begin(alloc, log, bounds.work)?;
@@ -145,11 +164,12 @@ pub fn explore_watched<W: Watch>(
         return Ok(explored(Outcome::Run(steps), 0, &walk));
     }
     catalog.note_calm(log);
-    let tries = Tries {
-        limit: bounds.choices,
-        watch,
+    let course = Course {
+        log,
+        catalog: &catalog,
+        bounds,
     };
-    choose(&mut walk, alloc, log, &catalog, tries)
+    choose(&mut walk, alloc, course, watch)
 }
 
 /// [`explore_watched`], which nobody sees.
@@ -161,7 +181,8 @@ pub fn explore(
 ) -> Result<Exploration, AllocError>
     ensures right { IfOk result (λ r. IsRight log.now r.outcome) }
     ensures states { IfOk result (λ r. r.states ≤ bounds.choices) }
-    ensures limit { IfOk result (λ r. r.outcome ≡ Outcome.Limit → r.states ≡ bounds.choices) }
+    ensures limit { IfOk result (λ r. r.outcome ≡ Outcome.Limit Bound.Choices → r.states ≡ bounds.choices) }
+    ensures work { IfOk result (λ r. r.outcome ≡ Outcome.Limit Bound.Work → bounds.work < 18446744073709551615) }
 {
     explore_watched(alloc, log, way, bounds, &mut Unwatched)
 }

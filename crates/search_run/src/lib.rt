@@ -17,6 +17,6 @@ mod trail;
 mod walk;
 mod watching;
 
-pub use exploring::{Bounds, Exploration, Outcome, explore, explore_watched};
+pub use exploring::{Bound, Bounds, Exploration, Outcome, explore, explore_watched};
 pub use search_forced::Way;
 pub use watching::{Spot, Unwatched, Watch};

@@ -15,8 +15,14 @@ pub struct Spot {
 
 /// Sees how far a search is.
 pub trait Watch {
+    ghost use Rattle.std.specs.Prelude.{⊤};
+
+    /// It saw one choice more.
+    ghost sees: { Self → Self → Type 0 } = { λ _ _. ⊤ };
+
     /// One choice more is looked at.
-    fn choice(&mut self, spot: Spot);
+    fn choice(&mut self, spot: Spot)
+        ensures { sees self.old self.new };
 }
 
 /// Sees nothing.

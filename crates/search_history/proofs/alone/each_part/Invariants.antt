@@ -1,5 +1,6 @@
 use Rattle.std.proofs.Common.{◌≤◌}
+use Rattle.search_run.specs.Watched.{Spends}
 use Rattle.search_history.proofs.alone.each_part.Given as goal
 
 abbrev pub invariant-loop-group : goal.invariant-loop-group
-invariant-loop-group g l = l.left.choices ≤ l.fn.bounds.choices
+invariant-loop-group g l = (l.left.choices ≤ l.fn.bounds.choices) × Spends g.W.Watch.sees l.fn.bounds.choices l.left.choices l.fn.watch l.watch

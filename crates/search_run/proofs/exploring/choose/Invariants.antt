@@ -1,5 +1,6 @@
 use Rattle.search_run.specs.Frames.{IsAt}
+use Rattle.search_run.specs.Watched.{Saw}
 use Rattle.search_run.proofs.exploring.choose.Given as goal
 
 abbrev pub invariant-loop-states : goal.invariant-loop-states
-invariant-loop-states g l = IsAt l.log l.walk
+invariant-loop-states g l = IsAt l.log l.walk × Saw g.W.Watch.sees l.states l.fn.watch l.watch

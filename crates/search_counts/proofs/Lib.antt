@@ -1,0 +1,3 @@
+pub mod Running
+pub mod RoleLemmas
+pub mod TallyLemmas

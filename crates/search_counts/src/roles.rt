@@ -1,0 +1,170 @@
+//! What a request does to what another one found.
+ghost use Rattle.std.specs.Prelude.{ℕ, ◌≡◌, ◌<◌, ◌≤◌, List, Some, None, IsTrue, length, replicate, slice_get, slice_index};
+ghost use Rattle.seq_memory.specs.Step.{answer, refusal};
+ghost use Rattle.log_runs.specs.EventView as events;
+ghost use Rattle.log_runs.specs.Runs.{acted_on, bytes_after};
+ghost use Rattle.search_effects.specs.Effects as effects;
+ghost use Rattle.search_effects.specs.Effects.{Agrees, told_of};
+ghost use Rattle.search_rules.specs.Rules.{Answers, Suits};
+ghost use Rattle.search_counts.specs.Counts.{IsFirst, IsRole};
+
+use log_runs::{Event, Log};
+use search_effects::breaks;
+use search_effects::laws::what_is_needed_is_there;
+use search_rules::{is_served, never_brings};
+use seq_memory::Reply;
+use tlp_core::Op;
+
+/// What a request does to what another one found.
+#[derive(Clone, Copy, Debug, PartialEq, Eq)]
+pub enum Role {
+    /// It finds the same, and takes it away.
+    Takes,
+    /// Right after it the same is there only if it was before.
+    Keeps,
+    /// It may put that there.
+    MayPut,
+}
+
+fn is_atomic(op: &Op) -> bool
+    ensures { result ≡ effects.is_atomic op.now }
+{
+    match op {
+        Op::Read { .. } | Op::Write { .. } => false,
+        _ => true,
+    }
+}
+
+/// AtomicOps at the same bytes that were answered the same data: wherever the memory answers the one so, it
+/// answers the other so, if it is served.
+fn finds_alike(one: &Op, told: &Reply, other: &Op, asked: &Reply) -> bool
+    ensures { IsTrue result → (base block : ℕ) (m : List ℕ) → refusal base (length m) block other.now ≡ None → answer base block m one.now ≡ told.now → answer base block m other.now ≡ asked.now }
+{
+    let Reply::Data(old) = told else {
+        return false;
+    };
+    let Reply::Data(need) = asked else {
+        return false;
+    };
+    if !is_atomic(one) {
+        return false;
+    }
+    if !is_atomic(other) {
+        return false;
+    }
+    if one.address() != other.address() {
+        return false;
+    }
+    if one.size() != other.size() {
+        return false;
+    }
+    old.as_slice() == need.as_slice()
+}
+
+/// The operation finds what request `q` found, by the replies, and takes it away.
+fn takes_by(log: &Log, one: &Op, told: Option<&Reply>, other: &Op, asked: Option<&Reply>) -> bool
+    ensures finds { IsTrue result → (m : List ℕ) → length m ≡ log.now.extent.size → Answers log.now.extent m one.now (told_of told.entry) → Answers log.now.extent m other.now (told_of asked.entry) }
+    ensures leaves { IsTrue result → (m : List ℕ) → length m ≡ log.now.extent.size → Answers log.now.extent m one.now (told_of told.entry) → Answers log.now.extent (bytes_after log.now.extent m one.now) other.now (told_of asked.entry) → ⊥ }
+{
+    let Some(seen) = told else {
+        return false;
+    };
+    let Some(reply) = asked else {
+        return false;
+    };
+    if !is_served(log, one) {
+        return false;
+    }
+    if !is_served(log, other) {
+        return false;
+    }
+    if !finds_alike(one, seen, other, reply) {
+        return false;
+    }
+    breaks(log.extent().block(), one, told, other, reply)
+}
+
+/// The operation finds what request `q` found, and takes it away.
+fn takes_from(log: &Log, one: &Op, told: Option<&Reply>, q: usize) -> bool
+    ensures finds { IsTrue result → (m : List ℕ) → length m ≡ log.now.extent.size → Answers log.now.extent m one.now (told_of told.entry) → Suits log.now.extent m (slice_get log.now.events q) }
+    ensures leaves { IsTrue result → (m : List ℕ) → length m ≡ log.now.extent.size → Answers log.now.extent m one.now (told_of told.entry) → Suits log.now.extent (bytes_after log.now.extent m one.now) (slice_get log.now.events q) → ⊥ }
+{
+    match log.event(q) {
+        Some(Event::Sub { op, reply, .. }) => takes_by(log, one, told, op, reply),
+        _ => false,
+    }
+}
+
+/// Request `b` finds what request `q` found, and takes it away.
+fn takes(log: &Log, b: usize, q: usize) -> bool
+    ensures finds { IsTrue result → (m : List ℕ) → length m ≡ log.now.extent.size → Suits log.now.extent m (slice_get log.now.events b) → Suits log.now.extent m (slice_get log.now.events q) }
+    ensures leaves { IsTrue result → (m : List ℕ) → length m ≡ log.now.extent.size → Suits log.now.extent m (slice_get log.now.events b) → Suits log.now.extent (acted_on log.now.extent m (slice_get log.now.events b)) (slice_get log.now.events q) → ⊥ }
+{
+    match log.event(b) {
+        Some(Event::Sub { op, reply, .. }) => takes_from(log, op, reply, q),
+        _ => false,
+    }
+}
+
+/// The event at that place is the answer to request `b`.
+fn answers(log: &Log, place: usize, b: usize) -> bool
+    ensures { IsTrue result → slice_get log.now.events place ≡ Some (events.Due b) }
+{
+    match log.event(place) {
+        Some(Event::Due { request }) => request == b,
+        _ => false,
+    }
+}
+
+/// What request `b`, which may be answered at that place, does to what request `q` found.
+pub(crate) fn role_of(log: &Log, q: usize, b: usize, place: usize) -> Role
+    ensures { IsRole log.now q b result }
+{
+    if answers(log, place, b) && takes(log, b, q) {
+        return Role::Takes;
+    }
+    if never_brings(log, b, q) {
+        return Role::Keeps;
+    }
+    Role::MayPut
+}
+
+/// The data have a byte other than 0.
+fn has_byte(bytes: &[u8]) -> bool
+    ensures { IsTrue result → (at : ℕ) × (at < length bytes.now) × (slice_index bytes.now at ≡ 0 → ⊥) }
+{
+    for at in 0..bytes.len() {
+        if bytes[at] != 0 {
+            return true;
+        }
+    }
+    false
+}
+
+/// Zeros don't answer the operation so.
+fn changes_zeros(op: &Op, told: Option<&Reply>) -> bool
+    ensures { IsTrue result → (base block n : ℕ) → Agrees base block (replicate n 0) op.now (told_of told.entry) → ⊥ }
+{
+    what_is_needed_is_there();
+    let Some(reply) = told else {
+        return false;
+    };
+    let Reply::Data(data) = reply else {
+        return false;
+    };
+    if !is_atomic(op) {
+        return false;
+    }
+    has_byte(data.as_slice())
+}
+
+/// How often what request `q` found may be there at the start.
+pub(crate) fn first_of(log: &Log, q: usize) -> usize
+    ensures first { IsFirst log.now q result }
+    ensures few { result ≤ 1 }
+{
+    match log.event(q) {
+        Some(Event::Sub { op, reply, .. }) => if changes_zeros(op, reply) { 0 } else { 1 },
+        _ => 1,
+    }
+}
