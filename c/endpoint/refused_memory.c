@@ -1,6 +1,6 @@
 /*
- * Refuses each allocation of an endpoint in turn: the call that needs it returns PCIEX_NO_MEMORY, and after it the endpoint
- * answers as one that never was refused anything.
+ * Refuses each allocation of an endpoint in turn, without and with a trace: the call that needs it returns PCIEX_NO_MEMORY,
+ * and after it the endpoint answers as one that never was refused anything. A trace is whole then, or lost.
  *
  * Link with -Wl,--wrap=malloc,--wrap=calloc,--wrap=realloc,--wrap=posix_memalign.
  */
@@ -54,9 +54,13 @@ int __wrap_posix_memalign(void **at, size_t alignment, size_t size)
 typedef struct answers {
     uint8_t bytes[65536];
     size_t length;
+    uint8_t trace[65536];
+    size_t trace_length;
+    bool is_lost;
 } answers;
 
-static int refusals;
+static int refusals, losses;
+static bool is_traced;
 
 /* Sends a TLP; again, with memory, if it is refused. Whether it is accepted then. */
 static bool send(pciex_endpoint *endpoint, const uint8_t *tlp, size_t length)
@@ -82,13 +86,32 @@ static bool fetch(pciex_endpoint *endpoint, answers *to)
 
 static bool make(pciex_endpoint *endpoint)
 {
-    uint32_t code = pciex_endpoint_new(4096, 0x1234, 0x7C1E, endpoint);
+    uint32_t code = pciex_endpoint_new(4096, 0x1234, 0x7C1E, is_traced, endpoint);
     if (code == PCIEX_NO_MEMORY && endpoint->at == NULL) {
         refusals++;
         before = -1;
-        code = pciex_endpoint_new(4096, 0x1234, 0x7C1E, endpoint);
+        code = pciex_endpoint_new(4096, 0x1234, 0x7C1E, is_traced, endpoint);
     }
     return code == 0;
+}
+
+/* Takes the trace; again, with memory, if it is refused. Whether it is whole, or lost after a refusal. */
+static bool take_trace(pciex_endpoint *endpoint, answers *to)
+{
+    const int so_far = refusals;
+    uint32_t code = 0;
+    for (int i = 0; i < 2; i++) {
+        to->trace_length = 7;
+        code = pciex_endpoint_trace(endpoint, to->trace, sizeof to->trace, &to->trace_length);
+        if (code != PCIEX_NO_MEMORY) {
+            break;
+        }
+        refusals++;
+        before = -1;
+    }
+    to->is_lost = code == PCIEX_NO_MEMORY;
+    losses += to->is_lost;
+    return code == 0 || (to->is_lost && is_traced && refusals > so_far && to->trace_length == 7);
 }
 
 /* Sets an endpoint up; then 50 writes and reads, of which the reads wait, and are answered at the end. */
@@ -112,30 +135,49 @@ static bool session(answers *to)
         write[12] = read[6] = (uint8_t)i;
         right = send(&endpoint, write, sizeof write) && send(&endpoint, read, sizeof read);
     }
-    right = right && fetch(&endpoint, to);
+    right = right && fetch(&endpoint, to) && take_trace(&endpoint, to);
     pciex_endpoint_free(&endpoint);
     return right;
 }
 
-int main(void)
+static bool is_same(const answers *one, const answers *other)
+{
+    return one->length == other->length && memcmp(one->bytes, other->bytes, one->length) == 0 &&
+           (one->is_lost || other->is_lost ||
+            (one->trace_length == other->trace_length && memcmp(one->trace, other->trace, one->trace_length) == 0));
+}
+
+/* Whether each allocation is refused in turn, and the answers stay the same. */
+static bool refuse_each(void)
 {
     static answers wanted, got;
-    if (!session(&wanted) || wanted.length < 50 * 192) {
-        return 1;
+    uint8_t verdict[PCIEX_LINE];
+    refusals = losses = 0;
+    if (!session(&wanted) || wanted.length < 50 * 192 ||
+        pciex_check_clocked(wanted.trace, wanted.trace_length, verdict, sizeof verdict) != 0) {
+        return false;
     }
     for (long i = 0;; i++) {
         const int so_far = refusals;
         before = i;
         const bool right = session(&got);
         before = -1;
-        if (!right || got.length != wanted.length || memcmp(got.bytes, wanted.bytes, got.length) != 0) {
+        if (!right || !is_same(&got, &wanted)) {
             printf("after %ld allocations: another answer\n", i);
-            return 1;
+            return false;
         }
         if (refusals == so_far) {
             break;
         }
     }
-    printf("each allocation is refused in turn\n");
-    return refusals >= 4 ? 0 : 1;
+    return refusals >= 4 && (losses > 0) == is_traced;
+}
+
+int main(void)
+{
+    bool right = refuse_each();
+    is_traced = true;
+    right = right && refuse_each();
+    printf("%s\n", right ? "each allocation is refused in turn" : "wrong");
+    return right ? 0 : 1;
 }

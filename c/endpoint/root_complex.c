@@ -521,10 +521,31 @@ static void dump(void)
     }
 }
 
+/* The history explains the trace, and not one with another digit in its last answer. */
+static void check_trace(void)
+{
+    uint8_t verdict[PCIEX_LINE];
+    size_t length = 0;
+    wants(pciex_endpoint_trace(&device, verdict, 1, &length) == PCIEX_SMALL_ROOM, "a trace fits one byte");
+    char *text = malloc(length + 1);
+    wants(text && pciex_endpoint_trace(&device, (uint8_t *)text, length, &length) == 0, "no trace");
+    text[length] = 0;
+    wants(pciex_check_clocked((const uint8_t *)text, length, verdict, sizeof verdict) == 0, "another history");
+    char *end = strstr(text, "\nhistory\n");
+    wants(end != NULL && strncmp(text, "pciex-trace 2\n", 14) == 0, "the trace has no history");
+    while (strncmp(end, "\nans ", 5) != 0) {
+        end--;
+    }
+    char *digit = strchr(end + 1, '\n') - 1;
+    *digit = *digit == '0' ? '1' : '0';
+    wants(pciex_check_clocked((const uint8_t *)text, length, verdict, sizeof verdict) >= 1000, "a wrong answer is right");
+    free(text);
+}
+
 int main(int count, char **words)
 {
     static uint8_t bytes[SIZE];
-    wants(pciex_endpoint_new(SIZE, 0x1234, 0x7C1E, &device) == 0, "no endpoint");
+    wants(pciex_endpoint_new(SIZE, 0x1234, 0x7C1E, true, &device) == 0, "no endpoint");
     if (count > 1 && strcmp(words[1], "dump") == 0) {
         dump();
         pciex_endpoint_free(&device);
@@ -541,6 +562,7 @@ int main(int count, char **words)
     wants((read_register(capability(0x10) + 8) >> 16 & 15) == 12, "other errors than UR and a fatal one");
     wants(read_register(4) >> 31, "no poisoned TLP was detected");
     wants(pciex_endpoint_bytes(&device, bytes, SIZE) == 0 && memcmp(bytes, memory, SIZE) == 0, "another memory");
+    check_trace();
     pciex_endpoint_free(&device);
     printf("%lu requests, %lu completions, each right\n", sent, completions);
     return 0;

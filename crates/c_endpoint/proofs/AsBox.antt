@@ -1,4 +1,4 @@
--- An endpoint's box, its parts and a slot as rows.
+-- A session's box, its parts and a slot as rows.
 use mir.Syntax.{impl, tnil, dnil}
 use mathlib.Core.List.{[]}
 use denote.Signature.{Slot, plain}
@@ -6,16 +6,16 @@ use Rattle.std_alloc.proofs.BoxSteps.Form.{Bx}
 use Rattle.std_heap.specs.contracts.Global as Heap
 use Rattle.std_heap.specs.contracts.GlobalAllocator.TheImpl.{ghosts, dict}
 use Rattle.std_heap.proofs.Global.TheLaws as heap
-use Rattle.endpoint_core.specs.contracts.endpoint.Endpoint as Endpoint
-use Rattle.endpoint_core.proofs.endpoint.Endpoint.TheLaws as endpoint
+use Rattle.c_endpoint.specs.contracts.session.Session as Held
+use Rattle.c_endpoint.proofs.session.Session.TheLaws as laws
 use Rattle.c_box.specs.contracts.Parts as Parts
 use Rattle.c_endpoint.specs.contracts.slot.Slot as held
 
 abbrev pub E : Bx
-E = record { row = Endpoint.the_row; laws = endpoint.the_row_laws; al = record { row = Heap.the_row; laws = heap.the_row_laws; g = ghosts; d = dict; drops = impl [] tnil dnil } }
+E = record { row = Held.the_row; laws = laws.the_row_laws; al = record { row = Heap.the_row; laws = heap.the_row_laws; g = ghosts; d = dict; drops = impl [] tnil dnil } }
 
 abbrev pub FromParts : Slot 0
-FromParts = plain (λ _. Parts.the_row Endpoint.the_row Heap.the_row ghosts)
+FromParts = plain (λ _. Parts.the_row Held.the_row Heap.the_row ghosts)
 
 abbrev pub FromSlot : Slot 0
 FromSlot = plain (λ _. held.the_row)

@@ -2,16 +2,20 @@
 use Rattle.std.specs.Prelude.{ℕ, ⊤, nat_lt, if◌then◌else◌, List, length, Option, Some, None, Result, Ok, Err}
 use Rattle.tlp_core.specs.Layout.{canonical}
 use Rattle.tlp_core.specs.TlpView.{TlpView}
-use Rattle.config_space.specs.SetupView.{is_size}
+use Rattle.config_space.specs.SetupView.{SetupView, is_size}
 use Rattle.endpoint_core.specs.EndpointView.{EndpointView}
 use Rattle.endpoint_core.specs.Steps.{acted, next_completion}
 use Rattle.c_buffer.specs.declared.outcome.Failure.{Failure}
 use Rattle.c_buffer.specs.declared.outcome.Failure.TheVariants.{SmallBuffer, WrongSize}
 use Rattle.c_buffer.specs.Buffer.{filled}
+use Rattle.c_endpoint.specs.declared.slot.Wanted.{Wanted}
 
 -- a memory's size is a power of two from 4096 to 1,048,576
 abbrev pub limit : ℕ → Result ⊤ Failure
 limit size = if is_size size then Ok tt else Err WrongSize
+
+abbrev pub setup_with : Wanted → SetupView
+setup_with w = record { size = w.size; vendor = w.vendor; device = w.device }
 
 pub record NextCall : Type 0 where
   pub outcome : Result ℕ Failure

@@ -1,3 +1,4 @@
+pub mod SessionView
 pub mod Slot
 pub mod Calls
 pub use Rattle.c_buffer.specs.Buffer

@@ -1,4 +1,4 @@
--- What a slot owns: a boxed endpoint, or nothing.
+-- What a slot owns: a boxed endpoint with what is recorded of it, or nothing.
 use base.Fml.{Fml, ftrue}
 use base.Stored.{Coded}
 use denote.RawPtr.{Ptr}
@@ -7,11 +7,11 @@ use Rattle.std.specs.Coded.{coded_option}
 use Rattle.std.specs.Box.Ownership.{box_owns}
 use Rattle.std.specs.Global.{Global}
 use Rattle.std_heap.specs.contracts.GlobalAllocator.TheImpl.{ghosts}
-use Rattle.endpoint_core.specs.contracts.endpoint.Endpoint.{the_row}
+use Rattle.c_endpoint.specs.contracts.session.Session.{the_row}
 
 abbrev pub slot_owns : Global → Ptr → Option the_row.Denot → Fml
 slot_owns alloc p None = ftrue
-slot_owns alloc p (Some e) = box_owns (ghosts.dealloc_token alloc) the_row p e
+slot_owns alloc p (Some s) = box_owns (ghosts.dealloc_token alloc) the_row p s
 
-abbrev pub endpoint_coded : Coded (Option the_row.Denot)
-endpoint_coded = coded_option the_row.coded
+abbrev pub session_coded : Coded (Option the_row.Denot)
+session_coded = coded_option the_row.coded

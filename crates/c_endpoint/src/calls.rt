@@ -1,41 +1,52 @@
 //! TLPs at the endpoint of a slot, and their completions.
-ghost use Rattle.std.specs.Prelude.{◌≡◌, ◌≤◌, Some, Ok, Err, IsErr};
-ghost use Rattle.endpoint_core.specs.EndpointView.{EndpointView};
+ghost use Rattle.std.specs.Prelude.{◌≡◌, ◌≤◌, Some, Ok, Err, IsErr, length};
 ghost use Rattle.endpoint_core.specs.Steps as steps;
 ghost use Rattle.endpoint_core.specs.declared.endpoint.Handled.TheVariants.{Waits};
 ghost use Rattle.c_buffer.specs.declared.outcome.Failure.TheVariants.{NoMemory};
 ghost use Rattle.c_buffer.specs.Buffer.{copied};
+ghost use Rattle.c_endpoint.specs.SessionView.{SessionView, Holds, after_reset};
+ghost use Rattle.c_recording.specs.Recordings.{IsOrLost, came, acted};
 ghost use Rattle.c_endpoint.specs.Calls.{next_call};
 
+use crate::session::Session;
 use crate::slot::{Slot, close, open};
 use c_answer::{MAX_COMPLETION, tell_completion};
 use c_buffer::{Failure, Length, copy};
-use endpoint_core::{Endpoint, Handled, Room};
+use c_recording::what_is_entered_and_answered_acted;
+use endpoint_core::{Handled, Room};
 
-fn take(endpoint: &mut Endpoint, tlp: &[u8]) -> Result<Handled, Failure>
-    ensures outcome { ¬ (result ≡ Err NoMemory) → result ≡ Ok (steps.handled endpoint.old tlp.now) }
-    ensures endpoint { ¬ (result ≡ Err NoMemory) → endpoint.new ≡ steps.taken endpoint.old tlp.now }
-    ensures no_memory { result ≡ Err NoMemory → steps.handled endpoint.old tlp.now ≡ Waits }
-    ensures unchanged { IsErr result → endpoint.new ≡ endpoint.old }
+fn take(session: &mut Session, tlp: &[u8]) -> Result<Handled, Failure>
+    ensures outcome { ¬ (result ≡ Err NoMemory) → result ≡ Ok (steps.handled session.old.endpoint tlp.now) }
+    ensures endpoint { ¬ (result ≡ Err NoMemory) → session.new.endpoint ≡ steps.taken session.old.endpoint tlp.now }
+    ensures no_memory { result ≡ Err NoMemory → steps.handled session.old.endpoint tlp.now ≡ Waits }
+    ensures unchanged { IsErr result → session.new ≡ session.old }
+    ensures recording { IsOrLost session.new.recording (came session.old.endpoint tlp.now session.old.recording) }
 {
+    session.recording.come(&session.endpoint, tlp);
     let mut room = Room::new();
-    match endpoint.take(tlp, &mut room) {
+    match session.endpoint.take(tlp, &mut room) {
         Ok(handled) => Ok(handled),
         Err(_) => Err(Failure::NoMemory),
     }
 }
 
-fn next(endpoint: &mut Endpoint, buffer: &mut [u8]) -> Result<Length, Failure>
-    ensures outcome { result ≡ (next_call endpoint.old buffer.old).outcome }
-    ensures endpoint { endpoint.new ≡ (next_call endpoint.old buffer.old).endpoint }
-    ensures buffer { buffer.new ≡ (next_call endpoint.old buffer.old).buffer }
-    ensures unchanged { IsErr result → (endpoint.new ≡ endpoint.old) × (buffer.new ≡ buffer.old) }
+fn next(session: &mut Session, buffer: &mut [u8]) -> Result<Length, Failure>
+    ensures outcome { result ≡ (next_call session.old.endpoint buffer.old).outcome }
+    ensures endpoint { session.new.endpoint ≡ (next_call session.old.endpoint buffer.old).endpoint }
+    ensures acts { 144 ≤ length buffer.old → session.new.endpoint ≡ steps.acted session.old.endpoint }
+    ensures buffer { buffer.new ≡ (next_call session.old.endpoint buffer.old).buffer }
+    ensures recording { 144 ≤ length buffer.old → IsOrLost session.new.recording (acted session.old.endpoint session.old.recording) }
+    ensures unchanged { IsErr result → (session.new ≡ session.old) × (buffer.new ≡ buffer.old) }
 {
     if buffer.len() < MAX_COMPLETION {
         return Err(Failure::SmallBuffer);
     }
+    what_is_entered_and_answered_acted();
     let mut room = Room::new();
-    match endpoint.act(&mut room) {
+    let number = session.recording.act(&session.endpoint);
+    let completion = session.endpoint.act(&mut room);
+    session.recording.answer(number, &completion);
+    match completion {
         Some(completion) => Ok(tell_completion(&completion, buffer)),
         None => Ok(Length::ZERO),
     }
@@ -43,14 +54,14 @@ fn next(endpoint: &mut Endpoint, buffer: &mut [u8]) -> Result<Length, Failure>
 
 /// A TLP comes to the endpoint of the slot, which goes to `back`: a posted request acts, a non-posted one waits, and an
 /// error is reported in the registers. The only error is `NoMemory`, for a request that would wait, and then nothing has
-/// changed.
+/// changed. What is recorded of a posted request is lost, with all before it, where memory for it runs out.
 pub fn take_tlp(slot: Slot, tlp: &[u8], back: &mut Slot) -> Result<Handled, Failure>
-    ghost endpoint: { EndpointView }
-    requires { slot.endpoint ≡ Some endpoint }
-    ensures outcome { ¬ (result ≡ Err NoMemory) → result ≡ Ok (steps.handled endpoint tlp.now) }
-    ensures endpoint { ¬ (result ≡ Err NoMemory) → back.new.endpoint ≡ Some (steps.taken endpoint tlp.now) }
-    ensures no_memory { result ≡ Err NoMemory → steps.handled endpoint tlp.now ≡ Waits }
-    ensures unchanged { IsErr result → back.new.endpoint ≡ Some endpoint }
+    ghost session: { SessionView }
+    requires { slot.session ≡ Some session }
+    ensures outcome { ¬ (result ≡ Err NoMemory) → result ≡ Ok (steps.handled session.endpoint tlp.now) }
+    ensures session { ¬ (result ≡ Err NoMemory) → Holds back.new.session (steps.taken session.endpoint tlp.now) (came session.endpoint tlp.now session.recording) }
+    ensures no_memory { result ≡ Err NoMemory → steps.handled session.endpoint tlp.now ≡ Waits }
+    ensures unchanged { IsErr result → back.new.session ≡ Some session }
 {
     let mut held = open(slot);
     let outcome = take(&mut held, tlp);
@@ -60,14 +71,15 @@ pub fn take_tlp(slot: Slot, tlp: &[u8], back: &mut Slot) -> Result<Handled, Fail
 
 /// The oldest request that waits at the endpoint of the slot acts, a read by one block of 128 bytes; the endpoint goes
 /// to `back`. Ok is how many bytes its completion has, at the front of `buffer`, 0 if no request waits. The only error
-/// is `SmallBuffer`, for fewer than 144 bytes, and then nothing has changed.
+/// is `SmallBuffer`, for fewer than 144 bytes, and then nothing has changed. What is recorded is lost where memory for it
+/// runs out.
 pub fn tell_next(slot: Slot, buffer: &mut [u8], back: &mut Slot) -> Result<Length, Failure>
-    ghost endpoint: { EndpointView }
-    requires { slot.endpoint ≡ Some endpoint }
-    ensures outcome { result ≡ (next_call endpoint buffer.old).outcome }
-    ensures endpoint { back.new.endpoint ≡ Some (next_call endpoint buffer.old).endpoint }
-    ensures buffer { buffer.new ≡ (next_call endpoint buffer.old).buffer }
-    ensures unchanged { IsErr result → (back.new.endpoint ≡ Some endpoint) × (buffer.new ≡ buffer.old) }
+    ghost session: { SessionView }
+    requires { slot.session ≡ Some session }
+    ensures outcome { result ≡ (next_call session.endpoint buffer.old).outcome }
+    ensures session { 144 ≤ length buffer.old → Holds back.new.session (steps.acted session.endpoint) (acted session.endpoint session.recording) }
+    ensures buffer { buffer.new ≡ (next_call session.endpoint buffer.old).buffer }
+    ensures unchanged { IsErr result → (back.new.session ≡ Some session) × (buffer.new ≡ buffer.old) }
 {
     let mut held = open(slot);
     let outcome = next(&mut held, buffer);
@@ -78,26 +90,27 @@ pub fn tell_next(slot: Slot, buffer: &mut [u8], back: &mut Slot) -> Result<Lengt
 /// A reset of the endpoint of the slot, which goes to `back`: registers are what they were at first, nothing waits, and
 /// the memory's bytes stay.
 pub fn reset_endpoint(slot: Slot, back: &mut Slot)
-    ghost endpoint: { EndpointView }
-    requires { slot.endpoint ≡ Some endpoint }
-    ensures { back.new.endpoint ≡ Some (steps.after_reset_of endpoint) }
+    ghost session: { SessionView }
+    requires { slot.session ≡ Some session }
+    ensures { back.new.session ≡ Some (after_reset session) }
 {
     let mut held = open(slot);
-    held.reset();
+    held.endpoint.reset();
+    held.recording.reset();
     *back = close(held);
 }
 
 /// Puts all bytes of the endpoint's memory to the front of `buffer`. `SmallBuffer` for fewer bytes than it has, and then
 /// nothing has changed. The endpoint goes to `back`, as it was.
 pub fn copy_bytes(slot: Slot, buffer: &mut [u8], back: &mut Slot) -> Result<(), Failure>
-    ghost endpoint: { EndpointView }
-    requires { slot.endpoint ≡ Some endpoint }
-    ensures outcome { result ≡ (copied buffer.old endpoint.device.bytes).outcome }
-    ensures buffer { buffer.new ≡ (copied buffer.old endpoint.device.bytes).buffer }
-    ensures unchanged { back.new.endpoint ≡ Some endpoint }
+    ghost session: { SessionView }
+    requires { slot.session ≡ Some session }
+    ensures outcome { result ≡ (copied buffer.old session.endpoint.device.bytes).outcome }
+    ensures buffer { buffer.new ≡ (copied buffer.old session.endpoint.device.bytes).buffer }
+    ensures unchanged { back.new.session ≡ Some session }
 {
     let held = open(slot);
-    let outcome = copy(held.bytes(), buffer);
+    let outcome = copy(held.endpoint.bytes(), buffer);
     *back = close(held);
     outcome
 }

@@ -1,34 +1,34 @@
 //! Slots.
 ghost use Rattle.std.specs.Prelude.{◌≡◌, ◌⊎◌, Option, Some, Ok, Err, IsOk, IsErr, IfOk, IfErr};
-ghost use Rattle.config_space.specs.SetupView.{SetupView};
-ghost use Rattle.endpoint_core.specs.EndpointView.{EndpointView};
-ghost use Rattle.endpoint_core.specs.Steps as steps;
 ghost use Rattle.c_buffer.specs.declared.outcome.Failure.TheVariants.{NoMemory};
-ghost use Rattle.c_endpoint.specs.Slot.{slot_owns, endpoint_coded};
-ghost use Rattle.c_endpoint.specs.Calls.{limit};
+ghost use Rattle.c_endpoint.specs.Slot.{slot_owns, session_coded};
+ghost use Rattle.c_endpoint.specs.SessionView.{SessionView, new_session};
+ghost use Rattle.c_endpoint.specs.Calls.{limit, setup_with};
 
+use crate::session::Session;
 use c_box::Parts;
 use c_buffer::Failure;
+use c_recording::Recording;
 use config_space::Setup;
 use endpoint_core::Endpoint;
 use std::alloc::Global;
 use std::marker::Model;
 
-/// An endpoint, or nothing. Where it is dropped, the endpoint isn't freed.
+/// An endpoint with what is recorded of it, or nothing. Where it is dropped, the endpoint isn't freed.
 #[repr(C)]
 #[derive(Drop)]
 pub struct Slot {
     at: *mut (),
     alloc: Global,
-    pub ghost endpoint: { Option EndpointView } by { endpoint_coded },
+    pub ghost session: { Option SessionView } by { session_coded },
 }
 
 impl Model for Slot {
-    ghost also_owns = { λ s. slot_owns s.alloc s.at s.endpoint };
+    ghost also_owns = { λ s. slot_owns s.alloc s.at s.session };
 }
 
-fn of_parts(parts: Parts<Endpoint, Global>) -> Slot
-    ensures { result.endpoint ≡ Some parts.value }
+fn of_parts(parts: Parts<Session, Global>) -> Slot
+    ensures { result.session ≡ Some parts.value }
 {
     let Parts { ptr, alloc } = parts;
     Slot {
@@ -37,58 +37,75 @@ fn of_parts(parts: Parts<Endpoint, Global>) -> Slot
     }
 }
 
-fn into_parts(slot: Slot) -> Parts<Endpoint, Global>
-    ghost endpoint: { EndpointView }
-    requires { slot.endpoint ≡ Some endpoint }
-    ensures { result.value ≡ endpoint }
+fn into_parts(slot: Slot) -> Parts<Session, Global>
+    ghost session: { SessionView }
+    requires { slot.session ≡ Some session }
+    ensures { result.value ≡ session }
 {
     let Slot { at, alloc } = slot;
     Parts {
-        ptr: at as *mut Endpoint,
+        ptr: at as *mut Session,
         alloc,
     }
 }
 
-/// Takes the endpoint out of the slot.
-pub(crate) fn open(slot: Slot) -> Box<Endpoint, Global>
-    ghost endpoint: { EndpointView }
-    requires { slot.endpoint ≡ Some endpoint }
-    ensures { result.value ≡ endpoint }
+/// Takes the session out of the slot.
+pub(crate) fn open(slot: Slot) -> Box<Session, Global>
+    ghost session: { SessionView }
+    requires { slot.session ≡ Some session }
+    ensures { result.value ≡ session }
 {
     into_parts(slot).into_box()
 }
 
-/// A slot that holds the endpoint.
-pub(crate) fn close(held: Box<Endpoint, Global>) -> Slot
-    ensures { result.endpoint ≡ Some held.value }
+/// A slot that holds the session.
+pub(crate) fn close(held: Box<Session, Global>) -> Slot
+    ensures { result.session ≡ Some held.value }
 {
     of_parts(Parts::of(held))
 }
 
-/// What an endpoint is made with, or `WrongSize`.
-fn setup_of(size: usize, vendor: u16, device: u16) -> Result<Setup, Failure>
-    ensures ok { IfOk result (λ s. (s ≡ record { size = size; vendor = vendor; device = device }) × (limit size ≡ Ok tt)) }
-    ensures err { IfErr result (λ f. limit size ≡ Err f) }
+/// What an endpoint is made with.
+#[derive(Clone, Copy)]
+pub struct Wanted {
+    /// The bytes of its memory: a power of two from 4096 to 1,048,576.
+    pub size: usize,
+    /// Its Vendor ID.
+    pub vendor: u16,
+    /// Its Device ID.
+    pub device: u16,
+    /// Keeps a trace, which grows with what the memory is asked and answers.
+    pub is_traced: bool,
+}
+
+/// What an endpoint has from the first, or `WrongSize`.
+fn setup_of(wanted: Wanted) -> Result<Setup, Failure>
+    ensures ok { IfOk result (λ s. (s ≡ setup_with wanted) × (limit wanted.size ≡ Ok tt)) }
+    ensures err { IfErr result (λ f. limit wanted.size ≡ Err f) }
 {
-    if size > 1_048_576 {
+    if wanted.size > 1_048_576 {
         return Err(Failure::WrongSize);
     }
-    match Setup::new(size as u32, vendor, device) {
+    match Setup::new(wanted.size as u32, wanted.vendor, wanted.device) {
         Some(setup) => Ok(setup),
         None => Err(Failure::WrongSize),
     }
 }
 
 /// Makes an endpoint in a slot that holds nothing.
-fn make_in(alloc: Global, setup: Setup, slot: &mut Slot) -> Result<(), Failure>
+fn make_in(alloc: Global, setup: Setup, is_traced: bool, slot: &mut Slot) -> Result<(), Failure>
     ensures memory { IsErr result → result ≡ Err NoMemory }
-    ensures made { IsOk result → slot.new.endpoint ≡ Some (steps.new_endpoint setup) }
+    ensures made { IsOk result → slot.new.session ≡ Some (new_session setup is_traced) }
     ensures unchanged { IsErr result → slot.new ≡ slot.old }
 {
     let Ok(endpoint) = Endpoint::new(alloc, setup) else {
         return Err(Failure::NoMemory);
     };
-    match Box::new(alloc, endpoint) {
+    let session = Session {
+        endpoint,
+        recording: Recording::new(alloc, setup, is_traced),
+    };
+    match Box::new(alloc, session) {
         Ok(held) => {
             *slot = close(held);
             Ok(())
@@ -97,27 +114,20 @@ fn make_in(alloc: Global, setup: Setup, slot: &mut Slot) -> Result<(), Failure>
     }
 }
 
-/// Makes an endpoint of that Vendor ID and Device ID, whose memory is `size` zeros, a power of two from 4096 to
-/// 1,048,576, in a slot that holds nothing. With an error the slot stays as it was: `WrongSize`, `NoMemory`, tested in
-/// this order.
-pub fn new_endpoint(
-    alloc: Global,
-    size: usize,
-    vendor: u16,
-    device: u16,
-    slot: &mut Slot,
-) -> Result<(), Failure>
-    ensures outcome { (result ≡ limit size) ⊎ ((limit size ≡ Ok tt) × (result ≡ Err NoMemory)) }
-    ensures made { IsOk result → slot.new.endpoint ≡ Some (steps.new_endpoint (record { size = size; vendor = vendor; device = device })) }
+/// Makes an endpoint, whose memory holds zeros, in a slot that holds nothing. With an error the slot stays as it was:
+/// `WrongSize`, `NoMemory`, tested in this order.
+pub fn new_endpoint(alloc: Global, wanted: Wanted, slot: &mut Slot) -> Result<(), Failure>
+    ensures outcome { (result ≡ limit wanted.size) ⊎ ((limit wanted.size ≡ Ok tt) × (result ≡ Err NoMemory)) }
+    ensures made { IsOk result → slot.new.session ≡ Some (new_session (setup_with wanted) wanted.is_traced) }
     ensures unchanged { IsErr result → slot.new ≡ slot.old }
 {
-    make_in(alloc, setup_of(size, vendor, device)?, slot)
+    make_in(alloc, setup_of(wanted)?, wanted.is_traced, slot)
 }
 
 /// Frees the endpoint of the slot.
 pub fn free_endpoint(slot: Slot)
-    ghost endpoint: { EndpointView }
-    requires { slot.endpoint ≡ Some endpoint }
+    ghost session: { SessionView }
+    requires { slot.session ≡ Some session }
 {
     drop(open(slot));
 }

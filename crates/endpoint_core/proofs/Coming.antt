@@ -24,6 +24,7 @@ use Rattle.endpoint_packets.specs.declared.received.Malformed.TheVariants as fau
 use Rattle.endpoint_packets.specs.declared.received.Received.{Received}
 use Rattle.endpoint_packets.specs.declared.received.Received.TheVariants as received
 use Rattle.endpoint_packets.specs.Classes as classes
+use Rattle.endpoint_core.specs.Blocks.{IsNonPosted}
 
 abbrev pub IsAsked : Kind → Body → Type 0
 IsAsked kinds.MemoryRead (bodies.Request a f l) = a % 4 ≡ 0
@@ -134,3 +135,16 @@ becomes_asked b =
 -- what is posted is a write
 pub posted_write : (b : List ℕ) (t : TlpView) → classes.becomes b ≡ received.Posted t → t.kind ≡ kinds.MemoryWrite
 posted_write b t e = write_of t (subst Asks e (becomes_asked b))
+
+asked_kind : (k : Kind) (b : Body) → IsAsked k b → IsNonPosted k
+asked_kind kinds.MemoryRead b h = tt
+asked_kind kinds.MemoryWrite b h = h
+asked_kind kinds.FetchAdd b h = tt
+asked_kind kinds.Swap b h = tt
+asked_kind kinds.Cas b h = tt
+asked_kind kinds.Completion b h = h
+asked_kind kinds.CompletionData b h = h
+
+-- what isn't posted has a completion
+pub non_posted : (b : List ℕ) (t : TlpView) → classes.becomes b ≡ received.NonPosted t → IsNonPosted t.kind
+non_posted b t e = asked_kind t.kind t.body (asked_of t (subst Asks e (becomes_asked b)))

@@ -13,7 +13,7 @@ use Rattle.tlp_core.specs.Operation.{op_at, op_of, op_fault, address_of, count_o
 use Rattle.seq_memory.specs.Step.{after}
 use Rattle.op_pieces.specs.Pieces.{inner, rest_first, rest_last, dw_of, dw_to, front, back, cut}
 use Rattle.endpoint_core.specs.Steps.{after_all, blocks_of, dw_before_end, dw_in_front, behind, body_behind}
-use Rattle.endpoint_core.specs.Blocks.{body_in_front, in_front, IsCut, IsCutAt}
+use Rattle.endpoint_core.specs.Blocks.{body_in_front, in_front, IsCut, IsCutAt, IsNonPosted}
 use Rattle.endpoint_core.proofs.Enables.{front_enabled, behind_enabled}
 
 small_inner : (n : ℕ) → inner n < 16
@@ -130,6 +130,32 @@ few_by kinds.CompletionData b dw bytes op is h e = absurd cc
 
 pub few_of : (t : TlpView) (op : Op) → IsPacket t → t.kind ≡ kinds.MemoryWrite → op_of t ≡ Some op → dw_of op ≤ 32
 few_of t op p is e = few_by t.kind t.body t.length t.payload op is p.fits e
+
+one_given : (dw given : ℕ) → (dw ≡ 1) ⊎ (dw ≡ 2) → given ≡ 4 * dw → given ≤ 32
+one_given dw given (inl e) g = omega (arith, e, g)
+one_given dw given (inr e) g = omega (arith, e, g)
+
+two_given : (dw given : ℕ) → (dw ≡ 2) ⊎ (dw ≡ 4) ⊎ (dw ≡ 8) → given ≡ 4 * dw → given ≤ 32
+two_given dw given (inl e) g = omega (arith, e, g)
+two_given dw given (inr (inl e)) g = omega (arith, e, g)
+two_given dw given (inr (inr e)) g = omega (arith, e, g)
+
+-- a non-posted request has at most two operands of 16 bytes
+few_given : (k : Kind) (b : Body) (dw given : ℕ) → IsNonPosted k → FitsKind k b dw given → given ≤ 32
+few_given kinds.MemoryRead (bodies.Request a f l) dw given is h = omega (arith, h.2)
+few_given kinds.MemoryRead (bodies.Completion c s n lower) dw given is h = absurd h
+few_given kinds.MemoryWrite b dw given is h = absurd is
+few_given kinds.FetchAdd (bodies.Request a f l) dw given is h = one_given dw given h.0.0 h.1
+few_given kinds.FetchAdd (bodies.Completion c s n lower) dw given is h = absurd h
+few_given kinds.Swap (bodies.Request a f l) dw given is h = one_given dw given h.0.0 h.1
+few_given kinds.Swap (bodies.Completion c s n lower) dw given is h = absurd h
+few_given kinds.Cas (bodies.Request a f l) dw given is h = two_given dw given h.0.0 h.1
+few_given kinds.Cas (bodies.Completion c s n lower) dw given is h = absurd h
+few_given kinds.Completion b dw given is h = absurd is
+few_given kinds.CompletionData b dw given is h = absurd is
+
+pub few_operands : (t : TlpView) → IsPacket t → IsNonPosted t.kind → length t.payload ≤ 32
+few_operands t p is = few_given t.kind t.body t.length (length t.payload) is p.fits
 
 whole_blocks : (a : ℕ) → a % 4 ≡ 0 → dw_to 128 (a + 4 * dw_to 128 a) ≡ 32
 whole_blocks a h = omega (arith, h)

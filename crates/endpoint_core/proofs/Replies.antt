@@ -158,11 +158,14 @@ pub read_has : (t : TlpView) → t.kind ≡ kinds.MemoryRead → ((op : Op) (r :
 read_has t is none op e = read_completes t is (none op replies.Unsupported e)
 
 -- ---- the completion of a claimed request
-pub answered : (d : DeviceView) (t : TlpView) (op : Op) (base dw : ℕ) (r : Option TlpView) → op_of t ≡ Some op → base_of_op d op ≡ Some base → memory_done d (op_of t) ≡ dw →
+
+pub done_is : (d : DeviceView) (t : TlpView) (op : Op) (base : ℕ) → op_of t ≡ Some op → base_of_op d op ≡ Some base → memory_done d (op_of t) ≡ dw_in_front op
+done_is d t op base e b = ap (λ (o : Option Op). memory_done d o) e ∙ ap (λ (o : Option ℕ). done_at op o) b
+
+pub answered : (d : DeviceView) (t : TlpView) (op : Op) (base dw : ℕ) (r : Option TlpView) → op_of t ≡ Some op → base_of_op d op ≡ Some base → dw_in_front op ≡ dw →
     (dw_in_front op ≡ dw → r ≡ option_map (from d.completer) (completion_of t (answer base 128 d.bytes (first_block op)))) → r ≡ memory_completion d t (op_of t)
 answered d t op base dw r e b n f =
-    f (sym (ap (λ (o : Option Op). memory_done d o) e ∙ ap (λ (o : Option ℕ). done_at op o) b) ∙ n)
-    ∙ sym (ap (λ (o : Option Op). memory_completion d t o) e ∙ ap (λ (o : Option ℕ). completion_at d t op o) b)
+    f n ∙ sym (ap (λ (o : Option Op). memory_completion d t o) e ∙ ap (λ (o : Option ℕ). completion_at d t op o) b)
 
 -- ---- they are packets
 

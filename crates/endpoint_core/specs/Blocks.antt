@@ -8,6 +8,7 @@ use Rattle.tlp_core.specs.TlpView.{TlpView}
 use Rattle.op_pieces.specs.Pieces.{inner}
 use Rattle.endpoint_core.specs.declared.waiting.Waiting.{Waiting}
 use Rattle.endpoint_core.specs.declared.waiting.Waiting.TheVariants as waits
+use Rattle.endpoint_core.specs.Steps.{behind}
 
 -- the first so many DW of a read
 abbrev pub body_in_front : ℕ → Body → Body
@@ -35,10 +36,23 @@ CanAdvance n [] = Unit {0}
 CanAdvance n (waits.Memory t ∷ ws) = (n ≡ 0) ⊎ IsCut n t
 CanAdvance n (w ∷ ws) = n ≡ 0
 
--- a queue with another head
-abbrev pub with_head : Waiting → List Waiting → List Waiting
-with_head w [] = []
-with_head w (x ∷ ws) = w ∷ ws
+-- a part of it, if it is a memory request
+abbrev pub CanGoOn : ℕ → Waiting → Type 0
+CanGoOn n (waits.Memory t) = IsCut n t
+CanGoOn n w = Unit {0}
+
+-- what is left of it behind so many DW
+abbrev pub gone_on : ℕ → Waiting → Waiting
+gone_on n (waits.Memory t) = waits.Memory (behind n t)
+gone_on n w = w
+
+-- a memory request with a completion
+abbrev pub IsNonPosted : Kind → Type 0
+IsNonPosted kinds.MemoryRead = Unit {0}
+IsNonPosted kinds.FetchAdd = Unit {0}
+IsNonPosted kinds.Swap = Unit {0}
+IsNonPosted kinds.Cas = Unit {0}
+IsNonPosted _ = ⊥
 
 -- a completion with another Completer ID, Byte Count and Lower Address
 abbrev pub body_counted : ℕ → ℕ → ℕ → Body → Body

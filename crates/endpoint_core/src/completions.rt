@@ -15,7 +15,7 @@ use crate::requests::{BLOCK, in_front};
 use completer_core::answer_lent;
 use endpoint_packets::Descriptor;
 use seq_memory::ReplyData;
-use tlp_core::{Body, Header, Kind, Status, Tlp, TlpRef, op_lent};
+use tlp_core::{Body, Header, Kind, Status, TlpRef, op_lent};
 
 /// Where the memory of a device begins, and its Completer ID.
 #[derive(Clone, Copy)]
@@ -123,7 +123,7 @@ fn from<'r>(completion: TlpRef<'r>, completer: u16) -> TlpRef<'r>
 fn answer_front<'r>(
     place: Place,
     bytes: &mut [u8],
-    read: &Tlp,
+    read: &TlpRef<'_>,
     dw: u16,
     room: &'r mut ReplyData,
 ) -> Option<TlpRef<'r>>
@@ -132,7 +132,7 @@ fn answer_front<'r>(
     ensures completion { (op : Op) → op_of read.now ≡ Some op → result ≡ option_map (spec.from place.completer) (completion_of read.now (answer place.base 128 bytes.old (pieces.front dw op))) }
 {
     let completion = answer_lent(place.base, BLOCK, bytes, &in_front(dw, read), room)?;
-    let counts = counts_of(&read.lend())?;
+    let counts = counts_of(read)?;
     Some(counted(completion, place.completer, counts))
 }
 
@@ -140,7 +140,7 @@ fn answer_front<'r>(
 pub(crate) fn answer_first<'r>(
     place: Place,
     bytes: &mut [u8],
-    request: &Tlp,
+    request: &TlpRef<'_>,
     dw: u16,
     room: &'r mut ReplyData,
 ) -> Option<TlpRef<'r>>
@@ -151,7 +151,7 @@ pub(crate) fn answer_first<'r>(
     if dw != 0 {
         return answer_front(place, bytes, request, dw, room);
     }
-    let completion = answer_lent(place.base, BLOCK, bytes, &request.lend(), room)?;
+    let completion = answer_lent(place.base, BLOCK, bytes, request, room)?;
     Some(from(completion, place.completer))
 }
 

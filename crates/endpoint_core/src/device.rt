@@ -15,7 +15,7 @@ use endpoint_packets::Descriptor;
 use seq_memory::ReplyData;
 use std::alloc::{AllocError, Global};
 use std::marker::Model;
-use tlp_core::{Status, Tlp, TlpRef, op_lent};
+use tlp_core::{Status, TlpRef, op_lent};
 
 /// Room for a TLP that is read without its digest, and for the payload of a completion. What it holds counts for nothing.
 #[derive(Drop)]
@@ -32,6 +32,26 @@ impl Room {
             data: ReplyData::new(),
             word: [0; 4],
         }
+    }
+}
+
+/// What a request that waited did.
+#[derive(Drop)]
+pub(crate) struct Acted<'r> {
+    pub(crate) completion: Option<TlpRef<'r>>,
+    /// How many DW of it are done, if more are left, and else 0.
+    pub(crate) done: u16,
+}
+
+/// All of a request is done.
+#[inline(always)]
+fn whole<'r>(completion: Option<TlpRef<'r>>) -> Acted<'r>
+    ensures completion { result.completion ≡ completion.entry }
+    ensures done { result.done ≡ 0 }
+{
+    Acted {
+        completion,
+        done: 0,
     }
 }
 
@@ -149,38 +169,11 @@ impl Device {
         true
     }
 
-    /// How many DW of a memory request are done when its first block acted, if more are left, and else 0.
-    fn memory_done(&self, request: &Tlp) -> u16
-        ensures value { result ≡ spec.memory_done self.now (op_of request.now) }
-        ensures cut { (result ≡ 0) ⊎ blocks.IsCut result request.now }
-    {
-        let lent = request.lend();
-        let Some(op) = op_lent(&lent) else {
-            return 0;
-        };
-        if self.base_for(op.address(), op.size()).is_none() {
-            return 0;
-        }
-        dw_in_front(&op.form())
-    }
-
-    /// The same of any request that waits.
-    pub(crate) fn done_by(&self, request: &Waiting) -> u16
-        ensures value { result ≡ spec.done_by self.now request.now }
-        ensures advances { (ws : List Waiting) → blocks.CanAdvance result (request.now ∷ ws) }
-    {
-        match request {
-            Waiting::Memory(tlp) => self.memory_done(tlp),
-            _ => 0,
-        }
-    }
-
     /// How many bytes of data the completion of a memory request's first block has.
-    fn memory_data(&self, request: &Tlp) -> u16
+    fn memory_data(&self, request: &TlpRef<'_>) -> u16
         ensures { result ≡ spec.memory_data self.now (op_of request.now) }
     {
-        let lent = request.lend();
-        let Some(op) = op_lent(&lent) else {
+        let Some(op) = op_lent(request) else {
             return 0;
         };
         if self.base_for(op.address(), op.size()).is_none() {
@@ -194,27 +187,34 @@ impl Device {
         ensures { result ≡ spec.data_by self.now request.now }
     {
         match request {
-            Waiting::Memory(tlp) => self.memory_data(tlp),
+            Waiting::Memory(asked) => self.memory_data(&asked.lend()),
             Waiting::Configuration(asked) if is_supported(asked) && !asked.writes => 4,
             _ => 0,
         }
     }
 
     /// The first block of a memory request acts, if it is claimed.
-    fn act_memory<'r>(&mut self, request: &Tlp, room: &'r mut ReplyData) -> Option<TlpRef<'r>>
+    #[tactic(auto, using(crate::proofs::Replies::done_is, crate::proofs::Parts::cut_of))]
+    fn act_memory<'r>(&mut self, request: &TlpRef<'_>, room: &'r mut ReplyData) -> Acted<'r>
         ensures state { self.new ≡ spec.memory_acted self.old (op_of request.now) }
-        ensures completion { result ≡ spec.memory_completion self.old request.now (op_of request.now) }
+        ensures completion { result.completion ≡ spec.memory_completion self.old request.now (op_of request.now) }
+        ensures done { result.done ≡ spec.memory_done self.old (op_of request.now) }
+        ensures cut { (result.done ≡ 0) ⊎ blocks.IsCut result.done request.now }
     {
-        let dw = self.memory_done(request);
-        let lent = request.lend();
-        let op = op_lent(&lent)?;
+        let Some(op) = op_lent(request) else {
+            return whole(None);
+        };
         let completer = self.completer;
         let Some(base) = self.base_for(op.address(), op.size()) else {
             self.note(Noted::UnsupportedRequest);
-            return refused(&lent, completer);
+            return whole(refused(request, completer));
         };
+        let done = dw_in_front(&op.form());
         let place = Place { base, completer };
-        answer_first(place, &mut self.bytes, request, dw, room)
+        Acted {
+            completion: answer_first(place, &mut self.bytes, request, done, room),
+            done,
+        }
     }
 
     /// A configuration request acts, if it is supported.
@@ -238,16 +238,20 @@ impl Device {
     }
 
     /// A request that waited acts, by one block if it is a memory request.
-    pub(crate) fn act<'r>(&mut self, request: &Waiting, room: &'r mut Room) -> Option<TlpRef<'r>>
+    pub(crate) fn act<'r>(&mut self, request: &Waiting, room: &'r mut Room) -> Acted<'r>
         ensures state { self.new ≡ spec.acted_by self.old request.now }
-        ensures completion { result ≡ spec.completion_by self.old request.now }
+        ensures completion { result.completion ≡ spec.completion_by self.old request.now }
+        ensures done { result.done ≡ spec.done_by self.old request.now }
+        ensures advances { (ws : List Waiting) → blocks.CanAdvance result.done (request.now ∷ ws) }
     {
         match request {
-            Waiting::Memory(tlp) => self.act_memory(tlp, &mut room.data),
-            Waiting::Configuration(asked) => Some(self.act_configuration(asked, &mut room.word)),
+            Waiting::Memory(asked) => self.act_memory(&asked.lend(), &mut room.data),
+            Waiting::Configuration(asked) => {
+                whole(Some(self.act_configuration(asked, &mut room.word)))
+            }
             Waiting::Refused(descriptor, error) => {
                 self.note(*error);
-                Some(without_data(*descriptor, self.completer, Status::Unsupported, 4))
+                whole(Some(without_data(*descriptor, self.completer, Status::Unsupported, 4)))
             }
         }
     }

@@ -5,8 +5,7 @@ ghost use Rattle.endpoint_core.specs.Steps as spec;
 ghost use Rattle.endpoint_core.specs.Blocks as blocks;
 
 use crate::device::{Device, Room};
-use crate::requests::behind;
-use crate::waiting::Waiting;
+use crate::waiting::{MemoryRequest, Waiting, go_on};
 use config_space::{Noted, Setup};
 use endpoint_packets::{Malformed, Received, receive};
 use fc_credit::Need;
@@ -47,17 +46,8 @@ impl Model for Endpoint {
     ghost view = { λ e. record { device = e.device; waiting = e.waiting.items } };
 }
 
-/// Puts another request in place of the head.
-fn put_head(waiting: &mut VecDeque<Waiting>, head: Waiting)
-    ensures { waiting.new.items ≡ blocks.with_head head waiting.old.items }
-{
-    if let Some(place) = waiting.get_mut(0) {
-        *place = head;
-    }
-}
-
 /// So many DW of the head are done, or all of it where they are 0.
-#[tactic(auto, using(crate::proofs::Heads::head_put))]
+#[tactic(auto, using(crate::proofs::Heads::can_go_on, crate::proofs::Heads::head_gone_on))]
 fn advance(waiting: &mut VecDeque<Waiting>, dw: u16)
     requires { blocks.CanAdvance dw waiting.old.items }
     ensures { waiting.new.items ≡ spec.advanced dw waiting.old.items }
@@ -66,9 +56,8 @@ fn advance(waiting: &mut VecDeque<Waiting>, dw: u16)
         let _ = waiting.pop_front();
         return;
     }
-    if let Some(Waiting::Memory(read)) = waiting.front() {
-        let rest = Waiting::Memory(behind(dw, read));
-        put_head(waiting, rest);
+    if let Some(head) = waiting.get_mut(0) {
+        go_on(head, dw);
     }
 }
 
@@ -109,7 +98,9 @@ impl Endpoint {
                     Ok(Handled::Unsupported)
                 }
             }
-            Received::NonPosted(request) => self.wait(Waiting::Memory(request.to_owned())),
+            Received::NonPosted(request) => {
+                self.wait(Waiting::Memory(MemoryRequest::of(&request)))
+            }
             Received::Configuration(request) => self.wait(Waiting::Configuration(request)),
             Received::Refused(descriptor, error) => {
                 self.wait(Waiting::Refused(descriptor, error))
@@ -134,10 +125,9 @@ impl Endpoint {
         ensures completion { result ≡ spec.next_completion self.old }
     {
         let head = self.waiting.front()?;
-        let dw = self.device.done_by(head);
-        let completion = self.device.act(head, room);
-        advance(&mut self.waiting, dw);
-        completion
+        let acted = self.device.act(head, room);
+        advance(&mut self.waiting, acted.done);
+        acted.completion
     }
 
     /// What the completion that would come next takes of the credits; none if nothing waits. Takes no memory.

@@ -15,4 +15,4 @@ mod waiting;
 
 pub use device::Room;
 pub use endpoint::{Endpoint, Handled};
-pub use waiting::Waiting;
+pub use waiting::{MemoryRequest, Waiting};

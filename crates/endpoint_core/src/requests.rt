@@ -10,7 +10,7 @@ ghost use Rattle.endpoint_core.specs.Blocks as blocks;
 use op_pieces::{back, dw_of, dw_to, front};
 use seq_memory::laws::refused_and_read_change_nothing;
 use seq_memory::{ReplyData, perform_lent};
-use tlp_core::{Body, Header, OpForm, OpRef, Tlp, TlpRef};
+use tlp_core::{Body, Header, OpForm, OpRef, TlpRef};
 
 /// The bytes of a block: a memory request is divided at multiples of them.
 pub(crate) const BLOCK: u16 = 128;
@@ -108,25 +108,23 @@ fn body_in_front(dw: u16, body: Body) -> Body
 }
 
 /// The first so many DW of a read.
-pub(crate) fn in_front<'r>(dw: u16, read: &'r Tlp) -> TlpRef<'r>
+pub(crate) fn in_front<'r>(dw: u16, read: &TlpRef<'r>) -> TlpRef<'r>
     requires { blocks.IsCut dw read.now }
     ensures { result ≡ blocks.in_front dw read.now }
 {
+    let header = read.header;
     TlpRef {
         header: Header {
-            kind: read.kind,
-            tc: read.tc,
-            attr: read.attr,
             length: dw,
-            requester: read.requester,
-            tag: read.tag,
-            body: body_in_front(dw, read.body),
+            body: body_in_front(dw, header.body),
+            ..header
         },
-        payload: read.payload.as_slice(),
+        payload: read.payload,
     }
 }
 
-fn body_behind(dw: u16, all: u16, body: Body) -> Body
+/// What is left of a read's body behind so many DW.
+pub(crate) fn body_behind(dw: u16, all: u16, body: Body) -> Body
     requires fewer { dw < all }
     requires fits { blocks.EndsInRange body all }
     ensures { result ≡ spec.body_behind dw all body }
@@ -142,24 +140,4 @@ fn body_behind(dw: u16, all: u16, body: Body) -> Body
         }
         other => other,
     }
-}
-
-/// All but the first so many DW of a read.
-pub(crate) fn behind(dw: u16, read: &Tlp) -> Tlp
-    requires { blocks.IsCut dw read.now }
-    ensures { result ≡ spec.behind dw read.now }
-{
-    let rest = TlpRef {
-        header: Header {
-            kind: read.kind,
-            tc: read.tc,
-            attr: read.attr,
-            length: read.length - dw,
-            requester: read.requester,
-            tag: read.tag,
-            body: body_behind(dw, read.length, read.body),
-        },
-        payload: read.payload.as_slice(),
-    };
-    rest.to_owned()
 }

@@ -1,2 +1,4 @@
 pub mod Logging
 pub mod Reading
+pub mod Recording
+pub mod Telling

@@ -4,6 +4,7 @@
 //! next completion, `reset`, and `trace` for what the memory did. Any other line is a fault, which changes nothing.
 #![tactic(auto)]
 
+pub mod laws;
 mod lines;
 mod options;
 mod reasons;

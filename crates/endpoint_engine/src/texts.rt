@@ -13,6 +13,7 @@ use std::alloc::AllocError;
 use tlp_core::{MAX_TLP, TlpRef, encode_lent};
 
 /// Adds both texts, or nothing.
+#[inline(always)]
 fn put(first: &[u8], second: &[u8], out: &mut Vec<u8>) -> Result<(), AllocError>
     ensures ok { OnOk result (out.new.items ≡ out.old.items ++ (first.now ++ second.now)) }
     ensures err { OnErr result (out.new.items ≡ out.old.items) }

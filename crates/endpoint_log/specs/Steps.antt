@@ -55,6 +55,11 @@ abbrev pub posted_by : DeviceView → LogView → Option Op → LogView
 posted_by d l None = l
 posted_by d l (Some op) = posted_at op l (device.base_of_op d op)
 
+-- a posted request
+abbrev pub IsPosted : Received → Type 0
+IsPosted (received.Posted t) = Unit {0}
+IsPosted _ = ⊥
+
 -- a TLP comes
 abbrev pub came : DeviceView → Received → LogView → LogView
 came d (received.Posted t) l = posted_by d l (op_of t)

@@ -1,5 +1,5 @@
 //! What the memory of a device is asked, answers and does, block request by block request.
-ghost use Rattle.std.specs.Prelude.{◌≡◌, ◌+◌, ◌≤◌, ◌^◌, fold, IfOk, OnOk};
+ghost use Rattle.std.specs.Prelude.{◌≡◌, ◌+◌, ◌≤◌, ◌^◌, fold, IfOk, IsErr, OnOk};
 ghost use Rattle.tlp_core.specs.Lent.{owned, HasSizes};
 ghost use Rattle.tlp_core.specs.Operation.{address_of, count_of, op_of};
 ghost use Rattle.op_pieces.specs.Pieces.{dw_of, cut};
@@ -147,7 +147,8 @@ impl Log {
         tlp: &[u8],
         room: &mut Room,
     ) -> Result<(), AllocError>
-        ensures { OnOk result (self.new ≡ spec.came endpoint.now.device (becomes tlp.now) self.old) }
+        ensures ok { OnOk result (self.new ≡ spec.came endpoint.now.device (becomes tlp.now) self.old) }
+        ensures err { IsErr result → spec.IsPosted (becomes tlp.now) }
     {
         match receive(tlp, room) {
             Received::Posted(request) => self.come_posted(endpoint, &request),

@@ -1,4 +1,4 @@
 use Rattle.c_endpoint.proofs.calls.copy_bytes.Given as goal
 
 abbrev pub ghost-open : goal.ghost-open
-ghost-open g a = g.endpoint
+ghost-open g a = g.session

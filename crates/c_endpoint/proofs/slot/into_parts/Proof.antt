@@ -46,8 +46,8 @@ module _ {M : Type 1} {𝓤 : Ura M} (𝓛 : Logic 𝓤) (at_mem : Memory → SP
       let v : D E = record { ptr = slot.at; alloc = slot.alloc; value = m } in
       let To = type_at (F.signature).result tt in
       let made : To.Denot = record { ptr = v.ptr; alloc = v.alloc; value = v.value } in
-      qed 𝓛 ((‵ ftrue ⊛ ‵ (fsep (held.the_row.own_val slot z.0.4.0) ftrue)) ∷ raw (fact 𝓤 (slot.endpoint ≡ Some m)) ∷ []) ∵ move ! (1 ∷ []) $ heard ! (slot.endpoint ≡ Some m) (λ em. split ! $ drop ! $ fsplit ! $
-      rewrite ! 0 (λ (o : Option (E.row.Denot)). ‵ (held.the_row.own_val (record { at = slot.at; alloc = slot.alloc; endpoint = o }) z.0.4.0)) em refl $ use1 𝓛 (‵ ((B E).own_val v z.0.4.0)) (id⊢ 𝓤 _) $
+      qed 𝓛 ((‵ ftrue ⊛ ‵ (fsep (held.the_row.own_val slot z.0.4.0) ftrue)) ∷ raw (fact 𝓤 (slot.session ≡ Some m)) ∷ []) ∵ move ! (1 ∷ []) $ heard ! (slot.session ≡ Some m) (λ em. split ! $ drop ! $ fsplit ! $
+      rewrite ! 0 (λ (o : Option (E.row.Denot)). ‵ (held.the_row.own_val (record { at = slot.at; alloc = slot.alloc; session = o }) z.0.4.0)) em refl $ use1 𝓛 (‵ ((B E).own_val v z.0.4.0)) (id⊢ 𝓤 _) $
       box_out E ! v z.0.4.0 (λ b o hv e ws fa. box_in E ! v b o v.value e refl $ use1 𝓛 (‵ (To.own_val made (word E hv b o ∷ []))) (id⊢ 𝓤 _) $ move ! (1 ∷ 2 ∷ []) $ drop ! $ drop ! $
       let w = word E hv b o in
       let Γ : List (Item 𝓤) = ‵ (To.own_val made (w ∷ [])) ∷ [] in

@@ -1,4 +1,4 @@
 use Rattle.c_endpoint.proofs.slot.open.Given as goal
 
 abbrev pub ghost-into_parts : goal.ghost-into_parts
-ghost-into_parts g a = g.endpoint
+ghost-into_parts g a = g.session

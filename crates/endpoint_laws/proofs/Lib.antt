@@ -1,0 +1,12 @@
+pub mod Lists
+pub mod Growing
+pub mod State
+pub mod Registers
+pub mod Coming
+pub mod Served
+pub mod Claimed
+pub mod Logging
+pub mod Traced
+pub mod Told
+pub mod Facts
+pub mod Running
