@@ -2,6 +2,7 @@
 #include "../pciex.h"
 
 #include <stdio.h>
+#include <string.h>
 
 static pciex_endpoint endpoint = PCIEX_NONE;
 
@@ -42,22 +43,30 @@ static int refuses(void)
     const uint8_t read[12] = {0x04, 0, 0, 1, 0, 8, 1, 0x0F, 1, 0, 0, 0};
     uint8_t room[4096];
     pciex_endpoint e = PCIEX_NONE;
-    int right = pciex_endpoint_new(4096, 0x1234, 0x7C1E, NULL) == PCIEX_NULL &&
+    size_t length = 7;
+    int right = pciex_endpoint_new(4096, 0x1234, 0x7C1E, true, NULL) == PCIEX_NULL &&
                 pciex_endpoint_tlp(&e, read, sizeof read) == PCIEX_EMPTY &&
                 pciex_endpoint_next(&e, room, sizeof room) == PCIEX_EMPTY && pciex_endpoint_reset(&e) == PCIEX_EMPTY &&
-                pciex_endpoint_bytes(&e, room, sizeof room) == PCIEX_EMPTY;
+                pciex_endpoint_bytes(&e, room, sizeof room) == PCIEX_EMPTY &&
+                pciex_endpoint_trace(&e, room, sizeof room, &length) == PCIEX_EMPTY &&
+                pciex_endpoint_trace(NULL, room, sizeof room, &length) == PCIEX_NULL &&
+                pciex_endpoint_trace(&e, NULL, 0, &length) == PCIEX_NULL &&
+                pciex_endpoint_trace(&e, room, sizeof room, NULL) == PCIEX_NULL && length == 7;
     for (size_t i = 0; i < sizeof wrong / sizeof *wrong; i++) {
-        right = right && pciex_endpoint_new(wrong[i], 0x1234, 0x7C1E, &e) == PCIEX_WRONG_SIZE && e.at == NULL;
+        right = right && pciex_endpoint_new(wrong[i], 0x1234, 0x7C1E, true, &e) == PCIEX_WRONG_SIZE && e.at == NULL;
     }
-    right = right && pciex_endpoint_new(4096, 0x1234, 0x7C1E, &e) == 0 &&
-            pciex_endpoint_new(4096, 0x1234, 0x7C1E, &e) == PCIEX_HELD &&
+    right = right && pciex_endpoint_new(4096, 0x1234, 0x7C1E, false, &e) == 0 &&
+            pciex_endpoint_new(4096, 0x1234, 0x7C1E, false, &e) == PCIEX_HELD &&
             pciex_endpoint_tlp(&e, NULL, 0) == PCIEX_NULL && pciex_endpoint_next(&e, NULL, 144) == PCIEX_NULL &&
             pciex_endpoint_tlp(&e, read, sizeof read) == PCIEX_TLP_ACCEPTED &&
             pciex_endpoint_next(&e, room, PCIEX_PACKET - 1) == PCIEX_SMALL_ROOM &&
             pciex_endpoint_next(&e, room, PCIEX_PACKET) == 16 && room[12] == 0x34 && room[15] == 0x7C &&
             pciex_endpoint_next(&e, room, PCIEX_PACKET) == 0 &&
             pciex_endpoint_bytes(&e, room, 4095) == PCIEX_SMALL_ROOM && room[12] == 0x34 &&
-            pciex_endpoint_bytes(&e, room, sizeof room) == 0 && room[12] == 0;
+            pciex_endpoint_bytes(&e, room, sizeof room) == 0 && room[12] == 0 &&
+            pciex_endpoint_trace(&e, room, 43, &length) == PCIEX_SMALL_ROOM && length == 44 && room[0] == 0 &&
+            pciex_endpoint_trace(&e, room, 44, &length) == 0 && length == 44 &&
+            memcmp(room, "pciex-trace 2\nmemory 0 4096 128\nhistory\nend\n", 44) == 0 && room[44] == 0;
     pciex_endpoint_free(&e);
     pciex_endpoint_free(&e);
     return right && e.at == NULL;
@@ -65,8 +74,9 @@ static int refuses(void)
 
 int main(void)
 {
-    uint8_t bytes[4096];
-    if (!refuses() || pciex_endpoint_new(4096, 0x1234, 0x7C1E, &endpoint) != 0) {
+    uint8_t bytes[4096], verdict[PCIEX_LINE];
+    size_t length = 0;
+    if (!refuses() || pciex_endpoint_new(4096, 0x1234, 0x7C1E, true, &endpoint) != 0) {
         return 1;
     }
     CFG_READ("Vendor ID, Device ID", 0x63, 0x00);
@@ -87,6 +97,10 @@ int main(void)
     CFG_READ("Device Status", 0x71, 0x58);
     if (pciex_endpoint_bytes(&endpoint, bytes, sizeof bytes) == 0) {
         printf("at 7Ch: %02X%02X%02X%02X %02X\n", bytes[0x7C], bytes[0x7D], bytes[0x7E], bytes[0x7F], bytes[0x80]);
+    }
+    if (pciex_endpoint_trace(&endpoint, bytes, sizeof bytes, &length) == 0) {
+        printf("%.*s%s\n", (int)length, (const char *)bytes,
+               pciex_check_clocked(bytes, length, verdict, sizeof verdict) == 0 ? "ok" : "another history");
     }
     pciex_endpoint_reset(&endpoint);
     CFG_READ("BAR 0 after a reset", 0x73, 0x10);

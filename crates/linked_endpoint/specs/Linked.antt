@@ -1,5 +1,5 @@
 -- What each call does to a device and its end of a link.
-use Rattle.std.specs.Prelude.{ℕ, ◌&&◌, Bool, true, false, nat_lt, if◌then◌else◌, List, [], ◌∷◌, ◌++◌, length, drop, Option, Some, None, is_none}
+use Rattle.std.specs.Prelude.{ℕ, ◌≡◌, ◌⊎◌, ◌&&◌, Bool, true, false, nat_lt, if◌then◌else◌, List, [], ◌∷◌, ◌++◌, length, drop, Option, Some, None, is_none}
 use Rattle.tlp_core.specs.TlpView.{TlpView}
 use Rattle.fc_credit.specs.declared.needs.Need.{Need}
 use Rattle.fc_credit.specs.declared.limits.LaneCredits.{LaneCredits}
@@ -137,3 +137,10 @@ entered_with l (Some t) = record l { port = port.after_enter l.port t; held = No
 
 abbrev pub entered : LinkedView → LinkedView
 entered l = entered_with l l.held
+
+abbrev pub with_held : LinkedView → Option TlpView → LinkedView
+with_held l c = record l { held = c }
+
+-- the completion that is held has entered, unless it was refused
+abbrev pub IsHeldOrEntered : LinkedView → LinkedView → Type 0
+IsHeldOrEntered l new = (new ≡ l) ⊎ ((refusal_of l ≡ None) × (new ≡ entered l))

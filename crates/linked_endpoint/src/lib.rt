@@ -9,4 +9,4 @@ mod laws;
 mod linked;
 
 pub use laws::each_accepted_request_acts_once;
-pub use linked::{Arrived, LinkedEndpoint};
+pub use linked::{Arrived, LinkedEndpoint, tlp_in};

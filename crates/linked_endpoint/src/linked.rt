@@ -19,7 +19,7 @@ use port_core::{
 use std::alloc::{AllocError, Global};
 use std::collections::VecDeque;
 use std::marker::Model;
-use tlp_core::Tlp;
+use tlp_core::{Tlp, TlpRef};
 
 /// What became of a packet that arrived.
 #[derive(Clone, Copy, Debug, PartialEq, Eq)]
@@ -68,8 +68,8 @@ fn foreseen(port: &LinkPort, packet: &[u8], good: bool) -> Received
     incoming.receive(packet, good)
 }
 
-/// The TLP of a packet.
-fn tlp_in(packet: &[u8]) -> &[u8]
+/// The TLP of a packet, behind its sequence number.
+pub fn tlp_in(packet: &[u8]) -> &[u8]
     ensures { result.now ≡ packets.tlp_in packet.now }
 {
     if packet.len() < 2 {
@@ -179,6 +179,26 @@ impl LinkedEndpoint {
         &self.endpoint
     }
 
+    /// The completion that is held until it may enter the replay buffer.
+    pub fn held(&self) -> Option<TlpRef<'_>>
+        ensures { result ≡ self.now.held }
+    {
+        match &self.held {
+            Some(completion) => Some(completion.lend()),
+            None => None,
+        }
+    }
+
+    /// Whether a packet that arrives now is accepted within its credits, so that its TLP goes to the device.
+    pub fn would_take(&self, packet: &[u8], good: bool) -> bool
+        ensures { result ≡ spec.is_taken (link.received self.now.port packet.now good) }
+    {
+        match foreseen(&self.port, packet, good) {
+            Received::Accepted { overflows, .. } => !overflows,
+            Received::Dropped | Received::Duplicate | Received::NakNow | Received::Quiet => false,
+        }
+    }
+
     /// An accepted packet, whose TLP goes to the device.
     fn accept(
         &mut self,
@@ -234,7 +254,7 @@ impl LinkedEndpoint {
     }
 
     /// Whether a request waits whose next completion may enter the replay buffer, and no other completion is held.
-    fn may_act(&self) -> bool
+    pub fn may_act(&self) -> bool
         ensures { result ≡ spec.may_act self.now }
     {
         if self.held.is_some() {
@@ -312,6 +332,32 @@ impl LinkedEndpoint {
                 return;
             }
         }
+    }
+
+    /// The completion enters the replay buffer. If it is refused, it is held.
+    fn enter_or_hold(&mut self, completion: &Option<TlpRef<'_>>)
+        ensures { spec.IsHeldOrEntered (spec.with_held self.old completion.now) self.new }
+    {
+        self.held = match completion {
+            Some(completion) if self.port.enter(completion).is_err() => Some(completion.to_owned()),
+            _ => None,
+        };
+    }
+
+    /// The oldest request that waits acts, and its completion enters the replay buffer at once. It is held only if there is no
+    /// memory for it. With its last completion the request's credits go back. The completion that came.
+    pub fn complete<'r>(&mut self, room: &'r mut Room) -> Option<TlpRef<'r>>
+        requires { spec.may_act self.old ≡ true }
+        ensures completion { result ≡ device.next_completion self.old.endpoint }
+        ensures state { spec.IsHeldOrEntered (spec.acted self.old) self.new }
+    {
+        let waited = self.endpoint.waiting();
+        let completion = self.endpoint.act(room);
+        if self.endpoint.waiting() < waited {
+            self.give_back();
+        }
+        self.enter_or_hold(&completion);
+        completion
     }
 
     /// Fills `out` with what is sent next, if anything is, in the order of [`LinkPort::next`].

@@ -1,0 +1,21 @@
+-- A session's box, its parts and a slot as rows.
+use mir.Syntax.{impl, tnil, dnil}
+use mathlib.Core.List.{[]}
+use denote.Signature.{Slot, plain}
+use Rattle.std_alloc.proofs.BoxSteps.Form.{Bx}
+use Rattle.std_heap.specs.contracts.Global as Heap
+use Rattle.std_heap.specs.contracts.GlobalAllocator.TheImpl.{ghosts, dict}
+use Rattle.std_heap.proofs.Global.TheLaws as heap
+use Rattle.c_linked.specs.contracts.session.Session as Held
+use Rattle.c_linked.proofs.session.Session.TheLaws as laws
+use Rattle.c_box.specs.contracts.Parts as Parts
+use Rattle.c_linked.specs.contracts.slot.Slot as held
+
+abbrev pub E : Bx
+E = record { row = Held.the_row; laws = laws.the_row_laws; al = record { row = Heap.the_row; laws = heap.the_row_laws; g = ghosts; d = dict; drops = impl [] tnil dnil } }
+
+abbrev pub FromParts : Slot 0
+FromParts = plain (λ _. Parts.the_row Held.the_row Heap.the_row ghosts)
+
+abbrev pub FromSlot : Slot 0
+FromSlot = plain (λ _. held.the_row)

@@ -1,0 +1,5 @@
+pub mod Arriving
+mod AsBox
+mod Kept
+pub mod Traced
+pub mod Turns

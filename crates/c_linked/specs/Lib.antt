@@ -1,0 +1,8 @@
+pub mod SessionView
+pub mod Traces
+pub mod Slot
+pub mod Making
+pub mod Calls
+pub use Rattle.c_buffer.specs.Buffer
+pub use Rattle.c_recording.specs.Recordings
+pub use Rattle.linked_endpoint.specs.Runs

@@ -1,0 +1,6 @@
+pub mod Checking
+pub mod Coming
+pub mod Groups
+pub mod Logging
+pub mod Reading
+pub mod Turning

@@ -1,0 +1,43 @@
+use Rattle.std.proofs.Common.{ℕ, List, [], Option, Some, None, Result, Ok, Err, IfSome, OnErr, sym, refl}
+use Rattle.std.proofs.lemmas.List.{append-nil}
+use Rattle.std.proofs.lemmas.Result.{err_from_is_err_and}
+use Rattle.std.specs.Io.KnownBytes.{Appends, Consumes}
+use Rattle.line_loop.specs.Run.{Run, IsBeginning, IsPart}
+use Rattle.linked_engine.specs.Lines.{out_linked}
+use Rattle.linked_engine.proofs.lines.run_linked_with_reasons.Goals as goal
+
+-- nothing read and nothing written
+nothing-done : {S : Type 0} (run : List ℕ → Run S) (u w : Option (List ℕ)) → IsPart run u u w w
+nothing-done run u w = record {
+  read = [];
+  done = [];
+  consumed = consumes u;
+  written = appends w;
+  begins = ((run []).text, refl);
+  begins_all = all u;
+}
+  where
+    consumes : (u : Option (List ℕ)) → Consumes u u []
+    consumes None = tt
+    consumes (Some xs) = refl
+
+    appends : (w : Option (List ℕ)) → Appends w w []
+    appends None = tt
+    appends (Some xs) = sym (append-nil xs)
+
+    all : (u : Option (List ℕ)) → IfSome u (λ input. IsBeginning [] (run input).text)
+    all None = tt
+    all (Some input) = ((run input).text, refl)
+
+on_err : {T E P : Type 0} (r : Result T E) → P → OnErr r P
+on_err (Ok x) p = tt
+on_err (Err e) p = p
+
+pub returns-in_err-device-clause-err : goal.returns-in_err-device-clause-err
+returns-in_err-device-clause-err g c =
+    on_err c.from_residual.result (nothing-done (out_linked c.args.options.device.setup c.args.options.credits c.args.options.has_crc c.args.options.device.is_traced) (g.R.Read.remaining c.args.reader.now) (g.W.Write.contents c.args.writer.now))
+
+pub returns-in_err-device-clause-read : goal.returns-in_err-device-clause-read
+returns-in_err-device-clause-read g c =
+    let p = err_from_is_err_and c.from_residual.result c.from_residual.ensures.1 in
+    rw (p.1, p.2) (λ is. absurd (cc is))

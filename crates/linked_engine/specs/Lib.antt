@@ -1,0 +1,4 @@
+pub mod Credits
+pub mod Texts
+pub mod Crcs
+pub mod Lines
