@@ -99,7 +99,7 @@ has_tool() {
     return 1
 }
 
-for name in device history fabric script check search fields differ monitor crc endpoint; do
+for name in device history fabric script check search fields differ monitor crc endpoint linked; do
     if ! cc -Wall -Wextra -Werror -std=c99 -O2 -o "$room/$name" c/examples/$name.c "$folder/libpciex_c.a" "$kit/liblibc_c.a"; then
         say "examples/$name.c isn't compiled and linked"
         exit 1
@@ -123,6 +123,7 @@ examples() {
     wants "crc" 0 c/examples/crc.out /dev/null "$@" "$room/crc"
     wants "monitor" 0 c/examples/monitor.out /dev/null "$@" "$room/monitor"
     wants "endpoint" 0 c/examples/endpoint.out /dev/null "$@" "$room/endpoint"
+    wants "linked" 0 c/examples/linked.out /dev/null "$@" "$room/linked"
     wants "fabric on lost_ack.txt" 0 examples/lost_ack.out examples/lost_ack.txt "$@" "$room/fabric"
     [ $# -gt 0 ] || tells "fabric on lost_ack.txt" "2 in the history, quiet, explained"
     for name in first_script write_passes_read credits stopped_link; do
@@ -206,21 +207,26 @@ elif has_tool valgrind "$under"; then
     examples valgrind -q --error-exitcode=99 --leak-check=full
 fi
 
-# An endpoint under a root complex apart from the library, with each allocation refused, and as lspci sees it.
-# endpoint_test NAME WORD..: compiles endpoint/NAME.c, linked with these words, and runs it.
+# An endpoint under a root complex apart from the library, with each allocation refused, and as lspci sees it; and one behind
+# its link, under a peer with a data link layer of its own, and under one that breaks the rules.
+# endpoint_test FOLDER NAME WORD..: compiles FOLDER/NAME.c, linked with these words, and runs it; a shorter run under valgrind.
 endpoint_test() {
-    name=$1
-    shift
-    passes "endpoint/$name.c isn't compiled and linked" cc -Wall -Wextra -Werror -std=c99 -O2 -o "$room/$name" \
-        "c/endpoint/$name.c" "$folder/libpciex_c.a" "$kit/liblibc_c.a" "$@"
-    wants "$name" 0 "c/endpoint/$name.out" /dev/null "$room/$name"
-    [ -z "$valgrind" ] || wants "$name under valgrind" 0 "c/endpoint/$name.out" /dev/null \
-        valgrind -q --error-exitcode=99 --leak-check=full "$room/$name"
+    test=$1-$2 source=c/$1/$2
+    shift 2
+    passes "$source.c isn't compiled and linked" cc -Wall -Wextra -Werror -std=c99 -O2 -o "$room/$test" "$source.c" \
+        "$folder/libpciex_c.a" "$kit/liblibc_c.a" "$@"
+    wants "$source.c" 0 "$source.out" /dev/null "$room/$test"
+    [ -z "$valgrind" ] || wants "$source.c under valgrind" 0 "$source.out" /dev/null \
+        valgrind -q --error-exitcode=99 --leak-check=full "$room/$test" 20000
 }
-endpoint_test root_complex
-endpoint_test refused_memory -Wl,--wrap=malloc,--wrap=calloc,--wrap=realloc,--wrap=posix_memalign
+refusing=-Wl,--wrap=malloc,--wrap=calloc,--wrap=realloc,--wrap=posix_memalign
+endpoint_test endpoint root_complex
+endpoint_test endpoint refused_memory $refusing
+endpoint_test linked peer
+endpoint_test linked broken_rules
+endpoint_test linked refused_memory $refusing
 if lspci --version 2> /dev/null | grep -q ' 3\.9'; then
-    "$room/root_complex" dump > "$room/registers"
+    "$room/endpoint-root_complex" dump > "$room/registers"
     wants "lspci on the registers" 0 c/endpoint/lspci.out /dev/null lspci -n -vvv -F "$room/registers"
 else
     left_out="$left_out, the registers of an endpoint (lspci 3.9)"
@@ -373,6 +379,10 @@ block bring-it-up.md "## A session in C" c > "$room/session.c"
 awk '/^## / { on = $0 == "## A session in C" } on && /^[0-9A-F]+$/' docs/bring-it-up.md > "$room/session.out"
 build_hook session.c cc -std=c99
 wants "the session of bring-it-up.md" 0 "$room/session.out" /dev/null "$room/session"
+block bring-it-up.md "## Behind a link, in C" c > "$room/link.c"
+awk '/^## / { on = $0 == "## Behind a link, in C" } on && /^(dllp|packet) [0-9A-F]+$/' docs/bring-it-up.md > "$room/link.out"
+build_hook link.c cc -std=c99
+wants "the link of bring-it-up.md" 0 "$room/link.out" /dev/null "$room/link"
 block qemu.md "## Your own emulator" c > "$room/emulator.c"
 build_hook emulator.c cc -std=gnu11 -Ic/qemu c/qemu/ports.c c/qemu/records.c
 echo 33445566 > "$room/emulator.out"

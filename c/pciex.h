@@ -4,7 +4,8 @@
  *
  * For C99 and C++. Link with libpciex_c.a, the library that `rt lib` builds of the proved crate `pciex_c` for Linux on
  * x86-64, and with liblibc_c.a of the toolchain, through which it calls malloc, realloc and free. A device without a
- * handle, packets and names take no memory. A history and a trace grow, until their device or fabric is freed.
+ * handle, packets and names take no memory. A history and a trace grow, until their device, fabric or endpoint is
+ * freed.
  *
  * Codes. Each call returns a number of 32 bits:
  *
@@ -13,14 +14,14 @@
  *                  of bytes of its text in the buffer
  *   from 2000 on   an argument that can't be right, or out of memory: one of the codes below
  *
- * From 1000 on nothing has changed, but for that text, for the lengths that pciex_fabric_trace, pciex_fabric_settled and
- * the searches return, for the events of a pciex_fabric_settle that ran out of memory, and for the lines that a
- * pciex_fabric_script did.
+ * From 1000 on nothing has changed, but for that text, for the lengths that pciex_fabric_trace, pciex_fabric_settled,
+ * pciex_endpoint_trace, pciex_linked_trace and the searches return, for the events of a pciex_fabric_settle that ran out
+ * of memory, and for the lines that a pciex_fabric_script did.
  *
  * Buffers. A result goes into a buffer of the caller: `room` points to its `room_length` bytes. The result is at the
  * front, is not ended by a zero, and what follows it stays as it was. PCIEX_PACKET bytes are always enough for a
- * completion, PCIEX_LINE for all else that isn't a whole memory or trace, and a call requires that many whatever its
- * result is.
+ * completion, PCIEX_LINK_PACKET for a packet of a link, PCIEX_LINE for all else that isn't a whole memory or trace, and a
+ * call requires that many whatever its result is.
  *
  * What can't be tested, and so is the caller's to keep:
  *
@@ -77,6 +78,8 @@ extern "C" {
 #define PCIEX_NO_REQUESTER 2011u
 /* A search has pieces of 4, 8, 16 or 64 bytes, or PCIEX_WHOLE. */
 #define PCIEX_WRONG_GRANULARITY 2012u
+/* The credits of an endpoint are outside the ranges of pciex_credits. */
+#define PCIEX_WRONG_CREDITS 2013u
 /* A pointer is null. */
 #define PCIEX_NULL 3000u
 /* The handle holds nothing. */
@@ -96,8 +99,9 @@ extern "C" {
 /* All 4,294,967,295 numbers of the requester are spent. */
 #define PCIEX_NUMBERS_USED 1024u
 
-/* The bytes of buffer that a completion requires, and a line. */
+/* The bytes of buffer that a completion requires, a packet of a link, and a line. */
 #define PCIEX_PACKET 144
+#define PCIEX_LINK_PACKET 146
 #define PCIEX_LINE 512
 
 /* What a handle is before it is given to a call that makes something. */
@@ -122,6 +126,24 @@ typedef struct pciex_monitor {
 typedef struct pciex_endpoint {
     void *at;
 } pciex_endpoint;
+
+/* An endpoint behind its end of a link. Made by pciex_linked_new, freed by pciex_linked_free. */
+typedef struct pciex_linked {
+    void *at;
+} pciex_linked;
+
+/*
+ * The credits that an endpoint advertises, in header units and in data units of 16 bytes. Those of completions are infinite,
+ * since it has no requests.
+ */
+typedef struct pciex_credits {
+    /* posted headers, 1 to 127, and data, 8 to 2047 */
+    uint8_t ph;
+    uint16_t pd;
+    /* non-posted headers, 1 to 127, and data, 2 to 2047 */
+    uint8_t nph;
+    uint16_t npd;
+} pciex_credits;
 
 /* The fields of a TLP, by pciex_decode_tlp. Those that its kind lacks are 0. */
 typedef struct pciex_tlp {
@@ -203,12 +225,31 @@ uint32_t pciex_raw_monitor_acted(pciex_monitor monitor, uint8_t requester, uint3
                                  size_t room_length, pciex_monitor *back);
 size_t pciex_raw_monitor_open(pciex_monitor monitor, pciex_monitor *back);
 void pciex_raw_monitor_free(pciex_monitor monitor);
-uint32_t pciex_raw_endpoint_new(size_t size, uint16_t vendor, uint16_t device, pciex_endpoint *endpoint);
+uint32_t pciex_raw_endpoint_new(size_t size, uint16_t vendor, uint16_t device, bool is_traced, pciex_endpoint *endpoint);
 uint32_t pciex_raw_endpoint_tlp(pciex_endpoint endpoint, const uint8_t *tlp, size_t length, pciex_endpoint *back);
 uint32_t pciex_raw_endpoint_next(pciex_endpoint endpoint, uint8_t *room, size_t room_length, pciex_endpoint *back);
 void pciex_raw_endpoint_reset(pciex_endpoint endpoint, pciex_endpoint *back);
 uint32_t pciex_raw_endpoint_bytes(pciex_endpoint endpoint, uint8_t *room, size_t room_length, pciex_endpoint *back);
+uint32_t pciex_raw_endpoint_trace(pciex_endpoint endpoint, uint8_t *room, size_t room_length, size_t *length,
+                                  pciex_endpoint *back);
 void pciex_raw_endpoint_free(pciex_endpoint endpoint);
+uint32_t pciex_raw_linked_new(size_t size, uint16_t vendor, uint16_t device, const pciex_credits *credits,
+                              bool is_traced, pciex_linked *linked);
+uint32_t pciex_raw_linked_packet(pciex_linked linked, const uint8_t *packet, size_t length, bool good,
+                                 pciex_linked *back);
+uint32_t pciex_raw_linked_dllp(pciex_linked linked, const uint8_t *dllp, size_t length, bool good, pciex_linked *back);
+uint32_t pciex_raw_linked_next(pciex_linked linked, uint8_t *room, size_t room_length, bool *is_dllp,
+                               pciex_linked *back);
+uint32_t pciex_raw_linked_status(pciex_linked linked, pciex_linked *back);
+void pciex_raw_linked_up(pciex_linked linked, pciex_linked *back);
+void pciex_raw_linked_down(pciex_linked linked, pciex_linked *back);
+void pciex_raw_linked_refresh(pciex_linked linked, pciex_linked *back);
+void pciex_raw_linked_replay(pciex_linked linked, pciex_linked *back);
+void pciex_raw_linked_retrained(pciex_linked linked, pciex_linked *back);
+uint32_t pciex_raw_linked_bytes(pciex_linked linked, uint8_t *room, size_t room_length, pciex_linked *back);
+uint32_t pciex_raw_linked_trace(pciex_linked linked, uint8_t *room, size_t room_length, size_t *length,
+                                pciex_linked *back);
+void pciex_raw_linked_free(pciex_linked linked);
 uint32_t pciex_raw_check(const uint8_t *text, size_t length, uint8_t *room, size_t room_length);
 uint32_t pciex_raw_check_clocked(const uint8_t *text, size_t length, uint8_t *room, size_t room_length);
 uint32_t pciex_raw_search(const uint8_t *text, size_t text_length, uint64_t limit, uint8_t *room, size_t room_length,
@@ -639,9 +680,11 @@ static inline void pciex_monitor_free(pciex_monitor *monitor)
 
 /*
  * Makes an endpoint in a handle that holds nothing, with that Vendor ID and Device ID. Its memory is `size` zeros, a power
- * of two from 4096 to 1,048,576, behind BAR 0. 0 if it is made; PCIEX_WRONG_SIZE, PCIEX_NO_MEMORY, tested in this order.
+ * of two from 4096 to 1,048,576, behind BAR 0. With `is_traced` it keeps a trace, which grows with each memory request. 0 if
+ * it is made; PCIEX_WRONG_SIZE, PCIEX_NO_MEMORY, tested in this order.
  */
-static inline uint32_t pciex_endpoint_new(size_t size, uint16_t vendor, uint16_t device, pciex_endpoint *endpoint)
+static inline uint32_t pciex_endpoint_new(size_t size, uint16_t vendor, uint16_t device, bool is_traced,
+                                          pciex_endpoint *endpoint)
 {
     if (!endpoint) {
         return PCIEX_NULL;
@@ -649,7 +692,7 @@ static inline uint32_t pciex_endpoint_new(size_t size, uint16_t vendor, uint16_t
     if (endpoint->at) {
         return PCIEX_HELD;
     }
-    return pciex_raw_endpoint_new(size, vendor, device, endpoint);
+    return pciex_raw_endpoint_new(size, vendor, device, is_traced, endpoint);
 }
 
 /*
@@ -709,12 +752,265 @@ static inline uint32_t pciex_endpoint_bytes(pciex_endpoint *endpoint, uint8_t *r
     return pciex_raw_endpoint_bytes(*endpoint, room, room_length, endpoint);
 }
 
+/*
+ * The text of the trace and the history of the endpoint's memory, as `pciex endpoint --trace` writes it; pciex_check_clocked
+ * judges it. 0, or PCIEX_SMALL_ROOM; `length` is the number of its bytes, in both cases. Or PCIEX_NO_MEMORY: `length` stays
+ * as it was. If memory for a record ran out in an earlier call, the trace is lost: it is PCIEX_NO_MEMORY from then on, and
+ * nothing else changes. An endpoint that keeps no trace has a text without records. The call allocates memory for the text
+ * while it runs.
+ */
+static inline uint32_t pciex_endpoint_trace(pciex_endpoint *endpoint, uint8_t *room, size_t room_length, size_t *length)
+{
+    if (!endpoint || !room || !length) {
+        return PCIEX_NULL;
+    }
+    if (!endpoint->at) {
+        return PCIEX_EMPTY;
+    }
+    return pciex_raw_endpoint_trace(*endpoint, room, room_length, length, endpoint);
+}
+
 /* Frees the endpoint; the handle holds nothing then. One that holds nothing stays as it is. */
 static inline void pciex_endpoint_free(pciex_endpoint *endpoint)
 {
     if (endpoint && endpoint->at) {
         pciex_raw_endpoint_free(*endpoint);
         endpoint->at = NULL;
+    }
+}
+
+/* ---- an endpoint behind its end of a link: packets and DLLPs in, packets and DLLPs out */
+
+/*
+ * A packet is its sequence number's two bytes and its TLP, a DLLP has four bytes; their CRCs, framing, link training and time
+ * are the caller's. `good` says whether a CRC was right. Requests act, and their completions enter the replay buffer, when
+ * a packet or a DLLP has arrived and at pciex_linked_refresh, as far as the peer's credits go.
+ */
+
+/* What became of a packet: it is accepted, and its TLP is as pciex_endpoint_tlp has it; or one of these. */
+/* It is accepted and discarded, since it needs more than the credits that were advertised: Receiver Overflow. */
+#define PCIEX_PACKET_OVERFLOW 5u
+/* It was accepted before; an Ack is due. */
+#define PCIEX_PACKET_DUPLICATE 6u
+/* It is discarded, and a Nak is due. */
+#define PCIEX_PACKET_NAK 7u
+/* It is discarded, and nothing is sent: a Nak was scheduled before. */
+#define PCIEX_PACKET_QUIET 8u
+/* It is discarded, since the link isn't up. */
+#define PCIEX_PACKET_DROPPED 9u
+
+/* What became of a DLLP. */
+/* It took effect. */
+#define PCIEX_DLLP_TOOK 0u
+/* It is discarded: its check failed, or it says nothing in this state of the link. */
+#define PCIEX_DLLP_GONE 1u
+/* It hasn't four bytes. */
+#define PCIEX_DLLP_SHORT 1001u
+/* Its type is none of a link with one virtual channel. The standard ignores it. */
+#define PCIEX_DLLP_KIND 1002u
+/* Its credits are scaled. */
+#define PCIEX_DLLP_SCALED 1003u
+/* The number of an Ack or Nak is neither ACKD_SEQ nor that of an unacknowledged packet: a Data Link Protocol Error. */
+#define PCIEX_DLLP_NOT_OUTSTANDING 1004u
+/* More than 127 headers or 2047 data units of a class would be unused: a Flow Control Protocol Error. */
+#define PCIEX_DLLP_CREDIT_LIMIT 1005u
+
+/* The state of a link: DL_Inactive; DL_Init in FC_INIT1 and in FC_INIT2; DL_Active. */
+#define PCIEX_LINK_INACTIVE 0u
+#define PCIEX_LINK_INIT1 1u
+#define PCIEX_LINK_INIT2 2u
+#define PCIEX_LINK_ACTIVE 3u
+/* DL_Active, and the fourth replay without progress has stopped the sender until pciex_linked_retrained. */
+#define PCIEX_LINK_STOPPED 4u
+
+/*
+ * Makes an endpoint as pciex_endpoint_new does, behind a link that is down, with these credits. 0 if it is made;
+ * PCIEX_WRONG_SIZE, PCIEX_WRONG_CREDITS, PCIEX_NO_MEMORY, tested in this order.
+ */
+static inline uint32_t pciex_linked_new(size_t size, uint16_t vendor, uint16_t device, const pciex_credits *credits,
+                                        bool is_traced, pciex_linked *linked)
+{
+    if (!credits || !linked) {
+        return PCIEX_NULL;
+    }
+    if (linked->at) {
+        return PCIEX_HELD;
+    }
+    return pciex_raw_linked_new(size, vendor, device, credits, is_traced, linked);
+}
+
+/*
+ * A packet arrives, whatever its bytes are. Returns one of PCIEX_TLP_ACCEPTED to PCIEX_TLP_MALFORMED for one that is
+ * accepted, or of PCIEX_PACKET_OVERFLOW to PCIEX_PACKET_DROPPED; or PCIEX_NO_MEMORY, for one that would be accepted: the
+ * packet is as if it was lost. A completion for which no memory can be allocated waits.
+ */
+static inline uint32_t pciex_linked_packet(pciex_linked *linked, const uint8_t *packet, size_t length, bool good)
+{
+    if (!linked || !packet) {
+        return PCIEX_NULL;
+    }
+    if (!linked->at) {
+        return PCIEX_EMPTY;
+    }
+    return pciex_raw_linked_packet(*linked, packet, length, good, linked);
+}
+
+/*
+ * A DLLP arrives, whatever its bytes are. Returns PCIEX_DLLP_TOOK or PCIEX_DLLP_GONE; or one of PCIEX_DLLP_SHORT to
+ * PCIEX_DLLP_CREDIT_LIMIT, and nothing has changed.
+ */
+static inline uint32_t pciex_linked_dllp(pciex_linked *linked, const uint8_t *dllp, size_t length, bool good)
+{
+    if (!linked || !dllp) {
+        return PCIEX_NULL;
+    }
+    if (!linked->at) {
+        return PCIEX_EMPTY;
+    }
+    return pciex_raw_linked_dllp(*linked, dllp, length, good, linked);
+}
+
+/*
+ * What is to be sent next: a Nak or an Ack, InitFCs, UpdateFCs, then packets of the replay buffer. Below 1000: the number of
+ * its bytes, which are in the buffer, and `is_dllp` says whether it is a DLLP; 0 if nothing is to be sent. Call it until it
+ * returns 0. PCIEX_SMALL_ROOM for fewer than PCIEX_LINK_PACKET bytes.
+ */
+static inline uint32_t pciex_linked_next(pciex_linked *linked, uint8_t *room, size_t room_length, bool *is_dllp)
+{
+    if (!linked || !room || !is_dllp) {
+        return PCIEX_NULL;
+    }
+    if (!linked->at) {
+        return PCIEX_EMPTY;
+    }
+    bool is_one = false;
+    const uint32_t code = pciex_raw_linked_next(*linked, room, room_length, &is_one, linked);
+    if (code < 1000) {
+        *is_dllp = is_one;
+    }
+    return code;
+}
+
+/* Writes the state of the link into `status`, one of PCIEX_LINK_INACTIVE to PCIEX_LINK_STOPPED, and returns 0. */
+static inline uint32_t pciex_linked_status(pciex_linked *linked, uint32_t *status)
+{
+    if (!linked || !status) {
+        return PCIEX_NULL;
+    }
+    if (!linked->at) {
+        return PCIEX_EMPTY;
+    }
+    *status = pciex_raw_linked_status(*linked, linked);
+    return 0;
+}
+
+/*
+ * The physical layer reports that the link is up: initialization begins, with new counters. The endpoint is reset, and its
+ * memory stays. Returns 0.
+ */
+static inline uint32_t pciex_linked_up(pciex_linked *linked)
+{
+    if (!linked) {
+        return PCIEX_NULL;
+    }
+    if (!linked->at) {
+        return PCIEX_EMPTY;
+    }
+    pciex_raw_linked_up(*linked, linked);
+    return 0;
+}
+
+/*
+ * The physical layer reports that the link is down: all that it had is lost. The endpoint is reset, and its memory stays.
+ * Returns 0.
+ */
+static inline uint32_t pciex_linked_down(pciex_linked *linked)
+{
+    if (!linked) {
+        return PCIEX_NULL;
+    }
+    if (!linked->at) {
+        return PCIEX_EMPTY;
+    }
+    pciex_raw_linked_down(*linked, linked);
+    return 0;
+}
+
+/*
+ * A timer expired: during initialization that of InitFCs (34 us), then that of an Ack and UpdateFCs (30 us). They are due
+ * again. A completion that waits for memory is tried again. Returns 0.
+ */
+static inline uint32_t pciex_linked_refresh(pciex_linked *linked)
+{
+    if (!linked) {
+        return PCIEX_NULL;
+    }
+    if (!linked->at) {
+        return PCIEX_EMPTY;
+    }
+    pciex_raw_linked_refresh(*linked, linked);
+    return 0;
+}
+
+/*
+ * REPLAY_TIMER expired: the unacknowledged packets are sent again, the oldest first. The fourth replay without progress, by
+ * this call or a Nak, stops the sender: PCIEX_LINK_STOPPED. Returns 0.
+ */
+static inline uint32_t pciex_linked_replay(pciex_linked *linked)
+{
+    if (!linked) {
+        return PCIEX_NULL;
+    }
+    if (!linked->at) {
+        return PCIEX_EMPTY;
+    }
+    pciex_raw_linked_replay(*linked, linked);
+    return 0;
+}
+
+/* The link was retrained: the sender is no longer stopped. Returns 0. */
+static inline uint32_t pciex_linked_retrained(pciex_linked *linked)
+{
+    if (!linked) {
+        return PCIEX_NULL;
+    }
+    if (!linked->at) {
+        return PCIEX_EMPTY;
+    }
+    pciex_raw_linked_retrained(*linked, linked);
+    return 0;
+}
+
+/* All bytes of the endpoint's memory as they are now: 0, or PCIEX_SMALL_ROOM for fewer than it has. */
+static inline uint32_t pciex_linked_bytes(pciex_linked *linked, uint8_t *room, size_t room_length)
+{
+    if (!linked || !room) {
+        return PCIEX_NULL;
+    }
+    if (!linked->at) {
+        return PCIEX_EMPTY;
+    }
+    return pciex_raw_linked_bytes(*linked, room, room_length, linked);
+}
+
+/* The text of the trace and the history of the endpoint's memory, as pciex_endpoint_trace has it, with its results. */
+static inline uint32_t pciex_linked_trace(pciex_linked *linked, uint8_t *room, size_t room_length, size_t *length)
+{
+    if (!linked || !room || !length) {
+        return PCIEX_NULL;
+    }
+    if (!linked->at) {
+        return PCIEX_EMPTY;
+    }
+    return pciex_raw_linked_trace(*linked, room, room_length, length, linked);
+}
+
+/* Frees the endpoint; the handle holds nothing then. One that holds nothing stays as it is. */
+static inline void pciex_linked_free(pciex_linked *linked)
+{
+    if (linked && linked->at) {
+        pciex_raw_linked_free(*linked);
+        linked->at = NULL;
     }
 }
 

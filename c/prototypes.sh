@@ -1,8 +1,8 @@
 #!/bin/sh
 # Compares the prototypes of c/pciex.h with the functions that the library exports: prototypes.sh [ARCHIVE]
 #
-# From each `pub extern "C" fn` of crates/pciex_c, each slot and the fields of a TLP it writes the declaration that C owes
-# it: a slice is a pointer and a length, an allocator is nothing. cc compiles these behind the header, so that another type
+# From each `pub extern "C" fn` of crates/pciex_c, each slot, the fields of a TLP and credits it writes the declaration that C
+# owes it: a slice is a pointer and a length, an allocator is nothing. cc compiles these behind the header, so that another type
 # is an error. Both have the same names, and so has the archive, libpciex_c.a, if one is given. Fails if they differ.
 unset CDPATH
 cd "$(dirname "$0")/.." || exit 1
@@ -56,6 +56,7 @@ declarations() {
             if (type == "bool") return "bool"
             if (type == "Slot") return handle
             if (type == "TlpFields") return "pciex_tlp"
+            if (type == "FiniteCredits") return "pciex_credits"
             return ""
         }
         function parameter(text,   part, type) {
@@ -65,6 +66,7 @@ declarations() {
             if (type == "&[u8]") return "const uint8_t *" part[1] ", size_t " part[1] "_count"
             if (type == "&mut [u8]") return "uint8_t *" part[1] ", size_t " part[1] "_count"
             if (sub(/^&mut /, "", type)) return type_of(type) " *" part[1]
+            if (sub(/^&/, "", type)) return "const " type_of(type) " *" part[1]
             return type_of(type) " " part[1]
         }
         /^pub extern "C" fn / { inside = 1; head = "" }
@@ -102,11 +104,16 @@ unlike() {
         declarations "$source" "pciex_$(basename "$source" .rt)"
     done
     fields crates/c_packets/src/fields.rt TlpFields
+    fields crates/c_linked/src/setup.rt FiniteCredits
 } > "$room/library.c"
-fields=$(sed -n '/^struct library_TlpFields/,/^};/s/.* \(.*\);$/\1/p' "$room/library.c")
-# shellcheck disable=SC2086
-same_layout TlpFields pciex_tlp $fields >> "$room/library.c"
-for part in device fabric monitor endpoint; do
+# same_fields STRUCT TYPE: the same with all its fields.
+same_fields() {
+    # shellcheck disable=SC2046
+    same_layout "$1" "$2" $(sed -n "/^struct library_$1 /,/^};/s/.* \(.*\);\$/\1/p" "$room/library.c")
+}
+{ same_fields TlpFields pciex_tlp; same_fields FiniteCredits pciex_credits; } > "$room/layouts"
+cat "$room/layouts" >> "$room/library.c"
+for part in device fabric monitor endpoint linked; do
     fields crates/c_$part/src/slot.rt Slot | sed "s/library_Slot/library_$part/"
     same_layout $part pciex_$part at
 done >> "$room/library.c"

@@ -71,6 +71,7 @@ static void say_why(uint32_t code)
         {PCIEX_NO_COMPLETION, "NoCompletion (the packet is a request)"},
         {PCIEX_NO_REQUESTER, "NoRequester (requesters are 1 to 7)"},
         {PCIEX_WRONG_GRANULARITY, "a search has pieces of 4, 8, 16 or 64 bytes, or PCIEX_WHOLE"},
+        {PCIEX_WRONG_CREDITS, "credits are 1 to 127, 8 to 2047, 1 to 127, 2 to 2047"},
         {PCIEX_NULL, "there is no handle"},
         {PCIEX_EMPTY, "the monitor writes no file"},
         {PCIEX_HELD, "the monitor writes a file already"},

@@ -227,17 +227,40 @@ int pciex_dpi_fabric_script(void *handle, const char *script, const char **told_
     return result;
 }
 
-/* The result of a call that puts a text of any length into a buffer. */
-static int said_of(uint32_t (*call)(pciex_fabric *, uint8_t *, size_t, size_t *), void *handle)
+/* Calls that put a text of any length into a buffer. */
+typedef uint32_t text_call(void *handle, uint8_t *room, size_t room_length, size_t *length);
+
+static uint32_t fabric_settled(void *handle, uint8_t *room, size_t room_length, size_t *length)
+{
+    return pciex_fabric_settled((pciex_fabric *)handle, room, room_length, length);
+}
+
+static uint32_t fabric_trace(void *handle, uint8_t *room, size_t room_length, size_t *length)
+{
+    return pciex_fabric_trace((pciex_fabric *)handle, room, room_length, length);
+}
+
+static uint32_t endpoint_trace(void *handle, uint8_t *room, size_t room_length, size_t *length)
+{
+    return pciex_endpoint_trace((pciex_endpoint *)handle, room, room_length, length);
+}
+
+static uint32_t linked_trace(void *handle, uint8_t *room, size_t room_length, size_t *length)
+{
+    return pciex_linked_trace((pciex_linked *)handle, room, room_length, length);
+}
+
+/* The result of such a call. */
+static int said_of(text_call *call, void *handle)
 {
     uint8_t small[1];
     size_t length = 0;
-    uint32_t code = call((pciex_fabric *)handle, small, sizeof small, &length);
+    uint32_t code = call(handle, small, sizeof small, &length);
     if (code != PCIEX_SMALL_ROOM) {
         return plain(code, 0);
     }
     char *text = (char *)malloc(length + 1);
-    code = text ? call((pciex_fabric *)handle, (uint8_t *)text, length, &length) : PCIEX_NO_MEMORY;
+    code = text ? call(handle, (uint8_t *)text, length, &length) : PCIEX_NO_MEMORY;
     if (code != 0) {
         free(text);
         return plain(code, 0);
@@ -249,7 +272,7 @@ static int said_of(uint32_t (*call)(pciex_fabric *, uint8_t *, size_t, size_t *)
 
 int pciex_dpi_fabric_settled(void *handle)
 {
-    return said_of(pciex_fabric_settled, handle);
+    return said_of(fabric_settled, handle);
 }
 
 int pciex_dpi_fabric_settle(void *handle)
@@ -260,7 +283,7 @@ int pciex_dpi_fabric_settle(void *handle)
 
 int pciex_dpi_fabric_trace(void *handle)
 {
-    return said_of(pciex_fabric_trace, handle);
+    return said_of(fabric_trace, handle);
 }
 
 int pciex_dpi_fabric_quiet(void *handle)
@@ -424,10 +447,11 @@ int pciex_dpi_monitor_open(void *handle)
 
 /* ---- an endpoint */
 
-void *pciex_dpi_endpoint_new(uint32_t size, uint16_t vendor, uint16_t device)
+void *pciex_dpi_endpoint_new(uint32_t size, uint16_t vendor, uint16_t device, int is_traced)
 {
     pciex_endpoint *endpoint = (pciex_endpoint *)calloc(1, sizeof *endpoint);
-    const uint32_t code = endpoint ? pciex_endpoint_new(size, vendor, device, endpoint) : PCIEX_NO_MEMORY;
+    const uint32_t code = endpoint ? pciex_endpoint_new(size, vendor, device, is_traced != 0, endpoint)
+                                   : PCIEX_NO_MEMORY;
     if (code == 0) {
         return made(endpoint, NULL);
     }
@@ -467,6 +491,108 @@ int pciex_dpi_endpoint_bytes(void *handle, void *to)
 {
     memory *held = (memory *)to;
     return copied(held ? pciex_endpoint_bytes((pciex_endpoint *)handle, held->bytes, held->size) : PCIEX_NULL);
+}
+
+int pciex_dpi_endpoint_trace(void *handle)
+{
+    return said_of(endpoint_trace, handle);
+}
+
+/* ---- an endpoint behind its end of a link */
+
+void *pciex_dpi_linked_new(uint32_t size, uint16_t vendor, uint16_t device, unsigned char ph, uint16_t pd,
+                           unsigned char nph, uint16_t npd, int is_traced)
+{
+    const pciex_credits credits = {ph, pd, nph, npd};
+    pciex_linked *linked = (pciex_linked *)calloc(1, sizeof *linked);
+    const uint32_t code = linked ? pciex_linked_new(size, vendor, device, &credits, is_traced != 0, linked)
+                                 : PCIEX_NO_MEMORY;
+    if (code == 0) {
+        return made(linked, NULL);
+    }
+    free(linked);
+    say_why(code);
+    return code == PCIEX_WRONG_SIZE ? made(NULL, "4096 to 1048576 bytes, a power of two") : NULL;
+}
+
+void pciex_dpi_linked_free(void *handle)
+{
+    pciex_linked_free((pciex_linked *)handle);
+    free(handle);
+}
+
+int pciex_dpi_linked_packet(void *handle, const svBitVecVal *packet, int packet_length, int good)
+{
+    uint8_t bytes[MOST];
+    if (!handle || !unpack(packet, packet_length, bytes)) {
+        return plain(handle ? PCIEX_SMALL_ROOM : PCIEX_NULL, 0);
+    }
+    const uint32_t code = pciex_linked_packet((pciex_linked *)handle, bytes, (size_t)packet_length, good != 0);
+    return code <= PCIEX_PACKET_DROPPED ? plain(0, (int)code) : plain(code, 0);
+}
+
+int pciex_dpi_linked_dllp(void *handle, uint32_t dllp, int good)
+{
+    static const char *const refused[] = {"Short", "Kind", "Scaled", "NotOutstanding", "CreditLimit"};
+    const uint8_t bytes[4] = {(uint8_t)(dllp >> 24), (uint8_t)(dllp >> 16), (uint8_t)(dllp >> 8), (uint8_t)dllp};
+    const uint32_t code = pciex_linked_dllp((pciex_linked *)handle, bytes, sizeof bytes, good != 0);
+    if (code >= PCIEX_DLLP_SHORT && code <= PCIEX_DLLP_CREDIT_LIMIT) {
+        say_line(refused[code - PCIEX_DLLP_SHORT]);
+        return -(int)code;
+    }
+    return code <= PCIEX_DLLP_GONE ? plain(0, (int)code) : plain(code, 0);
+}
+
+int pciex_dpi_linked_next(void *handle, svBitVecVal *sent, int *is_dllp)
+{
+    uint8_t room[PCIEX_LINK_PACKET];
+    bool is_one = false;
+    const uint32_t code = pciex_linked_next((pciex_linked *)handle, room, sizeof room, &is_one);
+    *is_dllp = is_one;
+    return packed(code, room, sent);
+}
+
+int pciex_dpi_linked_status(void *handle)
+{
+    uint32_t status = 0;
+    const uint32_t code = pciex_linked_status((pciex_linked *)handle, &status);
+    return plain(code, (int)status);
+}
+
+int pciex_dpi_linked_up(void *handle)
+{
+    return plain(pciex_linked_up((pciex_linked *)handle), 0);
+}
+
+int pciex_dpi_linked_down(void *handle)
+{
+    return plain(pciex_linked_down((pciex_linked *)handle), 0);
+}
+
+int pciex_dpi_linked_refresh(void *handle)
+{
+    return plain(pciex_linked_refresh((pciex_linked *)handle), 0);
+}
+
+int pciex_dpi_linked_replay(void *handle)
+{
+    return plain(pciex_linked_replay((pciex_linked *)handle), 0);
+}
+
+int pciex_dpi_linked_retrained(void *handle)
+{
+    return plain(pciex_linked_retrained((pciex_linked *)handle), 0);
+}
+
+int pciex_dpi_linked_bytes(void *handle, void *to)
+{
+    memory *held = (memory *)to;
+    return copied(held ? pciex_linked_bytes((pciex_linked *)handle, held->bytes, held->size) : PCIEX_NULL);
+}
+
+int pciex_dpi_linked_trace(void *handle)
+{
+    return said_of(linked_trace, handle);
 }
 
 /* ---- the checker, packets in words, and names */

@@ -6,6 +6,7 @@ _pciex() {
         --size) words="" ;;
         --block) words="64 128" ;;
         --id) words="" ;;
+        --credits) words="" ;;
         --limit) words="" ;;
         --work) words="" ;;
         --granularity) words="4 8 16 64 whole" ;;
@@ -17,15 +18,16 @@ _pciex() {
         --requesters) words="" ;;
         --lose) words="" ;;
         --corrupt) words="" ;;
+        --seeds) words="" ;;
+        --workers) words="" ;;
         --each) words="" ;;
         --turns) words="" ;;
-        --workers) words="" ;;
         *)
             case "$COMP_CWORD ${COMP_WORDS[1]}" in
-                "1 "*) words="tlp endpoint decode encode check search draw upgrade step chart generate run help --help --version" ;;
-                "2 help") words="tlp endpoint decode encode check search draw upgrade step chart generate run help" ;;
+                "1 "*) words="tlp endpoint decode encode check search draw upgrade step chart generate sweep run help --help --version" ;;
+                "2 help") words="tlp endpoint decode encode check search draw upgrade step chart generate sweep run help" ;;
                 *" tlp") words="--base --size --block --help" ;;
-                *" endpoint") words="--size --id --trace --help" ;;
+                *" endpoint") words="--size --id --trace --link --crc --credits --help" ;;
                 *" decode") words="--help" ;;
                 *" encode") words="--help" ;;
                 *" check") words="--clocked --help" ;;
@@ -35,6 +37,7 @@ _pciex() {
                 *" step") words="--trace --keep-going --echo --help" ;;
                 *" chart") words="--lane --from --to --brief --levels --help" ;;
                 *" generate") words="--seed --events --requesters --lose --corrupt --block --help" ;;
+                *" sweep") words="--seeds --events --requesters --lose --corrupt --block --clocked --keep-going --workers --help" ;;
                 *" run") words="--requesters --each --lose --corrupt --turns --workers --progress --help" ;;
             esac
             ;;

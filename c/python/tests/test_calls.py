@@ -315,7 +315,7 @@ class AnEndpoint(unittest.TestCase):
             ("4A000001 00000004 00086300 34121E7C", "Unexpected", []),
             ("00000001", "Malformed", []),
         ]
-        with pciex.Endpoint(4096) as endpoint:
+        with pciex.Endpoint(4096, is_traced=True) as endpoint:
             for tlp, handled, completions in rows:
                 taken = endpoint.take(memoryview(bytes.fromhex(tlp)))
                 self.assertEqual((taken.handled, [it.hex() for it in taken]), (handled, completions), tlp)
@@ -327,11 +327,18 @@ class AnEndpoint(unittest.TestCase):
             self.assertIsNone(endpoint.next())
             memory = endpoint.memory()
             self.assertEqual((len(memory), memory[0x7C:0x84].hex()), (4096, "1122334455667788"))
+            trace = endpoint.trace()
+            self.assertIn("\nans 1 3 4 data 55667788\n", trace)
+            self.assertEqual(pciex.check(trace, clocked=True), "ok")
             with self.assertRaises(TypeError):
                 endpoint.take(12)  # type: ignore[arg-type]
-        for call in (lambda: endpoint.take(self.READ), endpoint.next, endpoint.reset, endpoint.memory, lambda: next(taken)):
+        for call in (lambda: endpoint.take(self.READ), endpoint.next, endpoint.reset, endpoint.memory, endpoint.trace, lambda: next(taken)):
             with self.assertRaisesRegex(ValueError, "the endpoint is closed"):
                 call()
+
+    def test_an_endpoint_without_a_trace(self) -> None:
+        with pciex.Endpoint(4096) as endpoint:
+            self.assertEqual(endpoint.trace(), "pciex-trace 2\nmemory 0 4096 128\nhistory\nend\n")
 
     def test_wrong_endpoints(self) -> None:
         for size in (-4096, 0, 2048, 4097, 2 << 20, 1 << 32 | 4096):
@@ -340,6 +347,87 @@ class AnEndpoint(unittest.TestCase):
         for vendor, device, what in [(1 << 16, 0, "vendor"), (0, -1, "device")]:
             with self.assertRaisesRegex(ValueError, what):
                 pciex.Endpoint(4096, vendor, device)
+
+
+class ALinkedEndpoint(unittest.TestCase):
+    READ = bytes.fromhex("0000 04000001 0008630F 01000000")
+    COMPLETION = (False, bytes.fromhex("0000 4A000001 00000004 00086300 34121E7C"))
+
+    @staticmethod
+    def dllps(digits: str) -> list:
+        return [(True, bytes.fromhex(it)) for it in digits.split()]
+
+    def test_link(self) -> None:
+        with pciex.LinkedEndpoint(4096, credits=(1, 8, 1, 2)) as linked:
+            self.assertEqual((linked.packet(self.READ), linked.status()), ("drop", "inactive"))
+            linked.up()
+            self.assertEqual(linked.status(), "init1")
+            self.assertEqual(list(linked.outgoing()), self.dllps("40004008 50004002 60000000"))
+            refused = [("400040", "Short"), ("02000001", "Kind"), ("40404008", "Scaled"), ("40200008", "CreditLimit")]
+            for dllp, name in refused:
+                with self.assertRaisesRegex(pciex.Refused, name):
+                    linked.dllp(bytes.fromhex(dllp))
+            self.assertEqual(linked.dllp(bytes.fromhex("40004008"), good=False), "gone")
+            for dllp in ("40004008", "50004002", "60004008"):
+                self.assertEqual(linked.dllp(memoryview(bytes.fromhex(dllp))), "took")
+            self.assertEqual(linked.status(), "init2")
+            self.assertEqual(linked.next(), self.dllps("C0004008")[0])
+            self.assertEqual([it.data.hex() for it in linked.outgoing()], ["d0004002", "e0000000"])
+            self.assertIsNone(linked.next())
+            became = [linked.packet(self.READ, good) for good in (False, False, True, True)]
+            self.assertEqual(became, ["nak", "quiet", "accept", "duplicate"])
+            self.assertEqual(list(linked.outgoing()), [*self.dllps("00000000 90008002"), self.COMPLETION])
+            rows = [
+                ("0001 04000001 0008640F 01000000", "accept"),
+                ("0002 04000001 0008650F 01000000", "Overflow"),
+                ("0003 40000001", "Malformed"),
+            ]
+            for packet, what in rows:
+                self.assertEqual(linked.packet(memoryview(bytes.fromhex(packet))), what, packet)
+            linked.refresh()
+            self.assertEqual(list(linked.outgoing()), self.dllps("00000003 80008009 9000C002"))
+            with self.assertRaisesRegex(pciex.Refused, "NotOutstanding"):
+                linked.dllp(bytes.fromhex("00000001"))
+            for _ in range(3):
+                linked.replay()
+                self.assertEqual(list(linked.outgoing()), [self.COMPLETION])
+            linked.replay()
+            self.assertEqual((linked.status(), linked.next()), ("stopped", None))
+            linked.retrained()
+            self.assertEqual((linked.status(), linked.next()), ("active", self.COMPLETION))
+            linked.down()
+            self.assertEqual((linked.status(), linked.next(), linked.memory()), ("inactive", None, bytes(4096)))
+            self.assertEqual(linked.trace(), "pciex-trace 2\nmemory 0 4096 128\nhistory\nend\n")
+            for bad in (lambda: linked.packet(12), lambda: linked.dllp(None)):  # type: ignore[arg-type]
+                self.assertRaises(TypeError, bad)
+        for call in (linked.up, linked.next, linked.status, linked.memory, linked.trace, lambda: linked.packet(self.READ)):
+            with self.assertRaisesRegex(ValueError, "the endpoint is closed"):
+                call()
+
+    def test_trace(self) -> None:
+        packets = [
+            "0000 44000001 0008640F 01000010 0000DCFE",
+            "0001 44000001 00086501 01000004 02000000",
+            "0002 40000002 000800FF FEDC007C 11223344 55667788",
+            "0003 4C000001 00086D00 FEDC0080 01000000",
+        ]
+        with pciex.LinkedEndpoint(4096, is_traced=True) as linked:
+            linked.up()
+            for dllp in ("40000000", "50000000", "60000000", "C0000000"):
+                self.assertEqual(linked.dllp(bytes.fromhex(dllp)), "took")
+            for packet in packets:
+                self.assertEqual(linked.packet(bytes.fromhex(packet)), "accept", packet)
+            trace = linked.trace()
+        self.assertIn("\nsub 1 2 2 add 80 01000000\nans 1 2 3 data 55667788\nhistory\n", trace)
+        self.assertEqual(pciex.check(trace, clocked=True), "ok")
+
+    def test_wrong_links(self) -> None:
+        for size in (0, 2048, 4097, 2 << 20):
+            with self.assertRaisesRegex(ValueError, "size"):
+                pciex.LinkedEndpoint(size)
+        for credits in ((0, 64, 16, 16), (128, 64, 16, 16), (16, 7, 16, 16), (16, 64, 16, 2048), (256, 64, 16, 16)):
+            with self.assertRaisesRegex(ValueError, "credits|ph"):
+                pciex.LinkedEndpoint(4096, credits=credits)
 
 
 class Differences(unittest.TestCase):

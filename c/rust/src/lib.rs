@@ -9,6 +9,7 @@ mod differ;
 mod endpoint;
 mod error;
 mod fabric;
+mod linked;
 mod monitor;
 mod raw;
 mod tlp;
@@ -18,6 +19,7 @@ pub use differ::differ;
 pub use endpoint::{Endpoint, Handled};
 pub use error::Error;
 pub use fabric::{Fabric, Stopped};
+pub use linked::{Arrived, Credits, DllpArrived, DllpRefusal, LinkStatus, LinkedEndpoint, Outgoing};
 pub use monitor::Monitor;
 pub use tlp::{decode_tlp, Body, Kind, Tlp};
 

@@ -1,4 +1,5 @@
 //! The library's own functions, as `c/pciex.h` declares them.
+use crate::linked::Credits;
 use std::ffi::c_void;
 
 /// A handle. Nothing that this crate gives out has one that holds nothing.
@@ -87,12 +88,40 @@ extern "C" {
     ) -> u32;
     pub(crate) fn pciex_raw_monitor_open(monitor: Slot, back: *mut Slot) -> usize;
     pub(crate) fn pciex_raw_monitor_free(monitor: Slot);
-    pub(crate) fn pciex_raw_endpoint_new(size: usize, vendor: u16, device: u16, endpoint: *mut Slot) -> u32;
+    pub(crate) fn pciex_raw_endpoint_new(
+        size: usize, vendor: u16, device: u16, is_traced: bool, endpoint: *mut Slot,
+    ) -> u32;
     pub(crate) fn pciex_raw_endpoint_tlp(endpoint: Slot, tlp: *const u8, length: usize, back: *mut Slot) -> u32;
     pub(crate) fn pciex_raw_endpoint_next(endpoint: Slot, room: *mut u8, room_length: usize, back: *mut Slot) -> u32;
     pub(crate) fn pciex_raw_endpoint_reset(endpoint: Slot, back: *mut Slot);
     pub(crate) fn pciex_raw_endpoint_bytes(endpoint: Slot, room: *mut u8, room_length: usize, back: *mut Slot) -> u32;
+    pub(crate) fn pciex_raw_endpoint_trace(
+        endpoint: Slot, room: *mut u8, room_length: usize, length: *mut usize, back: *mut Slot,
+    ) -> u32;
     pub(crate) fn pciex_raw_endpoint_free(endpoint: Slot);
+    pub(crate) fn pciex_raw_linked_new(
+        size: usize, vendor: u16, device: u16, credits: *const Credits, is_traced: bool, linked: *mut Slot,
+    ) -> u32;
+    pub(crate) fn pciex_raw_linked_packet(
+        linked: Slot, packet: *const u8, length: usize, good: bool, back: *mut Slot,
+    ) -> u32;
+    pub(crate) fn pciex_raw_linked_dllp(
+        linked: Slot, dllp: *const u8, length: usize, good: bool, back: *mut Slot,
+    ) -> u32;
+    pub(crate) fn pciex_raw_linked_next(
+        linked: Slot, room: *mut u8, room_length: usize, is_dllp: *mut bool, back: *mut Slot,
+    ) -> u32;
+    pub(crate) fn pciex_raw_linked_status(linked: Slot, back: *mut Slot) -> u32;
+    pub(crate) fn pciex_raw_linked_up(linked: Slot, back: *mut Slot);
+    pub(crate) fn pciex_raw_linked_down(linked: Slot, back: *mut Slot);
+    pub(crate) fn pciex_raw_linked_refresh(linked: Slot, back: *mut Slot);
+    pub(crate) fn pciex_raw_linked_replay(linked: Slot, back: *mut Slot);
+    pub(crate) fn pciex_raw_linked_retrained(linked: Slot, back: *mut Slot);
+    pub(crate) fn pciex_raw_linked_bytes(linked: Slot, room: *mut u8, room_length: usize, back: *mut Slot) -> u32;
+    pub(crate) fn pciex_raw_linked_trace(
+        linked: Slot, room: *mut u8, room_length: usize, length: *mut usize, back: *mut Slot,
+    ) -> u32;
+    pub(crate) fn pciex_raw_linked_free(linked: Slot);
     pub(crate) fn pciex_raw_check(text: *const u8, length: usize, room: *mut u8, room_length: usize) -> u32;
     pub(crate) fn pciex_raw_check_clocked(text: *const u8, length: usize, room: *mut u8, room_length: usize) -> u32;
     pub(crate) fn pciex_raw_search(

@@ -1,7 +1,8 @@
 //! Each call once, and each of its refusals.
 use pciex::{
-    answer, check, check_clocked, decode, decode_tlp, differ, encode, search, search_with_reasons, version, Body, Device,
-    Endpoint, Error, Fabric, Granularity, Handled, Kind, Monitor, Sought,
+    answer, check, check_clocked, decode, decode_tlp, differ, encode, search, search_with_reasons, version, Arrived, Body,
+    Credits, Device, DllpArrived, DllpRefusal, Endpoint, Error, Fabric, Granularity, Handled, Kind, LinkStatus,
+    LinkedEndpoint, Monitor, Outgoing, Sought,
 };
 
 const ADD: [u8; 16] = [0x4C, 0, 0, 1, 1, 0, 5, 0, 0, 0, 0, 0x40, 7, 0, 0, 0];
@@ -327,7 +328,7 @@ fn an_endpoint() {
     for size in [0, 2048, 4097, 2 << 20, (1 << 32) + 4096] {
         assert_eq!(Endpoint::new(size, 0x1234, 0x7C1E).err(), Some(Error::Argument(2004)), "{size}");
     }
-    let mut endpoint = Endpoint::new(4096, 0x1234, 0x7C1E).unwrap();
+    let mut endpoint = Endpoint::traced(4096, 0x1234, 0x7C1E).unwrap();
     let rows = [
         ("04000001 0008630F 01000000", Handled::Accepted, vec!["4A000001000000040008630034121E7C"]),
         ("44000001 0008690F 01000010 0000DCFE", Handled::Accepted, vec!["0A0000000100000400086900"]),
@@ -352,4 +353,95 @@ fn an_endpoint() {
     assert_eq!(fetched(&mut endpoint), Vec::<String>::new());
     let bytes = endpoint.bytes();
     assert_eq!((bytes.len(), &bytes[0x7C..0x84]), (4096, [0x11, 0x22, 0x33, 0x44, 0x55, 0x66, 0x77, 0x88].as_slice()));
+    let trace = String::from_utf8(endpoint.trace().unwrap()).unwrap();
+    assert!(trace.contains("\nsub 1 3 2 read 80 1 F 0\n") && trace.contains("\nans 1 3 4 data 55667788\n"), "{trace}");
+    assert_eq!(check_clocked(trace.as_bytes()), Ok(()));
+    let silent = Endpoint::new(4096, 0x1234, 0x7C1E).unwrap().trace().unwrap();
+    assert_eq!(silent, b"pciex-trace 2\nmemory 0 4096 128\nhistory\nend\n");
+}
+
+/// All that the endpoint sends, in digits, DLLPs with a `d` in front.
+fn sent(linked: &mut LinkedEndpoint) -> Vec<String> {
+    let digits = |bytes: &[u8]| bytes.iter().map(|byte| format!("{byte:02X}")).collect::<String>();
+    let text = |outgoing| match outgoing {
+        Outgoing::Packet(packet) => digits(&packet),
+        Outgoing::Dllp(dllp) => format!("d{}", digits(&dllp)),
+    };
+    linked.outgoing().map(text).collect()
+}
+
+#[test]
+fn an_endpoint_behind_its_link() {
+    let wrong = Credits { npd: 1, ..Credits::default() };
+    assert_eq!(LinkedEndpoint::new(6144, 0x1234, 0x7C1E, wrong).err(), Some(Error::Argument(2004)));
+    assert_eq!(LinkedEndpoint::new(4096, 0x1234, 0x7C1E, wrong).err(), Some(Error::Argument(2013)));
+    let credits = Credits { ph: 1, pd: 8, nph: 1, npd: 2 };
+    let mut linked = LinkedEndpoint::new(4096, 0x1234, 0x7C1E, credits).unwrap();
+    let read = bytes_of("0000 04000001 0008630F 01000000");
+    assert_eq!(linked.packet(&read, true), Ok(Arrived::Dropped));
+    linked.up();
+    assert_eq!(linked.status(), LinkStatus::Init1);
+    assert_eq!(sent(&mut linked), ["d40004008", "d50004002", "d60000000"]);
+    let dllps = [
+        ("400040", Err(DllpRefusal::Short)),
+        ("02000001", Err(DllpRefusal::Kind)),
+        ("40404008", Err(DllpRefusal::Scaled)),
+        ("40200008", Err(DllpRefusal::CreditLimit)),
+        ("40004008", Ok(DllpArrived::Took)),
+        ("50004002", Ok(DllpArrived::Took)),
+        ("60004008", Ok(DllpArrived::Took)),
+    ];
+    for (dllp, became) in dllps {
+        assert_eq!(linked.dllp(&bytes_of(dllp), true), became, "{dllp}");
+    }
+    assert_eq!(linked.status(), LinkStatus::Init2);
+    assert_eq!(sent(&mut linked), ["dC0004008", "dD0004002", "dE0000000"]);
+    assert_eq!(linked.packet(&read, false), Ok(Arrived::Nak));
+    assert_eq!(linked.packet(&read, false), Ok(Arrived::Quiet));
+    assert_eq!(linked.packet(&read, true), Ok(Arrived::Accepted(Handled::Accepted)));
+    assert_eq!(linked.packet(&read, true), Ok(Arrived::Duplicate));
+    let completion = "00004A000001000000040008630034121E7C";
+    assert_eq!(sent(&mut linked), ["d00000000", "d90008002", completion]);
+    assert_eq!(linked.status(), LinkStatus::Active);
+    // The credits of the peer's one completion are used, so the next request waits, and the one behind it overflows.
+    assert_eq!(linked.packet(&bytes_of("0001 04000001 0008640F 01000000"), true), Ok(Arrived::Accepted(Handled::Accepted)));
+    assert_eq!(linked.packet(&bytes_of("0002 04000001 0008650F 01000000"), true), Ok(Arrived::Overflow));
+    assert_eq!(linked.packet(&bytes_of("0003 00000001"), true), Ok(Arrived::Overflow));
+    assert_eq!(linked.packet(&bytes_of("0004 40000001"), true), Ok(Arrived::Accepted(Handled::Malformed)));
+    linked.refresh();
+    assert_eq!(sent(&mut linked), ["d00000004", "d80008009", "d90010002"]);
+    assert_eq!(linked.dllp(&bytes_of("00000001"), true), Err(DllpRefusal::NotOutstanding));
+    assert_eq!(linked.dllp(&bytes_of("00000000"), false), Ok(DllpArrived::Gone));
+    for _ in 0..3 {
+        linked.replay();
+        assert_eq!(sent(&mut linked), [completion]);
+    }
+    linked.replay();
+    assert_eq!((linked.status(), sent(&mut linked)), (LinkStatus::Stopped, vec![]));
+    linked.retrained();
+    assert_eq!((linked.status(), sent(&mut linked)), (LinkStatus::Active, vec![completion.into()]));
+    linked.down();
+    assert_eq!((linked.status(), linked.bytes()), (LinkStatus::Inactive, vec![0; 4096]));
+    assert_eq!(linked.trace().unwrap(), b"pciex-trace 2\nmemory 0 4096 128\nhistory\nend\n");
+}
+
+#[test]
+fn the_trace_of_an_endpoint_behind_its_link() {
+    let mut linked = LinkedEndpoint::traced(4096, 0x1234, 0x7C1E, Credits::default()).unwrap();
+    linked.up();
+    for dllp in ["40000000", "50000000", "60000000", "C0000000"] {
+        assert_eq!(linked.dllp(&bytes_of(dllp), true), Ok(DllpArrived::Took), "{dllp}");
+    }
+    let packets = [
+        "0000 44000001 0008640F 01000010 0000DCFE",
+        "0001 44000001 00086501 01000004 02000000",
+        "0002 40000002 000800FF FEDC007C 11223344 55667788",
+        "0003 4C000001 00086D00 FEDC0080 01000000",
+    ];
+    for packet in packets {
+        assert_eq!(linked.packet(&bytes_of(packet), true), Ok(Arrived::Accepted(Handled::Accepted)), "{packet}");
+    }
+    let trace = String::from_utf8(linked.trace().unwrap()).unwrap();
+    assert!(trace.contains("\nsub 1 2 2 add 80 01000000\nans 1 2 3 data 55667788\nhistory\n"), "{trace}");
+    assert_eq!(check_clocked(trace.as_bytes()), Ok(()));
 }

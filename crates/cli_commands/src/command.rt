@@ -18,6 +18,7 @@ use endpoint_engine::{EndpointOptions, run_endpoint_with_reasons};
 use generate_engine::run_generate;
 use history_picture::Window;
 use line_loop::EngineFault;
+use linked_engine::{LinkedOptions, run_linked_with_reasons};
 use packet_engine::{run_decode_with_reasons, run_encode_with_reasons};
 use parameters::Counting;
 use search_engine::{SearchDemand, SearchOptions, Stages, run_search_for};
@@ -27,6 +28,7 @@ use std::io;
 use std::io::{ErrorKind as IoErrorKind, Read, Write};
 use std::time::Clock;
 use step_engine::{StepOptions, run_step_with_reasons};
+use sweep_engine::Sweep;
 use tlp_engine::run_tlp_with_reasons;
 use trace_engine::{run_check_with, run_upgrade_with_reasons};
 
@@ -130,6 +132,8 @@ pub enum Outcome {
     Ended(u8),
     /// They ask for a run, of which nothing is done yet.
     Run { counting: Counting, is_told: bool },
+    /// They ask for a sweep, of which nothing is done yet.
+    Sweep(Sweep),
 }
 
 /// What a command knows of the process: whether its error stream is a terminal, and a clock, by which it is told how far a
@@ -151,7 +155,7 @@ fn stages_of(is_told: bool, is_terminal: bool) -> Stages {
     }
 }
 
-/// Does what is asked for, but for a run, and gives the exit status.
+/// Does what is asked for, but for a run and a sweep, and gives the exit status.
 fn begin<C: Clock, R: Read + Fallible, W: Write + Fallible, E: Write>(
     alloc: Global,
     request: Request,
@@ -172,6 +176,20 @@ fn begin<C: Clock, R: Read + Fallible, W: Write + Fallible, E: Write>(
         Request::Endpoint { setup, is_traced } => {
             let options = EndpointOptions { setup, is_traced };
             let run = run_endpoint_with_reasons(alloc, options, reader, writer, errors);
+            Outcome::Ended(ended(run, reader, writer, errors))
+        }
+        Request::Linked {
+            setup,
+            is_traced,
+            credits,
+            has_crc,
+        } => {
+            let options = LinkedOptions {
+                device: EndpointOptions { setup, is_traced },
+                credits,
+                has_crc,
+            };
+            let run = run_linked_with_reasons(alloc, options, reader, writer, errors);
             Outcome::Ended(ended(run, reader, writer, errors))
         }
         Request::Decode => {
@@ -249,11 +267,24 @@ fn begin<C: Clock, R: Read + Fallible, W: Write + Fallible, E: Write>(
             let run = run_generate(alloc, &storm, writer);
             Outcome::Ended(ended(run, reader, writer, errors))
         }
+        Request::Sweep {
+            storm,
+            last,
+            is_clocked,
+            keeps_going,
+            workers,
+        } => Outcome::Sweep(Sweep {
+            storm,
+            last,
+            is_clocked,
+            keeps_going,
+            workers,
+        }),
         Request::Run { counting, is_told } => Outcome::Run { counting, is_told },
     }
 }
 
-/// Does what the words of the command line ask for, the program's name before them, but for a run, and gives
+/// Does what the words of the command line ask for, the program's name before them, but for a run and a sweep, and gives
 /// the exit status: 0 done; 1 a fault, a flaw or a refusal was told, or reading, writing or memory failed; 2 the
 /// words ask for nothing; 3 a search was given up. A long search tells how far it is if the error stream is a terminal.
 /// It waits for no thread, so what is said of it needs no return.

@@ -1,7 +1,7 @@
 //! What the words of a command line ask for, done on one thread over any streams, and the exit status of it.
 //!
-//! [`on_one_thread`] runs the engine that the words ask for. A run by worker threads it leaves undone, and tells what
-//! is to be counted, so that all that is said of it holds whether or not a thread ever returns.
+//! [`on_one_thread`] runs the engine that the words ask for. A run by worker threads and a sweep it leaves undone, and tells
+//! what is to be done, so that all that is said of it holds whether or not a thread ever returns.
 #![tactic(auto)]
 
 mod command;

@@ -5,11 +5,11 @@ use std::alloc::Global;
 use std::io;
 use std::io::{ErrorKind, Read, Write};
 
-/// The exit status, 9 where a run is asked for.
+/// The exit status, 9 where a run or a sweep is asked for.
 fn status_of(outcome: Outcome) -> u8 {
     match outcome {
         Outcome::Ended(status) => status,
-        Outcome::Run { .. } => 9,
+        Outcome::Run { .. } | Outcome::Sweep(_) => 9,
     }
 }
 
@@ -63,7 +63,7 @@ const TORN: &str =
 /// Words, what standard input has, what is written, and the exit status.
 type Run = (&'static [&'static str], &'static str, &'static str, u8);
 
-static RUNS: [Run; 25] = [
+static RUNS: [Run; 26] = [
     (
         &["pciex", "endpoint", "--id=abcd:EF01", "--size", "1048576"],
         "tlp 04000001 0008630F 01000000\nnext\ntrace\n",
@@ -162,6 +162,19 @@ static RUNS: [Run; 25] = [
         0,
     ),
     (
+        &[
+            "pciex",
+            "sweep",
+            "--seeds",
+            "1..3",
+            "--events=20",
+            "--keep-going",
+        ],
+        "",
+        "",
+        9,
+    ),
+    (
         &["pciex", "run", "--requesters", "7", "--each", "100000"],
         "",
         "",
@@ -204,7 +217,7 @@ type Given = (&'static [&'static str], &'static str);
 
 /// Words that give status 2, and which option is told with what is allowed, none where
 /// they have no form of the grammar.
-static WRONG: [Given; 48] = [
+static WRONG: [Given; 52] = [
     (
         &["pciex", "endpoint", "--size", "2048", "--id", "1"],
         "invalid value '2048' for --size: expected a power of two from 4096 to 1048576",
@@ -335,6 +348,31 @@ static WRONG: [Given; 48] = [
             "8",
         ],
         "invalid value '8' for --requesters: expected 1 to 7",
+    ),
+    (&["pciex", "sweep", "--seeds", "1..3"], ""),
+    (
+        &[
+            "pciex",
+            "sweep",
+            "--seeds=3..2",
+            "--events=x",
+            "--workers=0",
+        ],
+        "invalid value '3..2' for --seeds: expected FIRST..LAST, each 0 to 18446744073709551615, LAST at least FIRST",
+    ),
+    (
+        &["pciex", "sweep", "--seeds=3.4", "--events=1"],
+        "invalid value '3.4' for --seeds: expected FIRST..LAST, each 0 to 18446744073709551615, LAST at least FIRST",
+    ),
+    (
+        &[
+            "pciex",
+            "sweep",
+            "--seeds=3..3",
+            "--events=1",
+            "--workers=65",
+        ],
+        "invalid value '65' for --workers: expected 1 to 64",
     ),
     (&["pciex", "run", "--requesters", "1"], ""),
     (&["pciex", "run", "--each", "1"], ""),
@@ -482,7 +520,7 @@ fn a_file_is_no_argument(rt: HostRuntime) {
 }
 
 /// Words that ask for a text, and how it begins.
-static TEXTS: [Given; 17] = [
+static TEXTS: [Given; 18] = [
     (
         &["pciex", "--help"],
         "A proved PCI Express memory device, fabric simulator and history checker\n\nUsage: pciex <COMMAND>\n\nCommands:\n  tlp       Answer request TLPs with their completions\n",
@@ -522,6 +560,10 @@ static TEXTS: [Given; 17] = [
     (
         &["pciex", "generate", "--help"],
         "Writes a random stress script",
+    ),
+    (
+        &["pciex", "sweep", "--help"],
+        "Runs and checks the stress scripts",
     ),
     (&["pciex", "run", "--help"], "Counts with worker threads"),
 ];

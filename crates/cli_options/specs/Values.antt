@@ -9,7 +9,7 @@ use Rattle.parameters.specs.declared.storm.TheConstants.{MOST_EVENTS}
 use Rattle.cli_options.specs.declared.options.TheConstants.{MOST_CHOICES, MOST_WORK}
 use Rattle.cli_options.specs.declared.options.Allowed.{Allowed}
 use Rattle.cli_options.specs.declared.options.ValueOption.{ValueOption}
-use Rattle.cli_options.specs.declared.options.ValueOption.TheVariants.{Base, Size, Block, Requesters, Each, Lose, Corrupt, Turns, Workers, From, To, Seed, Events, Lane, Limit, Work, Granularity, EndpointSize, Id}
+use Rattle.cli_options.specs.declared.options.ValueOption.TheVariants.{Base, Size, Block, Requesters, Each, Lose, Corrupt, Turns, Workers, From, To, Seed, Seeds, Events, Lane, Limit, Work, Granularity, EndpointSize, Id, Crc, Credits}
 
 abbrev pub name_of : ValueOption → List ℕ
 name_of Base = codes "base"
@@ -24,6 +24,7 @@ name_of Workers = codes "workers"
 name_of From = codes "from"
 name_of To = codes "to"
 name_of Seed = codes "seed"
+name_of Seeds = codes "seeds"
 name_of Events = codes "events"
 name_of Lane = codes "lane"
 name_of Limit = codes "limit"
@@ -31,12 +32,14 @@ name_of Work = codes "work"
 name_of Granularity = codes "granularity"
 name_of EndpointSize = codes "size"
 name_of Id = codes "id"
+name_of Crc = codes "crc"
+name_of Credits = codes "credits"
 
 -- the multiples of a unit from one number to another
 abbrev pub multiples : ℕ → ℕ → ℕ → Allowed
 multiples unit least most = record { least = least; most = most; unit = unit }
 
--- the numbers that an option may have; for a lane, a granularity, the size of an endpoint and its ID no number counts
+-- the numbers that an option may have; for a lane, a granularity, and what an endpoint is made with no number counts
 abbrev pub allowed_of : ValueOption → Allowed
 allowed_of Base = multiples ALIGNMENT 0 18446744073709551615
 allowed_of Size = multiples ALIGNMENT MIN_SIZE MAX_SIZE
@@ -50,6 +53,7 @@ allowed_of Workers = multiples 1 1 MOST_WORKERS
 allowed_of From = multiples 1 0 18446744073709551615
 allowed_of To = multiples 1 0 18446744073709551615
 allowed_of Seed = multiples 1 0 18446744073709551615
+allowed_of Seeds = multiples 1 0 18446744073709551615
 allowed_of Events = multiples 1 0 MOST_EVENTS
 allowed_of Lane = multiples 1 0 0
 allowed_of Limit = multiples 1 1 MOST_CHOICES
@@ -57,6 +61,8 @@ allowed_of Work = multiples 1 1 MOST_WORK
 allowed_of Granularity = multiples 1 0 0
 allowed_of EndpointSize = multiples 1 0 0
 allowed_of Id = multiples 1 0 0
+allowed_of Crc = multiples 1 0 0
+allowed_of Credits = multiples 1 0 0
 
 pub record IsAmong (a : Allowed) (n : ℕ) : Type 0 where
   pub least : a.least ≤ n

@@ -40,6 +40,8 @@ pub enum ValueOption {
     To,
     /// The seed of a script's random choices.
     Seed,
+    /// The first and the last seed of a sweep.
+    Seeds,
     /// The number of events of a script.
     Events,
     /// A lane, by its name.
@@ -54,6 +56,10 @@ pub enum ValueOption {
     EndpointSize,
     /// The Vendor ID and the Device ID of an endpoint.
     Id,
+    /// The flag that packets and DLLPs have their CRC, which goes with a link alone.
+    Crc,
+    /// The credits of an endpoint behind a link.
+    Credits,
 }
 
 /// The numbers that an option may have: the multiples of the unit from the least to the most.
@@ -117,12 +123,15 @@ impl ValueOption {
             ValueOption::From => "from",
             ValueOption::To => "to",
             ValueOption::Seed => "seed",
+            ValueOption::Seeds => "seeds",
             ValueOption::Events => "events",
             ValueOption::Lane => "lane",
             ValueOption::Limit => "limit",
             ValueOption::Work => "work",
             ValueOption::Granularity => "granularity",
             ValueOption::Id => "id",
+            ValueOption::Crc => "crc",
+            ValueOption::Credits => "credits",
         }
     }
 
@@ -158,8 +167,12 @@ impl ValueOption {
             ValueOption::Lane
             | ValueOption::Granularity
             | ValueOption::EndpointSize
-            | ValueOption::Id => from_to(0, 0),
-            ValueOption::From | ValueOption::To | ValueOption::Seed => from_to(0, u64::MAX),
+            | ValueOption::Id
+            | ValueOption::Crc
+            | ValueOption::Credits => from_to(0, 0),
+            ValueOption::From | ValueOption::To | ValueOption::Seed | ValueOption::Seeds => {
+                from_to(0, u64::MAX)
+            }
         }
     }
 }

@@ -39,6 +39,9 @@ impl fmt::Display for RefusedValue<'_> {
     fn fmt<W: fmt::Write>(&self, f: &mut fmt::Formatter<W>) -> fmt::Result {
         let RefusedValue { option, given } = *self;
         let (name, allowed) = (option.name(), option.allowed());
+        if option == ValueOption::Crc {
+            return write!(f, "--{name} goes with --link");
+        }
         match given {
             Some(value) => {
                 f.write_str("invalid value '")?;
@@ -66,7 +69,11 @@ impl fmt::Display for RefusedValue<'_> {
             ValueOption::Granularity => f.write_str("4, 8, 16, 64 or whole"),
             ValueOption::EndpointSize => f.write_str("a power of two from 4096 to 1048576"),
             ValueOption::Id => f.write_str("four hexadecimal digits, ':' and four more"),
+            ValueOption::Credits => f.write_str(
+                "with --link PH,PD,NPH,NPD: 1 to 127, 8 to 2047, 1 to 127 and 2 to 2047",
+            ),
             ValueOption::To => write!(f, "{allowed}, at least --from"),
+            ValueOption::Seeds => write!(f, "FIRST..LAST, each {allowed}, LAST at least FIRST"),
             _ => write!(f, "{allowed}"),
         }
     }

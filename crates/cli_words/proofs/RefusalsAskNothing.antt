@@ -10,13 +10,15 @@ use Rattle.cli_options.specs.declared.options.ValueOption.TheVariants.{Size, Wor
 use Rattle.cli_options.specs.declared.refused.RefusedValue.{RefusedValue}
 use Rattle.cli_options.specs.Values.{Gives, GivesBase, GivesOptional, IsAmong, multiples}
 use Rattle.config_space.specs.SetupView.{SetupView}
+use Rattle.fc_credit.specs.declared.limits.LaneCredits.{LaneCredits}
+use Rattle.cli_words.specs.Links.{IsLinked, IsUnlinked}
 use Rattle.fabric_events.specs.declared.event.LaneName.{LaneName}
 use Rattle.log_pieces.specs.declared.Granularity.{Granularity}
 use Rattle.cli_words.specs.declared.words.Request.{Request}
-use Rattle.cli_words.specs.declared.words.Request.TheVariants.{Tlp, Endpoint, Search, Draw, Chart, Generate, Run}
-use Rattle.cli_words.specs.Options.{Asks, AsksTlp, AsksEndpoint, AsksSearch, AsksDraw, AsksChart, AsksGenerate, AsksRun}
-use Rattle.cli_words.specs.Refusals.{AreRight, IsFirstWrong, Refuses, RefusesOption, RefusesTlp, RefusesEndpoint, RefusesSearch, RefusesDraw, RefusesChart, RefusesRun, tlp_values, search_values, draw_values, chart_values, generate_values, run_values}
-use Rattle.cli_words.proofs.RequestsAsked.{name_of, asks_name, differ}
+use Rattle.cli_words.specs.declared.words.Request.TheVariants.{Tlp, Endpoint, Linked, Search, Draw, Chart, Generate, Sweep, Run}
+use Rattle.cli_words.specs.Options.{Asks, AsksTlp, AsksEndpoint, AsksSearch, AsksDraw, AsksChart, AsksGenerate, AsksSweep, AsksRun}
+use Rattle.cli_words.specs.Refusals.{AreRight, IsFirstWrong, Refuses, RefusesOption, RefusesTlp, RefusesDevice, RefusesWithoutLink, RefusesLink, RefusesEndpoint, RefusesSearch, RefusesDraw, RefusesChart, RefusesSweep, RefusesRun, tlp_values, search_values, draw_values, chart_values, generate_values, sweep_values, run_values}
+use Rattle.cli_words.proofs.RequestsAsked.{name_of, asks_name, differ, true_or_false}
 
 -- where each is right, none is the first that is wrong
 none_wrong : (rows : List Row) (ps : List (ValueOption × Option ℕ)) (option : ValueOption) → AreRight rows ps → IsFirstWrong rows ps option → ⊥
@@ -86,6 +88,19 @@ generate_right rows s a =
       ),
     )
 
+sweep_right : (rows : List Row) (s : Storm) (n : ℕ) (w : Option ℕ) → AsksSweep rows s n w → AreRight rows sweep_values
+sweep_right rows s n w a =
+    let r = a.right in (
+      (s.events, (a.events_read, up_to 1000000000 s.events r.events)),
+      (
+        (s.requesters, (a.requesters_read, among 1 7 s.requesters r.requesters.0 r.requesters.1)),
+        (
+          (s.lose, (a.lose_read, up_to 65536 s.lose r.lose)),
+          ((s.corrupt, (a.corrupt_read, up_to 65536 s.corrupt r.corrupt)), ((s.block, (a.block_read, among_blocks s.block r.block)), tt)),
+        ),
+      ),
+    )
+
 run_right : (rows : List Row) (c : Counting) → AsksRun rows c → AreRight rows run_values
 run_right rows c a =
     let r = a.right in (
@@ -129,16 +144,36 @@ refused_run : (rows : List Row) (option : ValueOption) (c : Counting) → Refuse
 refused_run rows option c (inl h) a = none_wrong rows run_values option (run_right rows c a) h
 refused_run rows option c (inr h) a = h.2 c.workers (run_workers rows c a)
 
+refused_sweep : (rows : List Row) (option : ValueOption) (s : Storm) (n : ℕ) (w : Option ℕ) → RefusesSweep rows option → AsksSweep rows s n w → ⊥
+refused_sweep rows option s n w (inl h) a = h.1 (s.seed, n) a.seeds_read
+refused_sweep rows option s n w (inr (inl h)) a = none_wrong rows sweep_values option (sweep_right rows s n w a) h.1
+refused_sweep rows option s n w (inr (inr h)) a = h.3 w (a.workers_read, IfSome_then w a.workers_right (λ m b. among 1 64 m b.0 b.1))
+
 tlp_nothing : (p : Text × List Row) (option : ValueOption) → p.0 ≡ codes "tlp" → RefusesTlp p.1 option → (r : Request) → Asks (Some p) r → ⊥
 tlp_nothing p option e h (Tlp x) a = refused_tlp p.1 option x h a.1
 tlp_nothing p option e h r a = differ (codes "tlp") (name_of r) refl (sym e ∙ asks_name p r a)
 
-refused_endpoint : (rows : List Row) (option : ValueOption) (s : SetupView) → RefusesEndpoint rows option → AsksEndpoint rows s → ⊥
-refused_endpoint rows option s (inl h) a = h.1 s.size a.size_read
-refused_endpoint rows option s (inr h) a = h.2 (s.vendor, s.device) a.id_read
+refused_device : (rows : List Row) (option : ValueOption) (s : SetupView) → RefusesDevice rows option → AsksEndpoint rows s → ⊥
+refused_device rows option s (inl h) a = h.1 s.size a.size_read
+refused_device rows option s (inr h) a = h.2 (s.vendor, s.device) a.id_read
+
+unlinked_credits : (rows : List Row) (option : ValueOption) → RefusesWithoutLink rows option → IsUnlinked rows → ⊥
+unlinked_credits rows option (inl h) a = true_or_false (first_of (codes "crc") rows) h.1 a.crc_read
+unlinked_credits rows option (inr h) a = h.2 a.credits_read
+
+refused_unlinked : (rows : List Row) (option : ValueOption) → RefusesLink rows option → IsUnlinked rows → ⊥
+refused_unlinked rows option (inl h) a = unlinked_credits rows option h.1 a
+refused_unlinked rows option (inr h) a = true_or_false (first_of (codes "link") rows) h.1 a.link_read
+
+refused_linked : (rows : List Row) (option : ValueOption) (c : LaneCredits) (crc : Bool) → RefusesLink rows option → IsLinked rows c crc → ⊥
+refused_linked rows option c crc (inl h) a = true_or_false (first_of (codes "link") rows) a.link_read h.0
+refused_linked rows option c crc (inr h) a = h.2 c a.credits_read
 
 endpoint_nothing : (p : Text × List Row) (option : ValueOption) → p.0 ≡ codes "endpoint" → RefusesEndpoint p.1 option → (r : Request) → Asks (Some p) r → ⊥
-endpoint_nothing p option e h (Endpoint s t) a = refused_endpoint p.1 option s h a.1
+endpoint_nothing p option e (inl h) (Endpoint s t) a = refused_device p.1 option s h a.1
+endpoint_nothing p option e (inr h) (Endpoint s t) a = refused_unlinked p.1 option h.2 a.3
+endpoint_nothing p option e (inl h) (Linked s t c crc) a = refused_device p.1 option s h a.1
+endpoint_nothing p option e (inr h) (Linked s t c crc) a = refused_linked p.1 option c crc h.2 a.3
 endpoint_nothing p option e h r a = differ (codes "endpoint") (name_of r) refl (sym e ∙ asks_name p r a)
 
 search_nothing : (p : Text × List Row) (option : ValueOption) → p.0 ≡ codes "search" → RefusesSearch p.1 option → (r : Request) → Asks (Some p) r → ⊥
@@ -157,6 +192,10 @@ generate_nothing : (p : Text × List Row) (option : ValueOption) → p.0 ≡ cod
 generate_nothing p option e h (Generate s) a = none_wrong p.1 generate_values option (generate_right p.1 s a.1) h
 generate_nothing p option e h r a = differ (codes "generate") (name_of r) refl (sym e ∙ asks_name p r a)
 
+sweep_nothing : (p : Text × List Row) (option : ValueOption) → p.0 ≡ codes "sweep" → RefusesSweep p.1 option → (r : Request) → Asks (Some p) r → ⊥
+sweep_nothing p option e h (Sweep s n c k w) a = refused_sweep p.1 option s n w h a.1
+sweep_nothing p option e h r a = differ (codes "sweep") (name_of r) refl (sym e ∙ asks_name p r a)
+
 run_nothing : (p : Text × List Row) (option : ValueOption) → p.0 ≡ codes "run" → RefusesRun p.1 option → (r : Request) → Asks (Some p) r → ⊥
 run_nothing p option e h (Run c told) a = refused_run p.1 option c h a.1
 run_nothing p option e h r a = differ (codes "run") (name_of r) refl (sym e ∙ asks_name p r a)
@@ -168,7 +207,8 @@ option_nothing p option (inr (inr (inl h))) = generate_nothing p option h.0 h.1
 option_nothing p option (inr (inr (inr (inl h)))) = run_nothing p option h.0 h.1
 option_nothing p option (inr (inr (inr (inr (inl h))))) = chart_nothing p option h.0 h.1
 option_nothing p option (inr (inr (inr (inr (inr (inl h)))))) = search_nothing p option h.0 h.1
-option_nothing p option (inr (inr (inr (inr (inr (inr h)))))) = endpoint_nothing p option h.0 h.1
+option_nothing p option (inr (inr (inr (inr (inr (inr (inl h))))))) = endpoint_nothing p option h.0 h.1
+option_nothing p option (inr (inr (inr (inr (inr (inr (inr h))))))) = sweep_nothing p option h.0 h.1
 
 pub refused_nothing : (o : Option (Text × List Row)) (v : RefusedValue) → Refuses o v → (r : Request) → Asks o r → ⊥
 refused_nothing None v h r a = h

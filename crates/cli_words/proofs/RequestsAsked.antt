@@ -1,20 +1,23 @@
 -- Words ask for one request at most.
-use Rattle.std.proofs.Common.{◌≡◌, ◌∙◌, ℕ, Bool, true, false, List, refl, sym, ap, codes, Option, Some, None, IfNone}
+use Rattle.std.proofs.Common.{◌≡◌, ◌∙◌, ℕ, Bool, true, false, List, refl, sym, ap, arith, codes, Option, Some, None, IfNone}
 use Rattle.std.specs.Prelude.{bytes_eq}
 use Rattle.std.proofs.lemmas.Slice.Eq.{bytes_eq-Decides}
 use Rattle.clap.specs.Words.{Row, Text}
 use Rattle.parameters.specs.declared.counting.Counting.{Counting}
 use Rattle.parameters.specs.declared.storm.Storm.{Storm}
-use Rattle.seq_memory.specs.Limits.{Extent}
+use Rattle.seq_memory.specs.Limits.{Extent, IsBlock}
 use Rattle.cli_words.specs.declared.words.Request.{Request}
-use Rattle.cli_words.specs.declared.words.Request.TheVariants.{Tlp, Endpoint, Decode, Encode, Check, Search, Draw, Upgrade, Step, Chart, Generate, Run}
-use Rattle.cli_options.specs.Values.{WritesBase, WritesNumber, WritesGiven, WritesOptional, WritesFlag}
+use Rattle.cli_words.specs.declared.words.Request.TheVariants.{Tlp, Endpoint, Linked, Decode, Encode, Check, Search, Draw, Upgrade, Step, Chart, Generate, Sweep, Run}
+use Rattle.cli_options.specs.Values.{IsAmong, multiples, WritesBase, WritesNumber, WritesGiven, WritesOptional, WritesFlag}
 use Rattle.fabric_events.specs.declared.event.LaneName.{LaneName}
 use Rattle.log_pieces.specs.declared.Granularity.{Granularity}
 use Rattle.config_space.specs.SetupView.{SetupView}
+use Rattle.fc_credit.specs.declared.limits.LaneCredits.{LaneCredits}
+use Rattle.cli_words.specs.Links.{WritesCredits}
 use Rattle.cli_words.specs.Endpoints.{WritesId, WritesSize}
 use Rattle.cli_words.specs.Granularities.{WritesGranularity}
 use Rattle.cli_words.specs.Lanes.{WritesLane}
+use Rattle.cli_words.specs.Seeds.{first_digits, last_digits, WritesSeeds}
 use Rattle.cli_words.specs.Options.{Asks}
 
 pub if_none : {T P : Type 0} (o : Option T) → P → IfNone o P
@@ -41,6 +44,10 @@ same_optional (Some t) (Some a) None h k = cc
 same_optional None (Some a) None h k = absurd h
 same_optional t (Some a) (Some b) h k = ap Some (same_given t a b h k)
 
+-- a multiple of 64 from 64 to 128
+pub block_among : (n : ℕ) → IsAmong (multiples 64 64 128) n → IsBlock n
+block_among n a = grind (arith, a.least, a.most, a.multiple)
+
 pub same_extent : (x y : Extent) → x.base ≡ y.base → x.size ≡ y.size → x.block ≡ y.block → x ≡ y
 same_extent x y a b e j = record { base = a j; size = b j; block = e j }
 
@@ -54,6 +61,7 @@ same_storm s t a b e f g h j = record { seed = a j; events = b j; requesters = e
 abbrev pub name_of : Request → Text
 name_of (Tlp x) = codes "tlp"
 name_of (Endpoint s is_traced) = codes "endpoint"
+name_of (Linked s is_traced ours has_crc) = codes "endpoint"
 name_of Decode = codes "decode"
 name_of Encode = codes "encode"
 name_of (Check is_clocked) = codes "check"
@@ -63,11 +71,13 @@ name_of Upgrade = codes "upgrade"
 name_of (Step is_traced keeps_going echoes) = codes "step"
 name_of (Chart lane from to is_brief has_levels) = codes "chart"
 name_of (Generate storm) = codes "generate"
+name_of (Sweep storm last is_clocked keeps_going workers) = codes "sweep"
 name_of (Run counting is_told) = codes "run"
 
 pub asks_name : (p : Text × List Row) (r : Request) → Asks (Some p) r → p.0 ≡ name_of r
 asks_name p (Tlp x) a = a.0
 asks_name p (Endpoint s is_traced) a = a.0
+asks_name p (Linked s is_traced ours has_crc) a = a.0
 asks_name p Decode a = a
 asks_name p Encode a = a
 asks_name p (Check is_clocked) a = a.0
@@ -77,6 +87,7 @@ asks_name p Upgrade a = a
 asks_name p (Step is_traced keeps_going echoes) a = a.0
 asks_name p (Chart lane from to is_brief has_levels) a = a.0
 asks_name p (Generate storm) a = a.0
+asks_name p (Sweep storm last is_clocked keeps_going workers) a = a.0
 asks_name p (Run counting is_told) a = a.0
 
 pub differ : (x y : Text) → bytes_eq x y ≡ false → x ≡ y → ⊥
@@ -88,6 +99,16 @@ differ x y other e = let same = (bytes_eq-Decides x y).1 e in false_true (sym ot
 same_flag : (t : Option Text) (a b : Bool) → WritesFlag t a → WritesFlag t b → a ≡ b
 same_flag None a b h k = h ∙ sym k
 same_flag (Some t) a b h k = h ∙ sym k
+
+pub true_or_false : (t : Option Text) → WritesFlag t true → WritesFlag t false → ⊥
+true_or_false t h k = let e : true ≡ false = same_flag t true false h k in absurd (cc)
+
+same_credits : (t : Option Text) (a b : LaneCredits) → WritesCredits t a → WritesCredits t b → a ≡ b
+same_credits None a b h k = h ∙ sym k
+same_credits (Some t) a b h k = same_Some a b (sym h ∙ k)
+  where
+    same_Some : (a b : LaneCredits) → Some a ≡ Some b → a ≡ b
+    same_Some a b e = cc
 
 same_lane : (t : Option Text) (a b : Option LaneName) → WritesLane t a → WritesLane t b → a ≡ b
 same_lane None a b h k = h ∙ sym k
@@ -114,6 +135,10 @@ same_id (Some t) a b h k = same_Some a b (sym h ∙ k)
     same_Some : (a b : ℕ × ℕ) → Some a ≡ Some b → a ≡ b
     same_Some a b e = cc
 
+same_seeds : (t : Option Text) (a b : ℕ × ℕ) → WritesSeeds t a → WritesSeeds t b → (a.0 ≡ b.0) × (a.1 ≡ b.1)
+same_seeds None a b h k = absurd h
+same_seeds (Some t) a b h k = (same_given (Some (first_digits t)) a.0 b.0 h.first_read.0 k.first_read.0, same_given (last_digits t) a.1 b.1 h.last_read.0 k.last_read.0)
+
 same_setup : (s t : SetupView) → s.size ≡ t.size → ◌≡◌ {A = ℕ × ℕ} (s.vendor, s.device) (t.vendor, t.device) → s ≡ t
 same_setup s t e f j = record { size = e j; vendor = (f j).0; device = (f j).1 }
 
@@ -130,6 +155,15 @@ asks_one (Some p) (Endpoint s t) (Endpoint s' u) a b =
     let y = b.1 in
     ap (λ (z : SetupView). Endpoint z t) (same_setup s s' (same_size _ s.size s'.size x.size_read y.size_read) (same_id _ (s.vendor, s.device) (s'.vendor, s'.device) x.id_read y.id_read))
     ∙ ap (λ (z : Bool). Endpoint s' z) (same_flag _ t u a.2 b.2)
+asks_one (Some p) (Linked s t c e) (Linked s' u d f) a b =
+    let x = a.1 in
+    let y = b.1 in
+    ap (λ (z : SetupView). Linked z t c e) (same_setup s s' (same_size _ s.size s'.size x.size_read y.size_read) (same_id _ (s.vendor, s.device) (s'.vendor, s'.device) x.id_read y.id_read))
+    ∙ ap (λ (z : Bool). Linked s' z c e) (same_flag _ t u a.2 b.2)
+    ∙ ap (λ (z : LaneCredits). Linked s' u z e) (same_credits _ c d a.3.credits_read b.3.credits_read)
+    ∙ ap (λ (z : Bool). Linked s' u d z) (same_flag _ e f a.3.crc_read b.3.crc_read)
+asks_one (Some p) (Endpoint s t) (Linked s' u d f) a b = absurd (true_or_false _ b.3.link_read a.3.link_read)
+asks_one (Some p) (Linked s t c e) (Endpoint s' u) a b = absurd (true_or_false _ a.3.link_read b.3.link_read)
 asks_one (Some p) Decode Decode a b = refl
 asks_one (Some p) Encode Encode a b = refl
 asks_one (Some p) (Check t) (Check u) a b = ap Check (same_flag _ t u a.1 b.1)
@@ -159,6 +193,14 @@ asks_one (Some p) (Generate s) (Generate t) a b =
     let y = b.1 in
     ap Generate (same_storm s t (same_given _ _ _ x.seed_read y.seed_read) (same_given _ _ _ x.events_read y.events_read) (same_number 3 _ _ _ x.requesters_read y.requesters_read)
     (same_number 0 _ _ _ x.lose_read y.lose_read) (same_number 0 _ _ _ x.corrupt_read y.corrupt_read) (same_number 64 _ _ _ x.block_read y.block_read))
+asks_one (Some p) (Sweep s n c k w) (Sweep t m d l v) a b =
+    let x = a.1 in
+    let y = b.1 in
+    let seeds = same_seeds _ (s.seed, n) (t.seed, m) x.seeds_read y.seeds_read in
+    let same = same_storm s t seeds.0 (same_given _ _ _ x.events_read y.events_read) (same_number 3 _ _ _ x.requesters_read y.requesters_read)
+    (same_number 0 _ _ _ x.lose_read y.lose_read) (same_number 0 _ _ _ x.corrupt_read y.corrupt_read) (same_number 64 _ _ _ x.block_read y.block_read) in
+    ap (λ (z : Storm). Sweep z n c k w) same ∙ ap (λ (z : ℕ). Sweep t z c k w) seeds.1 ∙ ap (λ (z : Bool). Sweep t m z k w) (same_flag _ c d a.2 b.2)
+    ∙ ap (λ (z : Bool). Sweep t m d z w) (same_flag _ k l a.3 b.3) ∙ ap (λ (z : Option ℕ). Sweep t m d l z) (same_optional _ w v x.workers_read y.workers_read)
 asks_one (Some p) (Run c t) (Run d u) a b =
     let x = a.1 in
     let y = b.1 in

@@ -1,8 +1,9 @@
 -- What the words of a command line ask for.
-use Rattle.std.specs.Prelude.{◌≡◌, ◌≤◌, ◌<◌, ◌^◌, ℕ, Bool, true, List, Option, Some, None, codes}
+use Rattle.std.specs.Prelude.{◌≡◌, ◌≤◌, ◌<◌, ◌^◌, ℕ, Bool, true, List, Option, Some, None, IfSome, codes}
 use Rattle.clap.specs.declared.builder.action.ArgAction.TheVariants.{SetTrue}
 use Rattle.clap.specs.Words.{App, Row, Rule, Text, first_of, new_app, new_rule, with_rule, with_subcommand}
 use Rattle.parameters.specs.declared.counting.Counting.{Counting}
+use Rattle.parameters.specs.declared.counting.TheConstants.{MOST_WORKERS}
 use Rattle.parameters.specs.Ranges.{IsCounting}
 use Rattle.seq_memory.specs.Limits.{Extent, IsWithinLimits}
 use Rattle.parameters.specs.declared.storm.Storm.{Storm}
@@ -15,10 +16,12 @@ use Rattle.config_space.specs.SetupView.{SetupView}
 use Rattle.cli_words.specs.Endpoints.{WritesId, WritesSize}
 use Rattle.cli_words.specs.Granularities.{WritesGranularity}
 use Rattle.cli_words.specs.Lanes.{WritesLane}
+use Rattle.cli_words.specs.Seeds.{WritesSeeds}
 use Rattle.cli_words.specs.declared.words.Request.{Request}
 use Rattle.cli_words.specs.declared.words.Subcommand.{Subcommand}
 use Rattle.cli_words.specs.declared.words.Subcommand.TheVariants as kinds
-use Rattle.cli_words.specs.declared.words.Request.TheVariants.{Tlp, Endpoint, Decode, Encode, Check, Search, Draw, Upgrade, Step, Chart, Generate, Run}
+use Rattle.cli_words.specs.declared.words.Request.TheVariants.{Tlp, Endpoint, Linked, Decode, Encode, Check, Search, Draw, Upgrade, Step, Chart, Generate, Sweep, Run}
+use Rattle.cli_words.specs.Links.{IsLinked, IsUnlinked}
 
 -- the name of a subcommand
 abbrev pub text_of : Subcommand → Text
@@ -33,6 +36,7 @@ text_of kinds.Upgrade = codes "upgrade"
 text_of kinds.Step = codes "step"
 text_of kinds.Chart = codes "chart"
 text_of kinds.Generate = codes "generate"
+text_of kinds.Sweep = codes "sweep"
 text_of kinds.Run = codes "run"
 
 -- an option with a value
@@ -46,8 +50,13 @@ tlp_app = with_rule (with_rule (with_rule (new_app (codes "tlp")) (option (codes
 abbrev pub flag : Text → Rule
 flag name = record (new_rule name) { long = Some name; action = Some SetTrue }
 
+-- with a link, and what goes with it
+abbrev pub with_link : App → App
+with_link app = with_rule (with_rule (with_rule app (flag (codes "link"))) (flag (codes "crc"))) (option (codes "credits"))
+
 abbrev pub endpoint_app : App
-endpoint_app = with_rule (with_rule (with_rule (new_app (codes "endpoint")) (option (codes "size"))) (option (codes "id"))) (flag (codes "trace"))
+endpoint_app =
+    with_link (with_rule (with_rule (with_rule (new_app (codes "endpoint")) (option (codes "size"))) (option (codes "id"))) (flag (codes "trace")))
 
 abbrev pub check_app : App
 check_app = with_rule (new_app (codes "check")) (flag (codes "clocked"))
@@ -80,6 +89,11 @@ generate_app =
     with_rule (with_links (with_rule (with_rule (with_rule (new_app (codes "generate")) (required (codes "seed"))) (required (codes "events"))) (option (codes "requesters"))))
     (option (codes "block"))
 
+abbrev pub sweep_app : App
+sweep_app =
+    with_rule (with_rule (with_rule (with_rule (with_links (with_rule (with_rule (with_rule (new_app (codes "sweep")) (required (codes "seeds"))) (required (codes "events"))) (option (codes "requesters"))))
+    (option (codes "block"))) (flag (codes "clocked"))) (flag (codes "keep-going"))) (option (codes "workers"))
+
 abbrev pub run_app : App
 run_app =
     with_rule (with_rule (with_rule (with_links (with_rule (with_rule (new_app (codes "run")) (required (codes "requesters"))) (required (codes "each")))) (option (codes "turns"))) (option (codes "workers")))
@@ -101,7 +115,7 @@ with_traces app =
 -- the grammar of the command line
 unfoldable pub the_app : App
 the_app =
-    with_subcommand (with_subcommand (with_subcommand (with_subcommand (with_traces (with_packets top_app)) step_app.top) chart_app.top) generate_app.top) run_app.top
+    with_subcommand (with_subcommand (with_subcommand (with_subcommand (with_subcommand (with_traces (with_packets top_app)) step_app.top) chart_app.top) generate_app.top) sweep_app.top) run_app.top
 
 -- the values of `tlp` ask for this memory
 pub record AsksTlp (rows : List Row) (x : Extent) : Type 0 where
@@ -160,6 +174,19 @@ pub record AsksGenerate (rows : List Row) (s : Storm) : Type 0 where
   pub fits : s.seed < 2 ^ 64
   pub right : IsStorm s
 
+-- the values of `sweep` ask for the storms from this one to that of the last seed, on so many threads, if any number is given
+pub record AsksSweep (rows : List Row) (s : Storm) (last : ℕ) (workers : Option ℕ) : Type 0 where
+  pub seeds_read : WritesSeeds (first_of (codes "seeds") rows) (s.seed, last)
+  pub events_read : WritesGiven (first_of (codes "events") rows) s.events
+  pub requesters_read : WritesNumber 3 (first_of (codes "requesters") rows) s.requesters
+  pub lose_read : WritesNumber 0 (first_of (codes "lose") rows) s.lose
+  pub corrupt_read : WritesNumber 0 (first_of (codes "corrupt") rows) s.corrupt
+  pub block_read : WritesNumber 64 (first_of (codes "block") rows) s.block
+  pub workers_read : WritesOptional (first_of (codes "workers") rows) workers
+  pub ordered : s.seed ≤ last
+  pub right : IsStorm s
+  pub workers_right : IfSome workers (λ n. (1 ≤ n) × (n ≤ MOST_WORKERS))
+
 -- the values of `run` ask for this counting
 pub record AsksRun (rows : List Row) (c : Counting) : Type 0 where
   pub requesters_read : WritesGiven (first_of (codes "requesters") rows) c.requesters
@@ -174,7 +201,9 @@ pub record AsksRun (rows : List Row) (c : Counting) : Type 0 where
 abbrev pub Asks : Option (Text × List Row) → Request → Type 0
 Asks None request = ⊥
 Asks (Some p) (Tlp x) = (p.0 ≡ codes "tlp") × AsksTlp p.1 x
-Asks (Some p) (Endpoint s is_traced) = (p.0 ≡ codes "endpoint") × AsksEndpoint p.1 s × WritesFlag (first_of (codes "trace") p.1) is_traced
+Asks (Some p) (Endpoint s is_traced) = (p.0 ≡ codes "endpoint") × AsksEndpoint p.1 s × WritesFlag (first_of (codes "trace") p.1) is_traced × IsUnlinked p.1
+Asks (Some p) (Linked s is_traced ours has_crc) =
+    (p.0 ≡ codes "endpoint") × AsksEndpoint p.1 s × WritesFlag (first_of (codes "trace") p.1) is_traced × IsLinked p.1 ours has_crc
 Asks (Some p) Decode = p.0 ≡ codes "decode"
 Asks (Some p) Encode = p.0 ≡ codes "encode"
 Asks (Some p) (Check is_clocked) = (p.0 ≡ codes "check") × WritesFlag (first_of (codes "clocked") p.1) is_clocked
@@ -185,4 +214,6 @@ Asks (Some p) Upgrade = p.0 ≡ codes "upgrade"
 Asks (Some p) (Step is_traced keeps_going echoes) = (p.0 ≡ codes "step") × AsksStep p.1 is_traced keeps_going echoes
 Asks (Some p) (Chart lane from to is_brief has_levels) = (p.0 ≡ codes "chart") × AsksChart p.1 lane from to is_brief has_levels
 Asks (Some p) (Generate storm) = (p.0 ≡ codes "generate") × AsksGenerate p.1 storm
+Asks (Some p) (Sweep storm last is_clocked keeps_going workers) =
+    (p.0 ≡ codes "sweep") × AsksSweep p.1 storm last workers × WritesFlag (first_of (codes "clocked") p.1) is_clocked × WritesFlag (first_of (codes "keep-going") p.1) keeps_going
 Asks (Some p) (Run counting is_told) = (p.0 ≡ codes "run") × AsksRun p.1 counting × WritesFlag (first_of (codes "progress") p.1) is_told

@@ -1,16 +1,19 @@
 -- Which option's value is refused: the first that is wrong in the grammar's order; or, where each is right, one that
 -- does not go with another.
-use Rattle.std.specs.Prelude.{◌≡◌, ◌≤◌, ◌+◌, ◌^◌, ◌⊎◌, ℕ, List, [], ◌∷◌, Option, Some, None, codes, option_map}
+use Rattle.std.specs.Prelude.{true, false, ◌≡◌, ◌≢◌, ◌≤◌, ◌+◌, ◌^◌, ◌⊎◌, ℕ, List, [], ◌∷◌, Option, Some, None, codes, option_map}
 use Rattle.clap.specs.Words.{Row, Text, first_of}
 use Rattle.fabric_events.specs.declared.event.LaneName.{LaneName}
 use Rattle.log_pieces.specs.declared.Granularity.{Granularity}
 use Rattle.cli_words.specs.Endpoints.{WritesId, WritesSize}
 use Rattle.cli_words.specs.Granularities.{WritesGranularity}
 use Rattle.cli_words.specs.Lanes.{WritesLane}
+use Rattle.cli_words.specs.Seeds.{WritesSeeds}
 use Rattle.cli_options.specs.declared.options.ValueOption.{ValueOption}
-use Rattle.cli_options.specs.declared.options.ValueOption.TheVariants.{Base, Size, Block, Requesters, Each, Lose, Corrupt, Turns, Workers, From, To, Seed, Events, Lane, Limit, Work, Granularity as the_granularity, EndpointSize, Id}
+use Rattle.cli_options.specs.declared.options.ValueOption.TheVariants.{Base, Size, Block, Requesters, Each, Lose, Corrupt, Turns, Workers, From, To, Seed, Seeds, Events, Lane, Limit, Work, Granularity as the_granularity, EndpointSize, Id, Crc, Credits}
+use Rattle.cli_words.specs.Links.{WritesCredits}
 use Rattle.cli_options.specs.declared.refused.RefusedValue.{RefusedValue}
-use Rattle.cli_options.specs.Values.{Gives, GivesBase, GivesOptional, name_of}
+use Rattle.fc_credit.specs.declared.limits.LaneCredits.{LaneCredits}
+use Rattle.cli_options.specs.Values.{WritesFlag, Gives, GivesBase, GivesOptional, name_of}
 
 -- the value gives a number that the option may have; the option stands with its default, if it has one
 abbrev pub IsRight : List Row → ValueOption × Option ℕ → Type 0
@@ -47,8 +50,22 @@ IsRightSize rows = (n : ℕ) × WritesSize (first_of (codes "size") rows) n
 abbrev pub IsWrongSize : List Row → Type 0
 IsWrongSize rows = (n : ℕ) → WritesSize (first_of (codes "size") rows) n → ⊥
 
+abbrev pub IsRightId : List Row → Type 0
+IsRightId rows = (id : ℕ × ℕ) × WritesId (first_of (codes "id") rows) id
+
 abbrev pub IsWrongId : List Row → Type 0
 IsWrongId rows = (id : ℕ × ℕ) → WritesId (first_of (codes "id") rows) id → ⊥
+
+-- the same of the seeds of a sweep
+abbrev pub IsRightSeeds : List Row → Type 0
+IsRightSeeds rows = (seeds : ℕ × ℕ) × WritesSeeds (first_of (codes "seeds") rows) seeds
+
+abbrev pub IsWrongSeeds : List Row → Type 0
+IsWrongSeeds rows = (seeds : ℕ × ℕ) → WritesSeeds (first_of (codes "seeds") rows) seeds → ⊥
+
+-- the same of the credits of an endpoint behind a link
+abbrev pub IsWrongCredits : List Row → Type 0
+IsWrongCredits rows = (c : LaneCredits) → WritesCredits (first_of (codes "credits") rows) c → ⊥
 
 -- the same of a number that need not be given
 abbrev pub IsRightOptional : List Row → ValueOption → Type 0
@@ -83,6 +100,9 @@ chart_values = (From, Some 1) ∷ (To, Some 18446744073709551615) ∷ []
 abbrev pub generate_values : List (ValueOption × Option ℕ)
 generate_values = (Seed, None) ∷ (Events, None) ∷ (Requesters, Some 3) ∷ (Lose, Some 0) ∷ (Corrupt, Some 0) ∷ (Block, Some 64) ∷ []
 
+abbrev pub sweep_values : List (ValueOption × Option ℕ)
+sweep_values = (Events, None) ∷ (Requesters, Some 3) ∷ (Lose, Some 0) ∷ (Corrupt, Some 0) ∷ (Block, Some 64) ∷ []
+
 abbrev pub run_values : List (ValueOption × Option ℕ)
 run_values = (Requesters, None) ∷ (Each, None) ∷ (Lose, Some 0) ∷ (Corrupt, Some 0) ∷ (Turns, Some 50000000) ∷ []
 
@@ -103,14 +123,37 @@ RefusesTlp rows option =
     (option ≡ Base) × IsWrongBase rows ⊎ IsRightBase rows × IsFirstWrong rows tlp_values option
     ⊎ (option ≡ Base) × IsRightBase rows × AreRight rows tlp_values × EndsBeyond rows
 
+-- neither CRCs nor credits
+abbrev pub HasNoLink : List Row → Type 0
+HasNoLink rows = WritesFlag (first_of (codes "crc") rows) false × (first_of (codes "credits") rows ≡ None)
+
+abbrev pub RefusesWithoutLink : List Row → ValueOption → Type 0
+RefusesWithoutLink rows option =
+    (option ≡ Crc) × WritesFlag (first_of (codes "crc") rows) true
+    ⊎ (option ≡ Credits) × WritesFlag (first_of (codes "crc") rows) false × (first_of (codes "credits") rows ≢ None)
+
+-- CRCs or credits without a link, or a wrong value of credits
+abbrev pub RefusesLink : List Row → ValueOption → Type 0
+RefusesLink rows option =
+    WritesFlag (first_of (codes "link") rows) false × RefusesWithoutLink rows option
+    ⊎ (option ≡ Credits) × WritesFlag (first_of (codes "link") rows) true × IsWrongCredits rows
+
+abbrev pub RefusesDevice : List Row → ValueOption → Type 0
+RefusesDevice rows option = (option ≡ EndpointSize) × IsWrongSize rows ⊎ (option ≡ Id) × IsRightSize rows × IsWrongId rows
+
 abbrev pub RefusesEndpoint : List Row → ValueOption → Type 0
-RefusesEndpoint rows option = (option ≡ EndpointSize) × IsWrongSize rows ⊎ (option ≡ Id) × IsRightSize rows × IsWrongId rows
+RefusesEndpoint rows option = RefusesDevice rows option ⊎ IsRightSize rows × IsRightId rows × RefusesLink rows option
 
 abbrev pub RefusesSearch : List Row → ValueOption → Type 0
 RefusesSearch rows option = IsFirstWrong rows search_values option ⊎ (option ≡ the_granularity) × AreRight rows search_values × IsWrongGranularity rows
 
 abbrev pub RefusesRun : List Row → ValueOption → Type 0
 RefusesRun rows option = IsFirstWrong rows run_values option ⊎ (option ≡ Workers) × AreRight rows run_values × IsWrongOptional rows Workers
+
+abbrev pub RefusesSweep : List Row → ValueOption → Type 0
+RefusesSweep rows option =
+    (option ≡ Seeds) × IsWrongSeeds rows ⊎ IsRightSeeds rows × IsFirstWrong rows sweep_values option
+    ⊎ (option ≡ Workers) × IsRightSeeds rows × AreRight rows sweep_values × IsWrongOptional rows Workers
 
 abbrev pub RefusesDraw : List Row → ValueOption → Type 0
 RefusesDraw rows option = IsFirstWrong rows draw_values option ⊎ (option ≡ To) × AreRight rows draw_values × EndsBefore rows
@@ -127,6 +170,7 @@ RefusesOption name rows option =
     ⊎ (name ≡ codes "chart") × RefusesChart rows option
     ⊎ (name ≡ codes "search") × RefusesSearch rows option
     ⊎ (name ≡ codes "endpoint") × RefusesEndpoint rows option
+    ⊎ (name ≡ codes "sweep") × RefusesSweep rows option
 
 -- of the subcommand with its values this option is refused, with what is written of it
 abbrev pub Refuses : Option (Text × List Row) → RefusedValue → Type 0

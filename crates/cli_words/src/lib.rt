@@ -4,6 +4,8 @@
 mod endpoints;
 mod granularities;
 mod lanes;
+mod links;
+mod seeds;
 mod subcommands;
 mod texts;
 mod words;

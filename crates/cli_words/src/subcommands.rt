@@ -3,7 +3,7 @@ ghost use Rattle.std.specs.Prelude.{◌≡◌, IfOk, false};
 ghost use Rattle.clap.specs.Words.{App, app_of, new_app, with_rule, with_subcommand};
 ghost use Rattle.clap.specs.Walk.{rule_of};
 ghost use Rattle.clap.specs.declared.builder.Command.TheViews.{out-Command};
-ghost use Rattle.cli_words.specs.Options.{the_app, top_app, tlp_app, endpoint_app, check_app, search_app, draw_app, step_app, chart_app, generate_app, run_app, with_links, with_packets, with_traces, option, required, flag};
+ghost use Rattle.cli_words.specs.Options.{the_app, top_app, tlp_app, endpoint_app, check_app, search_app, draw_app, step_app, chart_app, generate_app, sweep_app, run_app, with_link, with_links, with_packets, with_traces, option, required, flag};
 
 use crate::texts;
 use crate::texts::Help;
@@ -96,6 +96,17 @@ fn tlp_command<'a>(alloc: Global) -> Result<Command<'a>, AllocError>
     with_arg(size, option_of(alloc, "block", "BYTES", texts::BLOCK))
 }
 
+/// The command with the options of a link.
+fn with_link<'a>(alloc: Global, command: Command<'a>) -> Result<Command<'a>, AllocError>
+    requires globals { (out-Command command).has_globals ≡ false }
+    ensures app { IfOk result (λ c. app_of c ≡ with_link (app_of command.entry)) }
+    ensures globals { IfOk result (λ c. (out-Command c).has_globals ≡ false) }
+{
+    let link = with_arg(command, flag_of(alloc, "link", texts::LINK))?;
+    let crc = with_arg(link, flag_of(alloc, "crc", texts::CRC))?;
+    with_arg(crc, option_of(alloc, "credits", "CREDITS", texts::CREDITS))
+}
+
 /// The subcommand `endpoint`.
 fn endpoint_command<'a>(alloc: Global) -> Result<Command<'a>, AllocError>
     ensures app { IfOk result (λ c. app_of c ≡ endpoint_app) }
@@ -104,7 +115,8 @@ fn endpoint_command<'a>(alloc: Global) -> Result<Command<'a>, AllocError>
     let endpoint = plain_command(alloc, "endpoint", texts::ENDPOINT);
     let size = with_arg(endpoint, option_of(alloc, "size", "BYTES", texts::MEMORY))?;
     let id = with_arg(size, option_of(alloc, "id", "IDS", texts::ID))?;
-    with_arg(id, flag_of(alloc, "trace", texts::RECORD))
+    let trace = with_arg(id, flag_of(alloc, "trace", texts::RECORD))?;
+    with_link(alloc, trace)
 }
 
 /// The subcommand `step`.
@@ -166,7 +178,7 @@ fn chart_command<'a>(alloc: Global) -> Result<Command<'a>, AllocError>
     with_arg(brief, flag_of(alloc, "levels", texts::LEVELS))
 }
 
-/// The command with the links' faults, which `generate` and `run` have.
+/// The command with the links' faults, which `generate`, `sweep` and `run` have.
 fn with_links<'a>(alloc: Global, command: Command<'a>) -> Result<Command<'a>, AllocError>
     requires globals { (out-Command command).has_globals ≡ false }
     ensures app { IfOk result (λ c. app_of c ≡ with_links (app_of command.entry)) }
@@ -190,6 +202,28 @@ fn generate_command<'a>(alloc: Global) -> Result<Command<'a>, AllocError>
     )?;
     let links = with_links(alloc, requesters)?;
     with_arg(links, option_of(alloc, "block", "BYTES", texts::BLOCK))
+}
+
+/// The subcommand `sweep`.
+fn sweep_command<'a>(alloc: Global) -> Result<Command<'a>, AllocError>
+    ensures app { IfOk result (λ c. app_of c ≡ sweep_app) }
+    ensures globals { IfOk result (λ c. (out-Command c).has_globals ≡ false) }
+{
+    let sweep = plain_command(alloc, "sweep", texts::SWEEP);
+    let seeds = with_arg(sweep, required_of(alloc, "seeds", "SEEDS", texts::SEEDS))?;
+    let events = with_arg(seeds, required_of(alloc, "events", "COUNT", texts::EVENTS))?;
+    let requesters = with_arg(
+        events,
+        option_of(alloc, "requesters", "COUNT", texts::SOME_REQUESTERS),
+    )?;
+    let links = with_links(alloc, requesters)?;
+    let block = with_arg(links, option_of(alloc, "block", "BYTES", texts::BLOCK))?;
+    let clocked = with_arg(block, flag_of(alloc, "clocked", texts::WITH_CLOCK))?;
+    let keep_going = with_arg(clocked, flag_of(alloc, "keep-going", texts::MORE_SEEDS))?;
+    with_arg(
+        keep_going,
+        option_of(alloc, "workers", "COUNT", texts::THREADS),
+    )
 }
 
 /// The subcommand `run`.
@@ -257,5 +291,6 @@ pub(crate) fn grammar<'a>(alloc: Global) -> Result<Command<'a>, AllocError>
     let step = with_made(traces, step_command(alloc))?;
     let chart = with_made(step, chart_command(alloc))?;
     let generate = with_made(chart, generate_command(alloc))?;
-    with_made(generate, run_command(alloc))
+    let sweep = with_made(generate, sweep_command(alloc))?;
+    with_made(sweep, run_command(alloc))
 }

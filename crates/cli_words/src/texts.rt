@@ -15,15 +15,15 @@ pub(crate) static ABOUT: &str =
     "A proved PCI Express memory device, fabric simulator and history checker";
 
 pub(crate) static AFTER: &str =
-    "Subcommands other than 'generate' and 'run' read standard input, or the file that the last
-word names. Results are printed on standard output, and the reasons of faults and refusals
-on standard error.
+    "Subcommands other than 'generate', 'sweep' and 'run' read standard input, or the file that
+the last word names. Results are printed on standard output, and the reasons of faults and
+refusals on standard error.
 'pciex <COMMAND> --help' has the details and an example.
 
 Exit status:
   0  success
-  1  a fault, a flaw, a refusal, 'none' or a halt was printed, or reading, writing or memory
-     failed
+  1  a fault, a flaw, a refusal, 'none', a failing seed or a halt was printed, or reading,
+     writing or memory failed
   2  wrong arguments
   3  a part of 'run' used up its turns, or 'search' its limit";
 
@@ -51,7 +51,12 @@ malformed. A posted request acts at once, the others wait. 'next': the oldest re
 a read by one block of 128 bytes, and the result is 'tlp' and its completion; '-' if none
 waits. 'reset': registers are as at first, and the memory stays. 'trace': what '--trace'
 recorded. Empty lines and lines that begin with '#' are ignored. The result of any other
-line is 'fault Line'.",
+line is 'fault Line'.
+
+With '--link' it is behind its end of a link, and has no 'tlp' and 'reset'. 'packet', a
+sequence number and a TLP in digits, and 'good' or 'failed': what the receiver makes of it.
+'dllp' and a DLLP in the same way. 'next': what is sent next. 'up' and 'down', 'refresh',
+'replay' and 'retrained': the physical layer and the timers. 'state': the state of the link.",
     example: "Example:
   $ printf 'tlp 04000001 0008630F 01000000\\nnext\\n' | pciex endpoint
   accept
@@ -178,6 +183,19 @@ The same arguments give the same script on every machine.",
   ok",
 };
 
+pub(crate) static SWEEP: Help = Help {
+    about: "Run and check the stress scripts of many seeds",
+    long: "Runs and checks the stress scripts of many seeds, in threads.
+
+Each seed is done as 'generate', 'step --trace' and 'check' do it in a pipe. The result of a
+seed that fails is two lines: 'failed', the seed and what 'check' prints; and the pipe, which
+prints the same. The last line is 'ok' and the number of seeds that don't fail. The output
+is in the order of seeds, and the same for any number of threads.",
+    example: "Example:
+  $ pciex sweep --seeds 1..200 --events 1000 --lose 8 --corrupt 9
+  ok 200",
+};
+
 pub(crate) static RUN: Help = Help {
     about: "Count with worker threads over lossy links, and check the history",
     long: "Counts with worker threads over lossy links, and checks the history.
@@ -212,6 +230,13 @@ pub(crate) static ID: &str =
     "Vendor ID and Device ID, four hexadecimal digits each [default: 1234:7C1E]";
 
 pub(crate) static RECORD: &str = "Record what acts on the memory, for the line 'trace'";
+
+pub(crate) static LINK: &str = "Act behind an end of a link: packets and DLLPs in place of TLPs";
+
+pub(crate) static CRC: &str = "With --link: packets and DLLPs have their CRC behind them";
+
+pub(crate) static CREDITS: &str =
+    "With --link: PH,PD,NPH,NPD, the credits that it advertises [default: 16,64,16,16]";
 
 pub(crate) static LIMIT: &str = "Number of choices to look at, 1 to 1000000000 [default: 1000000]";
 
@@ -263,6 +288,16 @@ pub(crate) static KEEP_GOING: &str =
 pub(crate) static ECHO: &str = "Print each result after its line, as in 'transmit up1 -> sent 000'";
 
 pub(crate) static SEED: &str = "Seed of the random choices, 0 to 18446744073709551615";
+
+pub(crate) static SEEDS: &str =
+    "First and last seed, as in 1..1000; a seed is 0 to 18446744073709551615";
+
+pub(crate) static WITH_CLOCK: &str = "Also test the n of each trace, as 'check --clocked' does";
+
+pub(crate) static MORE_SEEDS: &str =
+    "Continue after a seed that fails; the exit status is 1 all the same";
+
+pub(crate) static THREADS: &str = "Number of threads, 1 to 64 [default: the number of processors]";
 
 pub(crate) static EVENTS: &str = "Number of events, 0 to 1000000000";
 

@@ -1,8 +1,8 @@
 //! What the words of a command line ask for.
-ghost use Rattle.std.specs.Prelude.{◌≡◌, IfOk, IfErr, IfSome, IfNone, OnErr, map, true, codes, Some, [], option_map};
+ghost use Rattle.std.specs.Prelude.{◌≡◌, IfOk, IfErr, IfSome, IfNone, OnOk, OnErr, map, true, codes, Some, [], option_map};
 ghost use Rattle.clap.specs.Words.{FailsBy, HasKind, fault_of, kind_of, subcommand_of, subcommand_rows_of, has_subcommand, takes, rows_of, found_of, first_of};
-ghost use Rattle.cli_options.specs.Values.{Gives, GivesBase, GivesOptional, name_of};
-ghost use Rattle.cli_options.specs.declared.options.ValueOption.TheVariants.{Base, Lane, Granularity as the_granularity, EndpointSize, Id};
+ghost use Rattle.cli_options.specs.Values.{Gives, GivesBase, GivesOptional, WritesFlag, name_of};
+ghost use Rattle.cli_options.specs.declared.options.ValueOption.TheVariants.{Base, Seeds, Lane, Granularity as the_granularity, EndpointSize, Id, Credits};
 ghost use Rattle.cli_words.specs.declared.words.Request.{Request};
 ghost use Rattle.cli_words.specs.declared.words.RequestFault.TheVariants.{Value};
 ghost use Rattle.cli_words.specs.Faults.{WordsFault, RangeFault, ValueFault, IsRefusal};
@@ -10,19 +10,24 @@ ghost use Rattle.config_space.specs.SetupView.{is_size};
 ghost use Rattle.cli_words.specs.Endpoints.{WritesId, WritesSize};
 ghost use Rattle.cli_words.specs.Granularities.{WritesGranularity};
 ghost use Rattle.cli_words.specs.Lanes.{WritesLane};
-ghost use Rattle.cli_words.specs.Options.{the_app, text_of, Asks};
+ghost use Rattle.cli_words.specs.Seeds.{WritesSeeds};
+ghost use Rattle.cli_words.specs.Options.{the_app, text_of, Asks, AsksEndpoint};
 ghost use Rattle.cli_words.specs.declared.words.Subcommand.{Subcommand};
-ghost use Rattle.cli_words.specs.Refusals.{IsWrong, IsWrongBase, IsWrongGranularity, IsWrongId, IsWrongLane, IsWrongOptional, IsWrongSize, Refuses};
+ghost use Rattle.cli_words.specs.Refusals.{IsWrong, IsWrongBase, IsWrongCredits, IsWrongGranularity, IsWrongId, IsWrongLane, IsWrongOptional, IsWrongSeeds, IsWrongSize, HasNoLink, Refuses, RefusesDevice, RefusesLink, RefusesWithoutLink};
+ghost use Rattle.cli_words.specs.Links.{WritesCredits};
 
 use crate::endpoints::{ids_of, size_of};
 use crate::granularities::granularity_of;
 use crate::lanes::lane_of;
+use crate::links::credits_of;
+use crate::seeds::seeds_of;
 use crate::subcommands::grammar;
 use clap::ArgMatches;
 use clap::error::ErrorKind;
 use cli_options::{RefusedValue, ValueOption, base_of, is_set, number_of, optional_of};
 use config_space::Setup;
 use fabric_core::LaneName;
+use linked_engine::FiniteCredits;
 use log_pieces::Granularity;
 use parameters::{Counting, Storm};
 use seq_memory::Extent;
@@ -38,6 +43,14 @@ pub enum Request {
     Endpoint {
         setup: Setup,
         is_traced: bool,
+    },
+    /// The subcommand `endpoint --link`, of that device, which may be traced, and advertises these credits. Packets and DLLPs
+    /// may have CRCs.
+    Linked {
+        setup: Setup,
+        is_traced: bool,
+        credits: FiniteCredits,
+        has_crc: bool,
     },
     /// The subcommand `decode`.
     Decode,
@@ -82,6 +95,15 @@ pub enum Request {
     /// The subcommand `generate`, which writes the script of a storm.
     Generate {
         storm: Storm,
+    },
+    /// The subcommand `sweep`, of the storms from the first seed to the last, done and checked on so many threads, or as many
+    /// as there are processors; which may ask for the `n`, too, and go on after a seed that fails.
+    Sweep {
+        storm: Storm,
+        last: u64,
+        is_clocked: bool,
+        keeps_going: bool,
+        workers: Option<u64>,
     },
     /// The subcommand `run`, which may tell how far it is.
     Run {
@@ -198,17 +220,90 @@ fn setup_of(size: u32, ids: (u16, u16)) -> Setup
     Setup::new(size, ids.0, ids.1).unwrap()
 }
 
+/// The text that the values give to an option.
+fn given_in<'a>(values: &ArgMatches<'a>, name: &str) -> Option<&'a str>
+    ensures { option_map (λ t. t.now) result ≡ first_of name.now (rows_of (found_of values.now)) }
+{
+    values.get_str(name)
+}
+
+/// The credits that the values give.
+fn credits_in<'a>(values: &ArgMatches<'a>) -> Result<FiniteCredits, RefusedValue<'a>>
+    ensures ok { IfOk result (WritesCredits (first_of (codes "credits") (rows_of (found_of values.now)))) }
+    ensures err { OnErr result (IsWrongCredits (rows_of (found_of values.now))) }
+    ensures refused { IfErr result (λ e. (e.option ≡ Credits) × (option_map (λ t. t.now) e.given ≡ first_of (codes "credits") (rows_of (found_of values.now)))) }
+{
+    credits_of(given_in(values, "credits"))
+}
+
+/// The flag that the values set.
+fn flag_in(values: &ArgMatches<'_>, name: &str) -> bool
+    ensures { WritesFlag (first_of name.now (rows_of (found_of values.now))) result }
+{
+    is_set(given_in(values, name))
+}
+
+/// Whether the values have no CRCs and no credits.
+fn no_link_in<'a>(values: &ArgMatches<'a>) -> Result<(), RefusedValue<'a>>
+    ensures ok { OnOk result (HasNoLink (rows_of (found_of values.now))) }
+    ensures err { IfErr result (λ e. RefusesWithoutLink (rows_of (found_of values.now)) e.option) }
+    ensures refused { IfErr result (λ e. option_map (λ t. t.now) e.given ≡ first_of (name_of e.option) (rows_of (found_of values.now))) }
+{
+    if flag_in(values, "crc") {
+        return Err(RefusedValue {
+            option: ValueOption::Crc,
+            given: given_in(values, "crc"),
+        });
+    }
+    let given = given_in(values, "credits");
+    if given.is_none() {
+        return Ok(());
+    }
+    Err(RefusedValue {
+        option: ValueOption::Credits,
+        given,
+    })
+}
+
+/// The device that the values give.
+fn device_in<'a>(endpoint: &ArgMatches<'a>) -> Result<Setup, RefusedValue<'a>>
+    ensures ok { IfOk result (AsksEndpoint (rows_of (found_of endpoint.now))) }
+    ensures err { IfErr result (λ e. RefusesDevice (rows_of (found_of endpoint.now)) e.option) }
+    ensures refused { IfErr result (λ e. option_map (λ t. t.now) e.given ≡ first_of (name_of e.option) (rows_of (found_of endpoint.now))) }
+{
+    let size = size_in(endpoint)?;
+    let ids = ids_in(endpoint)?;
+    Ok(setup_of(size, ids))
+}
+
+/// What the values of `endpoint` ask for, of this device.
+fn linked_or_not<'a>(endpoint: &ArgMatches<'a>, setup: Setup) -> Result<Request, RefusedValue<'a>>
+    requires { AsksEndpoint (rows_of (found_of endpoint.now)) setup }
+    ensures ok { IfOk result (Asks (Some (codes "endpoint", rows_of (found_of endpoint.now)))) }
+    ensures err { IfErr result (λ e. RefusesLink (rows_of (found_of endpoint.now)) e.option) }
+    ensures refused { IfErr result (λ e. option_map (λ t. t.now) e.given ≡ first_of (name_of e.option) (rows_of (found_of endpoint.now))) }
+{
+    let is_traced = flag_in(endpoint, "trace");
+    if !flag_in(endpoint, "link") {
+        no_link_in(endpoint)?;
+        return Ok(Request::Endpoint { setup, is_traced });
+    }
+    let credits = credits_in(endpoint)?;
+    Ok(Request::Linked {
+        setup,
+        is_traced,
+        credits,
+        has_crc: flag_in(endpoint, "crc"),
+    })
+}
+
 /// What the values of `endpoint` ask for.
 fn endpoint_of<'a>(endpoint: &ArgMatches<'a>) -> Result<Request, RefusedValue<'a>>
     ensures ok { IfOk result (Asks (Some (codes "endpoint", rows_of (found_of endpoint.now)))) }
     ensures err { IfErr result (Refuses (Some (codes "endpoint", rows_of (found_of endpoint.now)))) }
 {
-    let size = size_in(endpoint)?;
-    let ids = ids_in(endpoint)?;
-    Ok(Request::Endpoint {
-        setup: setup_of(size, ids),
-        is_traced: is_set(endpoint.get_str("trace")),
-    })
+    let setup = device_in(endpoint)?;
+    linked_or_not(endpoint, setup)
 }
 
 /// What the values of `check` ask for.
@@ -315,7 +410,10 @@ fn generate_of<'a>(generate: &ArgMatches<'a>) -> Result<Request, RefusedValue<'a
     let requesters = number_in(generate, ValueOption::Requesters, Some(3))?;
     let lose = number_in(generate, ValueOption::Lose, Some(0))?;
     let corrupt = number_in(generate, ValueOption::Corrupt, Some(0))?;
-    let block = number_in(generate, ValueOption::Block, Some(64))?;
+    let block = match number_in(generate, ValueOption::Block, Some(64)) {
+        Ok(block) => block,
+        Err(refused) => return Err(refused),
+    };
     Ok(Request::Generate {
         storm: Storm {
             seed,
@@ -325,6 +423,49 @@ fn generate_of<'a>(generate: &ArgMatches<'a>) -> Result<Request, RefusedValue<'a
             corrupt,
             block,
         },
+    })
+}
+
+/// The first seed and the last that the values give.
+fn seeds_in<'a>(values: &ArgMatches<'a>) -> Result<(u64, u64), RefusedValue<'a>>
+    ensures ok { IfOk result (WritesSeeds (first_of (codes "seeds") (rows_of (found_of values.now)))) }
+    ensures err { OnErr result (IsWrongSeeds (rows_of (found_of values.now))) }
+    ensures refused { IfErr result (λ e. (e.option ≡ Seeds) × (option_map (λ t. t.now) e.given ≡ first_of (codes "seeds") (rows_of (found_of values.now)))) }
+{
+    seeds_of(values.get_str("seeds"))
+}
+
+/// What the values of `sweep` ask for.
+fn sweep_of<'a>(sweep: &ArgMatches<'a>) -> Result<Request, RefusedValue<'a>>
+    ensures ok { IfOk result (Asks (Some (codes "sweep", rows_of (found_of sweep.now)))) }
+    ensures err { IfErr result (Refuses (Some (codes "sweep", rows_of (found_of sweep.now)))) }
+{
+    let seeds = seeds_in(sweep)?;
+    let events = number_in(sweep, ValueOption::Events, None)?;
+    let requesters = number_in(sweep, ValueOption::Requesters, Some(3))?;
+    let lose = number_in(sweep, ValueOption::Lose, Some(0))?;
+    let corrupt = number_in(sweep, ValueOption::Corrupt, Some(0))?;
+    let block = match number_in(sweep, ValueOption::Block, Some(64)) {
+        Ok(block) => block,
+        Err(refused) => return Err(refused),
+    };
+    let workers = match optional_in(sweep, ValueOption::Workers) {
+        Ok(workers) => workers,
+        Err(refused) => return Err(refused),
+    };
+    Ok(Request::Sweep {
+        storm: Storm {
+            seed: seeds.0,
+            events,
+            requesters,
+            lose,
+            corrupt,
+            block,
+        },
+        last: seeds.1,
+        is_clocked: is_set(sweep.get_str("clocked")),
+        keeps_going: is_set(sweep.get_str("keep-going")),
+        workers,
     })
 }
 
@@ -369,6 +510,7 @@ pub(crate) enum Subcommand {
     Step,
     Chart,
     Generate,
+    Sweep,
     Run,
 }
 
@@ -399,6 +541,8 @@ fn subcommand_named(name: &str) -> Option<Subcommand>
         Some(Subcommand::Chart)
     } else if name == "generate" {
         Some(Subcommand::Generate)
+    } else if name == "sweep" {
+        Some(Subcommand::Sweep)
     } else if name == "run" {
         Some(Subcommand::Run)
     } else {
@@ -426,6 +570,7 @@ fn request_of<'a>(
         Subcommand::Step => Ok(step_of(values)),
         Subcommand::Chart => chart_of(values),
         Subcommand::Generate => generate_of(values),
+        Subcommand::Sweep => sweep_of(values),
         Subcommand::Run => run_of(values),
     }
 }

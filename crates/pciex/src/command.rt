@@ -13,6 +13,7 @@ use std::io::{Read, Write};
 use std::sync::Wait;
 use std::thread::Threads;
 use std::time::Clock;
+use sweep_engine::run_sweep;
 
 /// How it is told how far a run is.
 fn progress_of(is_told: bool, is_terminal: bool) -> Progress {
@@ -26,8 +27,8 @@ fn progress_of(is_told: bool, is_terminal: bool) -> Progress {
 }
 
 /// Does what the words of the command line ask for, the program's name before them, and gives the exit status:
-/// that of [`on_one_thread`], or that of the run, which is 3 for the halt `Turns`. A run tells how far it is where
-/// the words ask for that or the error stream is a terminal.
+/// that of [`on_one_thread`], or that of the sweep, or that of the run, which is 3 for the halt `Turns`. A run tells how
+/// far it is where the words ask for that or the error stream is a terminal.
 pub fn command<
     T: Threads + Wait + Sync + Clock,
     S: AsStr,
@@ -64,6 +65,10 @@ pub fn command<
         Outcome::Run { counting, is_told } => {
             let progress = progress_of(is_told, is_terminal);
             let run = run_counting(rt, alloc, &counting, progress, writer, errors);
+            ended(run, reader, writer, errors)
+        }
+        Outcome::Sweep(sweep) => {
+            let run = run_sweep(rt, alloc, &sweep, writer);
             ended(run, reader, writer, errors)
         }
     }

@@ -1,4 +1,4 @@
-//! Words of a command line, a run of worker threads among them.
+//! Words of a command line, a run of worker threads and a sweep among them.
 use crate::command::command;
 use std::alloc::Global;
 use std::sync::Wait;
@@ -8,7 +8,7 @@ use std::time::Clock;
 /// Words, what standard input has, what is written, and the exit status.
 type Row = (&'static [&'static str], &'static str, &'static str, u8);
 
-static ROWS: [Row; 8] = [
+static ROWS: [Row; 9] = [
     (
         &["pciex", "run", "--requesters", "1", "--each", "0"],
         "",
@@ -77,6 +77,21 @@ static ROWS: [Row; 8] = [
         "",
         "",
         2,
+    ),
+    (
+        &[
+            "pciex",
+            "sweep",
+            "--seeds",
+            "7..9",
+            "--events",
+            "50",
+            "--workers",
+            "2",
+        ],
+        "",
+        "ok 3\n",
+        0,
     ),
     (&["pciex", "encode"], "nak FFF\n", "10000FFF\n", 0),
     (&["pciex", "decode"], "4C0\n", "fault hex\n", 1),

@@ -8,4 +8,6 @@ mod crcs;
 mod device;
 mod endpoint;
 mod fabric;
+mod link_codes;
+mod linked;
 mod monitor;

@@ -49,6 +49,40 @@ pub fn join<R: Threads, A: Send, B: Send>(
     })
 }
 
+/// Calls the function with each place of the slice and what is there, in at most so many threads.
+pub fn for_each_mut<R: Threads + Sync, T: Send, F: Fn(usize, &mut T) + Sync>(
+    rt: &R,
+    all: &mut [T],
+    threads: usize,
+    call: &F,
+) {
+    let size = all.len() / threads + usize::from(all.len() % threads > 0);
+    for_each_from(rt, 0, size, all, call);
+}
+
+/// Each part of so many places has a thread of its own if one can be had.
+fn for_each_from<R: Threads + Sync, T: Send, F: Fn(usize, &mut T) + Sync>(
+    rt: &R,
+    from: usize,
+    size: usize,
+    all: &mut [T],
+    call: &F,
+) {
+    if all.len() <= size {
+        for (place, one) in all.iter_mut().enumerate() {
+            call(from + place, one);
+        }
+        return;
+    }
+    let half = (all.len() / size + usize::from(all.len() % size > 0)) / 2 * size;
+    let (front, back) = all.split_at_mut(half);
+    join(
+        rt,
+        || for_each_from(rt, from, size, front, call),
+        || for_each_from(rt, from + half, size, back, call),
+    );
+}
+
 type Job<'a, T> = std::boxed::Box<dyn FnOnce() -> T + Send + 'a>;
 
 fn received<T>(from: &Receiver<T>) -> T {
@@ -171,6 +205,15 @@ mod tests {
             },
         );
         assert_eq!((a, b), (7, 2));
+    }
+
+    #[test]
+    fn each_place_is_called_once() {
+        for (count, threads) in [(0, 3), (1, 1), (5, 4), (7, 3), (64, 64), (10, 1), (3, 64)] {
+            let mut all = vec![0; count];
+            for_each_mut(&HostRuntime, &mut all, threads, &|place, one| *one += place + 1);
+            assert!(all.into_iter().eq(1..=count));
+        }
     }
 
     #[test]

@@ -8,7 +8,7 @@ is called; nobody proves Python. `Program` asks the program in place of the libr
 If a call raises, nothing has changed:
 
 - `Fault`: the packet, the line of a packet's words or the configuration is none; the fault's name says why
-- `Refused`: the fabric refuses the event, or the monitor the packet
+- `Refused`: the fabric refuses the event, the monitor the packet, or the endpoint the DLLP
 - `ValueError`: an argument can't be right, or the device, endpoint, fabric or monitor is closed or another thread's
 - `MemoryError`: an allocation failed
 """
@@ -35,7 +35,7 @@ try:
         search_with_reasons,
         version,
     )
-    from ._handles import Completions, Device, Endpoint, Fabric, Monitor
+    from ._handles import Completions, Device, Endpoint, Fabric, LinkedEndpoint, Monitor, Outgoing
     from ._scoreboard import differ
 except ImportError as error:
     _why = str(error)
@@ -53,8 +53,10 @@ __all__ = [
     "Endpoint",
     "Fabric",
     "Fault",
+    "LinkedEndpoint",
     "Memory",
     "Monitor",
+    "Outgoing",
     "Program",
     "Refused",
     "Tlp",

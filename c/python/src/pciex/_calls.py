@@ -17,11 +17,12 @@ _WRONG = {
     2010: "the packet is a request, not a completion",
     2011: "a monitor's requesters are 1 to 7",
     2012: "a search has pieces of 4, 8, 16 or 64 bytes, or 0 for whole requests",
+    2013: "the credits are 1 to 127, 8 to 2047, 1 to 127, 2 to 2047",
 }
 
 
 class Refused(Exception):
-    """A fabric refuses an event, or a monitor a packet: `str()` is the name of the cause."""
+    """A fabric refuses an event, a monitor a packet, or an endpoint a DLLP: `str()` is the name of the cause."""
 
     __module__ = "pciex"
 

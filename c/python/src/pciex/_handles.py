@@ -1,13 +1,13 @@
 """Devices, fabrics, monitors and endpoints."""
 
-from ctypes import byref, c_size_t, c_ubyte
+from ctypes import byref, c_bool, c_size_t, c_ubyte
 from threading import current_thread
 from types import TracebackType
-from typing import Any, Iterator, List, Optional, Tuple, Type, TypeVar
+from typing import Any, Iterator, List, NamedTuple, Optional, Tuple, Type, TypeVar
 from warnings import warn
 
 from ._calls import Refused, block_of, bytes_of, line_of, number_of, packet_of, text_of, wrong
-from ._raw import LINE, SMALL_ROOM, Slot, library, room
+from ._raw import LINE, SMALL_ROOM, Credits, Slot, library, room
 
 _Self = TypeVar("_Self", bound="_Handle")
 
@@ -67,6 +67,17 @@ class _Handle:
         if code:
             raise wrong(code)
         return bytes(copied)
+
+    def _text(self, function: Any) -> str:
+        """A text of any length."""
+        length = c_size_t()
+        code = self._call(function, room.bytes, 0, byref(length))
+        text = (c_ubyte * length.value)()
+        if code == SMALL_ROOM:
+            code = self._call(function, text, len(text), byref(length))
+        if code:
+            raise wrong(code)
+        return bytes(text).decode("ascii")
 
 
 class Device(_Handle):
@@ -165,17 +176,6 @@ class Fabric(_Handle):
         """The text of the trace and the history, as `pciex step --trace` writes it."""
         return self._text(library.fabric_trace)
 
-    def _text(self, function: Any) -> str:
-        """A text of any length."""
-        length = c_size_t()
-        code = self._call(function, room.bytes, 0, byref(length))
-        text = (c_ubyte * length.value)()
-        if code == SMALL_ROOM:
-            code = self._call(function, text, len(text), byref(length))
-        if code:
-            raise wrong(code)
-        return bytes(text).decode("ascii")
-
     def quiet(self) -> bool:
         """Whether all that entered the lanes was taken: no request and no completion is on its way."""
         return self._call(library.fabric_quiet)
@@ -232,20 +232,24 @@ _WRONG_SIZE = 2004
 _HANDLED = ("accept", "Ignored", "Unsupported", "Unexpected", "Malformed")
 
 
+def _made(code: int) -> None:
+    """Raises what an endpoint that wasn't made raises."""
+    if code == _WRONG_SIZE:
+        raise ValueError("the size is a power of two, 4096 to 1048576 bytes")
+    if code:
+        raise wrong(code)
+
+
 class Endpoint(_Handle):
     """A memory device that a root complex enumerates, sets up and uses, with that Vendor ID and Device ID. Its memory is
-    `size` zeros, a power of two from 4096 to 1048576, behind BAR 0."""
+    `size` zeros, a power of two from 4096 to 1048576, behind BAR 0. With `is_traced` it keeps a trace."""
 
     _free = library.endpoint_free
 
-    def __init__(self, size: int, vendor: int = 0x1234, device: int = 0x7C1E) -> None:
+    def __init__(self, size: int, vendor: int = 0x1234, device: int = 0x7C1E, is_traced: bool = False) -> None:
         super().__init__()
         size, vendor = number_of("size", size, 63), number_of("vendor", vendor, 16)
-        code = library.endpoint_new(size, vendor, number_of("device", device, 16), byref(self._slot))
-        if code == _WRONG_SIZE:
-            raise ValueError("the size is a power of two, 4096 to 1048576 bytes")
-        if code:
-            raise wrong(code)
+        _made(library.endpoint_new(size, vendor, number_of("device", device, 16), is_traced, byref(self._slot)))
         self._size = size
 
     def take(self, tlp: bytes) -> "Completions":
@@ -269,6 +273,10 @@ class Endpoint(_Handle):
         """The memory as it is now."""
         return self._copy(library.endpoint_bytes, self._size)
 
+    def trace(self) -> str:
+        """The text of the trace and the history of its memory, as `pciex endpoint --trace` writes it; `check` judges it."""
+        return self._text(library.endpoint_trace)
+
 
 class Completions(Iterator[bytes]):
     """The completions of an endpoint that are due; one that isn't taken from it is still due. `handled` is what became of
@@ -283,3 +291,106 @@ class Completions(Iterator[bytes]):
         if completion is None:
             raise StopIteration
         return completion
+
+
+_ARRIVED = (*_HANDLED, "Overflow", "duplicate", "nak", "quiet", "drop")
+_DLLPS = {1001: "Short", 1002: "Kind", 1003: "Scaled", 1004: "NotOutstanding", 1005: "CreditLimit"}
+_STATES = ("inactive", "init1", "init2", "active", "stopped")
+
+
+class Outgoing(NamedTuple):
+    """What an endpoint sends: a DLLP of four bytes, or a sequence number's two bytes and a TLP."""
+
+    is_dllp: bool
+    data: bytes
+
+
+class LinkedEndpoint(_Handle):
+    """An endpoint behind its end of a link: packets and DLLPs in, packets and DLLPs out, without their CRCs. Its link is down
+    at first. `credits` are what it advertises: posted headers, 1 to 127, and data, 8 to 2047; non-posted headers, 1 to 127,
+    and data, 2 to 2047. With `is_traced` it keeps a trace."""
+
+    _free = library.linked_free
+
+    def __init__(
+        self,
+        size: int,
+        vendor: int = 0x1234,
+        device: int = 0x7C1E,
+        credits: Tuple[int, int, int, int] = (16, 64, 16, 16),
+        is_traced: bool = False,
+    ) -> None:
+        super().__init__()
+        size, vendor = number_of("size", size, 63), number_of("vendor", vendor, 16)
+        ph, pd, nph, npd = credits
+        given = Credits(
+            number_of("ph", ph, 8), number_of("pd", pd, 16), number_of("nph", nph, 8), number_of("npd", npd, 16)
+        )
+        device = number_of("device", device, 16)
+        _made(library.linked_new(size, vendor, device, byref(given), is_traced, byref(self._slot)))
+        self._size = size
+
+    def _name(self) -> str:
+        return "the endpoint"
+
+    def packet(self, packet: bytes, good: bool = True) -> str:
+        """A packet arrives, whatever its bytes are; `good` says whether its LCRC was right. What became of it: as `handled`
+        of Completions if it is accepted, else `Overflow`, `duplicate`, `nak`, `quiet`, or `drop` if the link isn't up.
+        Requests act, and completions are to be sent, as far as the peer's credits go."""
+        packet = bytes_of(packet)
+        code = self._call(library.linked_packet, packet, len(packet), good)
+        if code >= 1000:
+            raise wrong(code)
+        return _ARRIVED[code]
+
+    def dllp(self, dllp: bytes, good: bool = True) -> str:
+        """A DLLP arrives, whatever its bytes are: `took`; `gone` if its check failed, or it says nothing now. Raises Refused:
+        `Short`, `Kind`, `Scaled`, `NotOutstanding`, `CreditLimit`."""
+        dllp = bytes_of(dllp)
+        code = self._call(library.linked_dllp, dllp, len(dllp), good)
+        if code in _DLLPS:
+            raise Refused(_DLLPS[code])
+        return "gone" if code else "took"
+
+    def next(self) -> Optional[Outgoing]:
+        """What is to be sent next, None if nothing is."""
+        is_dllp = c_bool()
+        sent = packet_of(self._call(library.linked_next, room.bytes, LINE, byref(is_dllp)))
+        return None if sent is None else Outgoing(is_dllp.value, sent)
+
+    def outgoing(self) -> Iterator[Outgoing]:
+        """All that is to be sent: a Nak or an Ack, InitFCs, UpdateFCs, then packets. What isn't taken is still to be sent."""
+        return iter(self.next, None)
+
+    def status(self) -> str:
+        """The state of the link: `inactive`, `init1`, `init2`, `active`; or `stopped` after the fourth replay without
+        progress, until `retrained`."""
+        return _STATES[self._call(library.linked_status)]
+
+    def up(self) -> None:
+        """The link is up: initialization begins, and the endpoint is reset. Its memory stays."""
+        self._call(library.linked_up)
+
+    def down(self) -> None:
+        """The link is down: all that it had is lost, and the endpoint is reset. Its memory stays."""
+        self._call(library.linked_down)
+
+    def refresh(self) -> None:
+        """A timer expired: InitFCs are due again, or an Ack and UpdateFCs."""
+        self._call(library.linked_refresh)
+
+    def replay(self) -> None:
+        """REPLAY_TIMER expired: the unacknowledged packets are sent again."""
+        self._call(library.linked_replay)
+
+    def retrained(self) -> None:
+        """The link was retrained: the sender is no longer stopped."""
+        self._call(library.linked_retrained)
+
+    def memory(self) -> bytes:
+        """The memory as it is now."""
+        return self._copy(library.linked_bytes, self._size)
+
+    def trace(self) -> str:
+        """The text of the trace and the history of its memory, as that of an Endpoint."""
+        return self._text(library.linked_trace)

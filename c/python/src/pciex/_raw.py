@@ -41,6 +41,17 @@ class Fields(ctypes.Structure):
     ]
 
 
+class Credits(ctypes.Structure):
+    """The credits that an endpoint advertises."""
+
+    _fields_ = [
+        ("ph", ctypes.c_uint8),
+        ("pd", ctypes.c_uint16),
+        ("nph", ctypes.c_uint8),
+        ("npd", ctypes.c_uint16),
+    ]
+
+
 _BYTES = ctypes.c_void_p
 _SIZE = ctypes.c_size_t
 _SLOT = ctypes.POINTER(Slot)
@@ -66,10 +77,18 @@ _CODES = {
     "monitor_completion": [Slot, ctypes.c_uint8, ctypes.c_char_p, _SIZE, _BYTES, _SIZE, _SLOT],
     "monitor_give_up": [Slot, ctypes.c_uint8, ctypes.c_uint8, _SLOT],
     "monitor_acted": [Slot, ctypes.c_uint8, ctypes.c_uint32, _BYTES, _SIZE, _SLOT],
-    "endpoint_new": [_SIZE, ctypes.c_uint16, ctypes.c_uint16, _SLOT],
+    "endpoint_new": [_SIZE, ctypes.c_uint16, ctypes.c_uint16, ctypes.c_bool, _SLOT],
     "endpoint_tlp": [Slot, ctypes.c_char_p, _SIZE, _SLOT],
     "endpoint_next": [Slot, _BYTES, _SIZE, _SLOT],
     "endpoint_bytes": [Slot, _BYTES, _SIZE, _SLOT],
+    "endpoint_trace": [Slot, _BYTES, _SIZE, ctypes.POINTER(_SIZE), _SLOT],
+    "linked_new": [_SIZE, ctypes.c_uint16, ctypes.c_uint16, ctypes.POINTER(Credits), ctypes.c_bool, _SLOT],
+    "linked_packet": [Slot, ctypes.c_char_p, _SIZE, ctypes.c_bool, _SLOT],
+    "linked_dllp": [Slot, ctypes.c_char_p, _SIZE, ctypes.c_bool, _SLOT],
+    "linked_next": [Slot, _BYTES, _SIZE, ctypes.POINTER(ctypes.c_bool), _SLOT],
+    "linked_status": [Slot, _SLOT],
+    "linked_bytes": [Slot, _BYTES, _SIZE, _SLOT],
+    "linked_trace": [Slot, _BYTES, _SIZE, ctypes.POINTER(_SIZE), _SLOT],
     "check": [ctypes.c_char_p, _SIZE, _BYTES, _SIZE],
     "check_clocked": [ctypes.c_char_p, _SIZE, _BYTES, _SIZE],
     "search": [ctypes.c_char_p, _SIZE, ctypes.c_uint64, _BYTES, _SIZE, ctypes.POINTER(_SIZE)],
@@ -99,6 +118,12 @@ _OTHERS = {
     "monitor_free": ([Slot], None),
     "endpoint_reset": ([Slot, _SLOT], None),
     "endpoint_free": ([Slot], None),
+    "linked_up": ([Slot, _SLOT], None),
+    "linked_down": ([Slot, _SLOT], None),
+    "linked_refresh": ([Slot, _SLOT], None),
+    "linked_replay": ([Slot, _SLOT], None),
+    "linked_retrained": ([Slot, _SLOT], None),
+    "linked_free": ([Slot], None),
 }
 
 

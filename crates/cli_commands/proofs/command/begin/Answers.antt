@@ -40,6 +40,12 @@ returns-in-Endpoint g c = record {
   right = tt;
 }
 
+pub returns-in-Linked : goal.returns-in-Linked
+returns-in-Linked g c = record {
+  begun = rw c.in-Linked.is (run_done _ c.run_linked_with_reasons-run.result _ _ _ _ _ c.ended-in-Linked.ensures.ok c.ended-in-Linked.ensures.err c.run_linked_with_reasons-run.ensures.ok c.run_linked_with_reasons-run.ensures.err);
+  right = tt;
+}
+
 pub returns-in-Check : goal.returns-in-Check
 returns-in-Check g c = record {
   begun = rw c.in-Check.is (run_done _ c.run_check_with-run.result _ _ _ _ _ c.ended-in-Check.ensures.ok c.ended-in-Check.ensures.err c.run_check_with-run.ensures.ok c.run_check_with-run.ensures.err);

@@ -1,11 +1,11 @@
-use Rattle.std.proofs.Common.{◌≡◌, ◌≢◌, ◌⊎◌, ◌∙◌, Bool, List, ℕ, [], ◌∷◌, Option, Some, None, IfSome, map, sym, subst, inl, inr, refl}
+use Rattle.std.proofs.Common.{◌≡◌, ◌≢◌, ◌⊎◌, ◌∙◌, Bool, List, ℕ, [], ◌∷◌, Option, Some, None, IfSome, map, arith, sym, subst, inl, inr, refl}
 use Rattle.std.proofs.lemmas.List.{append-nil}
 use Rattle.std.specs.Io.KnownBytes.{Appends, Consumes}
 use Rattle.clap.specs.Words.{HasKind, IsAmong, Kinds, Row, Text, kind_of, subcommand_of}
 use Rattle.clap.specs.declared.error.kind.ErrorKind.{ErrorKind}
 use Rattle.clap.specs.declared.error.kind.ErrorKind.TheVariants as kinds
 use Rattle.cli_words.specs.declared.words.Request.{Request}
-use Rattle.cli_words.specs.declared.words.Request.TheVariants.{Tlp, Endpoint, Decode, Encode, Check, Search, Draw, Upgrade, Step, Chart, Generate, Run as run_words}
+use Rattle.cli_words.specs.declared.words.Request.TheVariants.{Tlp, Endpoint, Linked, Decode, Encode, Check, Search, Draw, Upgrade, Step, Chart, Generate, Sweep, Run as run_words}
 use Rattle.cli_words.specs.declared.words.RequestFault.{RequestFault}
 use Rattle.cli_words.specs.declared.words.RequestFault.TheVariants as faults
 use Rattle.cli_words.specs.Faults.{WordsFault, RangeFault, IsMemoryFault}
@@ -16,6 +16,8 @@ use Rattle.worker_report.specs.declared.halt.RunHalt.TheVariants as halts
 use Rattle.run_engine.specs.Text.{IsPart, halt_text}
 use Rattle.log_pieces.specs.declared.Granularity.{Granularity}
 use Rattle.search_engine.specs.Search.{IsPartFor as IsPartOfSearch}
+use Rattle.sweep_engine.specs.declared.options.Sweep.{Sweep as SweepAsked}
+use Rattle.sweep_engine.specs.Sweep.{IsPart as IsPartOfSweep, none_said, whole_text}
 use Rattle.cli_commands.specs.Command.{IsBegun, IsDone, IsRightRequest, AskForNoText, AreRefused}
 use Rattle.cli_commands.proofs.command.on_one_thread.Goals as goal
 
@@ -62,6 +64,10 @@ nothing-counted counting w = record {
   written = appends w;
 }
 
+-- nothing written is a beginning of what is told of no seed
+nothing-swept : (o : SweepAsked) (w : Option (List ℕ)) → IsPartOfSweep o w w
+nothing-swept o w = record { saids = []; said = tt; few = omega arith; done = []; begins = (whole_text none_said, refl); written = appends w }
+
 -- nothing was read, and nothing written
 nothing-searched : (core : Bool) (size : Granularity) (limit : ℕ) (u w : Option (List ℕ)) → IsPartOfSearch core size limit u u w w
 nothing-searched core size limit u w = record { read = []; consumed = consumes-nothing u; done = []; begins = inl refl; written = appends w }
@@ -70,6 +76,7 @@ nothing-searched core size limit u w = record { read = []; consumed = consumes-n
 undone : (r : Request) (input out : Option (List ℕ)) (exit : ℕ) → exit ≡ 1 → IsDone r input input out out exit
 undone (Tlp x) input out exit e = inr (e, nothing-done _ input out)
 undone (Endpoint setup is_traced) input out exit e = inr (e, nothing-done _ input out)
+undone (Linked setup is_traced ours has_crc) input out exit e = inr (e, nothing-done _ input out)
 undone Decode input out exit e = inr (e, nothing-done _ input out)
 undone Encode input out exit e = inr (e, nothing-done _ input out)
 undone (Check is_clocked) input out exit e = inr (e, nothing-done _ input out)
@@ -79,6 +86,7 @@ undone (Draw from to) input out exit e = inr (e, nothing-done _ input out)
 undone (Step is_traced keeps_going echoes) input out exit e = inr (e, nothing-done _ input out)
 undone (Chart lane from to is_brief has_levels) input out exit e = inr (e, nothing-done _ input out)
 undone (Generate storm) input out exit e = (refl, inr (e, record { done = []; begins = inl refl; written = appends out }))
+undone (Sweep storm last is_clocked keeps_going workers) input out exit e = (refl, inr (e, nothing-swept _ out))
 undone (run_words counting is_told) input out exit e = (refl, inr (e, nothing-counted counting out))
 
 -- words that ask for nothing are refused, and nothing is written
@@ -126,6 +134,7 @@ refused_words faults.Nothing kinds_of status old new kind range told refused = n
 right_request : (o : Option (Text × List Row)) (r : Request) → Asks o r → IsRightRequest r
 right_request None r a = absurd a
 right_request (Some p) (Generate storm) a = a.1.right
+right_request (Some p) (Sweep storm last is_clocked keeps_going workers) a = record { storm = a.1.right; ordered = a.1.ordered; workers = a.1.workers_right }
 right_request (Some p) (run_words counting is_told) a = a.1.right
 right_request (Some p) r a = tt
 

@@ -12,6 +12,7 @@ use Rattle.cli_words.proofs.words.named_request.Goals as goal
 abbrev kind_of : Request → Subcommand
 kind_of (requests.Tlp x) = kinds.Tlp
 kind_of (requests.Endpoint setup is_traced) = kinds.Endpoint
+kind_of (requests.Linked setup is_traced credits has_crc) = kinds.Endpoint
 kind_of requests.Decode = kinds.Decode
 kind_of requests.Encode = kinds.Encode
 kind_of (requests.Check is_clocked) = kinds.Check
@@ -21,11 +22,13 @@ kind_of requests.Upgrade = kinds.Upgrade
 kind_of (requests.Step is_traced keeps_going echoes) = kinds.Step
 kind_of (requests.Chart lane from to is_brief has_levels) = kinds.Chart
 kind_of (requests.Generate storm) = kinds.Generate
+kind_of (requests.Sweep storm last is_clocked keeps_going workers) = kinds.Sweep
 kind_of (requests.Run counting is_told) = kinds.Run
 
 named : (r : Request) → name_of r ≡ text_of (kind_of r)
 named (requests.Tlp x) = refl
 named (requests.Endpoint setup is_traced) = refl
+named (requests.Linked setup is_traced credits has_crc) = refl
 named requests.Decode = refl
 named requests.Encode = refl
 named (requests.Check is_clocked) = refl
@@ -35,6 +38,7 @@ named requests.Upgrade = refl
 named (requests.Step is_traced keeps_going echoes) = refl
 named (requests.Chart lane from to is_brief has_levels) = refl
 named (requests.Generate storm) = refl
+named (requests.Sweep storm last is_clocked keeps_going workers) = refl
 named (requests.Run counting is_told) = refl
 
 pub returns-in-None-clause-err : goal.returns-in-None-clause-err

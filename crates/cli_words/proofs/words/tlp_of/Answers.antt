@@ -1,24 +1,9 @@
-use Rattle.std.proofs.Common.{◌≡◌, ◌∙◌, ◌≤◌, ◌%◌, arith, refl, sym, ap, codes, inl, inr, ℕ, is_some}
-use Rattle.std.specs.Prelude.{◌==◌}
-use Rattle.std.proofs.lemmas.Bool.{cases_Bool}
-use Rattle.std.proofs.lemmas.Bool.Decides.{nat_tests}
+use Rattle.std.proofs.Common.{◌≡◌, ◌∙◌, arith, refl, sym, ap, codes, inl, inr, is_some}
 use Rattle.clap.specs.Words.{found_of}
 use Rattle.clap.proofs.WalkLemmas.{first_value-rows}
-use Rattle.seq_memory.specs.Limits.{IsBase, IsBlock}
-use Rattle.cli_options.specs.Values.{IsAmong, multiples}
-use Rattle.cli_words.proofs.RequestsAsked.{same_base, same_number}
+use Rattle.seq_memory.specs.Limits.{IsBase}
+use Rattle.cli_words.proofs.RequestsAsked.{block_among, same_base, same_number}
 use Rattle.cli_words.proofs.words.tlp_of.Goals as goal
-
--- a multiple of 64 from 64 to 128
-block_among : (n : ℕ) → IsAmong (multiples 64 64 128) n → IsBlock n
-block_among n a =
-    let least : 64 ≤ n = a.least in
-    let most : n ≤ 128 = a.most in
-    let multiple : n % 64 ≡ 0 = a.multiple in
-    elim (cases_Bool (n == 64)) [
-      | inl is ↦ inl (grind (arith, nat_tests))
-      | inr is ↦ inr (grind (arith, nat_tests))
-    ]
 
 pub returns-in-None-clause-err : goal.returns-in-None-clause-err
 returns-in-None-clause-err c =

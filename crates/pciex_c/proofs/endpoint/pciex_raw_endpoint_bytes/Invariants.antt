@@ -1,4 +1,4 @@
 use Rattle.pciex_c.proofs.endpoint.pciex_raw_endpoint_bytes.Given as goal
 
 abbrev pub ghost-copy_bytes : goal.ghost-copy_bytes
-ghost-copy_bytes g a = g.held
+ghost-copy_bytes g a = g.session

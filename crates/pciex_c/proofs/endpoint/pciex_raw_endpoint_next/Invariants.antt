@@ -1,4 +1,4 @@
 use Rattle.pciex_c.proofs.endpoint.pciex_raw_endpoint_next.Given as goal
 
 abbrev pub ghost-tell_next : goal.ghost-tell_next
-ghost-tell_next g a = g.held
+ghost-tell_next g a = g.session

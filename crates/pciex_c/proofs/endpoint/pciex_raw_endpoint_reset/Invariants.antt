@@ -1,4 +1,4 @@
 use Rattle.pciex_c.proofs.endpoint.pciex_raw_endpoint_reset.Given as goal
 
 abbrev pub ghost-reset_endpoint : goal.ghost-reset_endpoint
-ghost-reset_endpoint g a = g.held
+ghost-reset_endpoint g a = g.session
