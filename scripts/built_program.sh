@@ -44,6 +44,12 @@ pciex: line 53, column 1: 'nest' where a line is expected (tlp <bytes>, next, re
 end
 of_file examples/endpoint.txt endpoint --trace
 wants "endpoint on endpoint.txt" 1 examples/endpoint.out "$room/reasons"
+cat > "$room/reasons" << 'end'
+pciex: line 123: the last word says whether the check was good: good or failed (with --crc a CRC stands there)
+pciex: line 124, column 1: 'reset' where a line is expected (packet <bytes>, dllp <bytes>, next, up, down, refresh, replay, retrained, state, trace)
+end
+of_file examples/linked.txt endpoint --link --trace
+wants "endpoint --link on linked.txt" 1 examples/linked.out "$room/reasons"
 grep -v '^4C0000' examples/packets.txt | grep -v ' 01000500 .* 07000000$' > "$room/sound.txt"
 grep -v '^fault' examples/packets.out > "$room/faultless"
 cat > "$room/reasons" << 'end'
@@ -191,6 +197,18 @@ is_stored seed_1.txt --seed 1
 is_stored seed_7.txt --seed 7 --requesters 2 --lose 8 --corrupt 9
 is_stored greatest_seed.txt --seed 18446744073709551615 --requesters 7 --lose 4 --block 128
 
+# A sweep does storms of many seeds, on any number of threads, up to the greatest seed.
+# sweeps NUMBER WORD..: whether `sweep` with these words says ok of that number of seeds.
+sweeps() {
+    echo "ok $1" > "$room/swept"
+    shift
+    of_file /dev/null sweep "$@"
+    wants "sweep $*" 0 "$room/swept" "$room/nothing"
+}
+sweeps 300 --seeds 1..300 --events 300 --lose 8 --corrupt 9
+sweeps 70 --seeds 31..100 --events 400 --requesters 7 --lose 3 --block 128 --clocked --keep-going --workers 3
+sweeps 2 --seeds 18446744073709551614..18446744073709551615 --events 0 --workers 64
+
 # Faults and flaws have status 1.
 echo 4C0000 > "$room/short"
 echo "fault 1 Short" > "$room/fault"
@@ -235,10 +253,13 @@ refuses "invalid value '100' for --size: expected 128 to 1048576, a multiple of 
 refuses "invalid value '1' for --block: expected 64 or 128" tlp --block 1
 refuses "invalid value '5000' for --size: expected a power of two from 4096 to 1048576" endpoint --size 5000 --id 1
 refuses "invalid value '12347C1E' for --id: expected four hexadecimal digits, ':' and four more" endpoint --id 12347C1E
+refuses "--crc goes with --link" endpoint --crc
+refuses "invalid value '1,8,1' for --credits: expected with --link PH,PD,NPH,NPD: 1 to 127, 8 to 2047, 1 to 127 and 2 to 2047" endpoint --link --credits 1,8,1
 refuses "invalid value '0' for --limit: expected 1 to 1000000000" search --limit 0
 refuses "invalid value '0' for --work: expected 1 to 1000000000000" search --work 0
 refuses "invalid value '2' for --to: expected 0 to 18446744073709551615, at least --from" draw --from 3 --to 2
 refuses "invalid value 'x' for --seed: expected 0 to 18446744073709551615" generate --seed x --events 1
+refuses "invalid value '5..3' for --seeds: expected FIRST..LAST, each 0 to 18446744073709551615, LAST at least FIRST" sweep --seeds 5..3 --events 1 --workers 0
 refuses "invalid value '8' for --requesters: expected 1 to 7" run --requesters 8 --each 1
 of_file examples/packets.txt tlp "$(printf '\377')"
 wants "a word that is no text" 2 "$room/nothing" "$room/options"
@@ -289,7 +310,7 @@ wants "run --progress" 0 "$room/counted" "$room/told"
 
 # A text that was asked for has status 0, is not on the error stream, and has lines of at most 100 characters.
 for words in --version --help -h help "help step" "tlp --help" "endpoint --help" "decode --help" "encode --help" "check --help" "search --help" "draw --help" "chart --help" "upgrade --help" \
-    "step --help" "generate --help" "run --help" "tlp -h" "step -h" "generate -h" "run -h"; do
+    "step --help" "generate --help" "sweep --help" "run --help" "tlp -h" "step -h" "generate -h" "sweep -h" "run -h"; do
     # shellcheck disable=SC2086
     of_file examples/packets.txt $words
     [ -s "$room/output" ] && awk 'length > 100 { exit 1 }' "$room/output" && cp "$room/output" "$room/told" || echo "a text" > "$room/told"
@@ -299,7 +320,7 @@ done
 # A reader and a writer that fail have status 1.
 echo "pciex: read: Is a directory (os error 21)" > "$room/read"
 echo "pciex: write: No space left on device (os error 28)" > "$room/write"
-for words in tlp endpoint "endpoint --trace" decode encode check search draw chart upgrade step "step --trace" "step --keep-going --echo"; do
+for words in tlp endpoint "endpoint --trace" "endpoint --link" decode encode check search draw chart upgrade step "step --trace" "step --keep-going --echo"; do
     # shellcheck disable=SC2086
     of_file / $words
     wants "$words, where standard input is a folder" 1 "$room/nothing" "$room/read"
@@ -348,6 +369,9 @@ if [ -c /dev/full ]; then
     timeout 10 "$pciex" generate --seed 1 --events 9 < /dev/null > /dev/full 2> "$room/errors"
     status=$?
     wants "generate, where standard output is full" 1 "$room/nothing" "$room/write"
+    timeout 10 "$pciex" sweep --seeds 1..2 --events 9 < /dev/null > /dev/full 2> "$room/errors"
+    status=$?
+    wants "sweep, where standard output is full" 1 "$room/nothing" "$room/write"
 fi
 
 # Each answer is written before more is read: this user waits for it, and the input has not ended.

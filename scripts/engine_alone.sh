@@ -1,7 +1,7 @@
 #!/bin/sh
 # Makes a folder with one engine alone, to prove, build and count a change of it quickly: engine_alone.sh ENGINE [FOLDER].
 #
-# ENGINE is a subcommand: tlp, decode, check, upgrade, step or trace (`step --trace`). FOLDER gets copies of the
+# ENGINE is a subcommand: tlp, endpoint, decode, check, upgrade, step or trace (`step --trace`). FOLDER gets copies of the
 # crates that the engine stands on, with what was proved of them here, and a program `alone` of a few lines, which `rt run`
 # proves and builds; it is ~/.cache/pciex/alone-ENGINE if it isn't given. Run again over the same FOLDER it copies what
 # changed. It writes into no folder that has something in it, unless it made that folder itself.
@@ -21,7 +21,7 @@ case $folder in
 esac
 cd "$(dirname "$0")/.."
 mark=$folder/made-by-engine-alone
-uses='' before='' more=''
+uses='' before='' more='' beside=seq_memory
 case $engine in
     tlp)
         crate=tlp_engine function=run_tlp_with_reasons more='
@@ -29,6 +29,19 @@ case $engine in
         uses='use seq_memory::Extent;'
         before='    let Some(extent) = Extent::new(0, 4096, 64) else {
         return ExitCode::from(2);
+    };'
+        ;;
+    endpoint)
+        crate=endpoint_engine function=run_endpoint_with_reasons beside=config_space more='
+        options,'
+        uses='use config_space::Setup;
+use endpoint_engine::EndpointOptions;'
+        before='    let Some(setup) = Setup::new(4096, 0x1234, 0x7C1E) else {
+        return ExitCode::from(2);
+    };
+    let options = EndpointOptions {
+        setup,
+        is_traced: false,
     };'
         ;;
     decode) crate=packet_engine function=run_${engine}_with_reasons ;;
@@ -46,7 +59,7 @@ case $engine in
         echoes: false,
     };"
         ;;
-    *) echo "engine_alone.sh: ENGINE is tlp, decode, check, upgrade, step or trace" >&2; exit 2 ;;
+    *) echo "engine_alone.sh: ENGINE is tlp, endpoint, decode, check, upgrade, step or trace" >&2; exit 2 ;;
 esac
 
 # The crates below the engine, itself included, as lines of crates.txt; the kit's are left out.
@@ -75,7 +88,7 @@ awk -v top="$crate" '
         for (i = 1; i <= count; i++) if (order[i] in wanted) print line[order[i]]
     }' crates.txt > "$folder/crates.txt"
 below=$(sed 's/:.*//' "$folder/crates.txt")
-echo "alone: $crate seq_memory" >> "$folder/crates.txt"
+echo "alone: $crate $beside" >> "$folder/crates.txt"
 cp HANDLES "$folder/"
 for name in $below; do
     mkdir -p "$folder/crates/$name"
