@@ -44,21 +44,23 @@ input() {
         lines) awk -v lines="$2" -f bench/lines.awk > "$room/input" ;;
         trace) awk -v rounds="$2" -f bench/trace.awk > "$room/input" ;;
         script) awk -v rounds="$2" -f bench/script.awk > "$room/input" ;;
+        each | short | long) awk -v plan="$1" -v requests="$2" -f bench/endpoint.awk > "$room/input" ;;
         counter | mixed | locks) awk -v plan="$1" -v requests="$2" -f bench/log.awk > "$room/input" ;;
         nothing*) : > "$room/input" ;;
     esac
     case $1 in
         nothing*) units=$(($2 * ${1#nothing})) ;;
+        each | short | long) units=$2 ;;
         *) units=$(wc -l < "$room/input") ;;
     esac
 }
 
-# of_scale SCALE COMMAND..: the command with SCALE in place of each word N, in the lines of $room/words.
+# of_scale SCALE COMMAND..: the command with SCALE in place of N in words N and 1..N, in the lines of $room/words.
 of_scale() {
     scale=$1
     shift
     for word in "$@"; do
-        [ "$word" != N ] || word=$scale
+        case $word in N | 1..N) word=${word%N}$scale ;; esac
         echo "$word"
     done > "$room/words"
 }
@@ -118,10 +120,11 @@ if [ -n "$alone" ]; then
     words=$alone
     case $alone in
         tlp | decode) kind=lines small=10000 ;;
+        endpoint) kind=each small=10000 ;;
         check | upgrade) kind=trace small=540 ;;
         step) kind=script small=10 ;;
         trace) kind=script small=10 words='step --trace' ;;
-        *) echo "run.sh: ENGINE is tlp, decode, check, upgrade, step or trace" >&2; exit 2 ;;
+        *) echo "run.sh: ENGINE is tlp, endpoint, decode, check, upgrade, step or trace" >&2; exit 2 ;;
     esac
     if [ -x "$pciex" ]; then
         # shellcheck disable=SC2086 # the words of a command line
@@ -156,6 +159,10 @@ echo "| Run | Input | Seconds | Instructions a unit | Peak memory (MiB) | Second
 echo "|---|---|---|---|---|---|---|"
 if [ -x "$pciex" ]; then
     row '`pciex tlp`' lines lines 1000000 10000 "$pciex" tlp
+    row '`pciex endpoint`, the same requests' requests each 1000000 10000 "$pciex" endpoint
+    row '`pciex endpoint --trace`, the same' requests each 1000000 10000 "$pciex" endpoint --trace
+    row '`pciex endpoint`, reads of 128 bytes' requests short 320000 3200 "$pciex" endpoint
+    row '`pciex endpoint`, reads of 4096 bytes' requests long 10000 100 "$pciex" endpoint
     row '`pciex decode`' lines lines 1000000 10000 "$pciex" decode
     row '`pciex step`' lines script 296 10 "$pciex" step
     row '`pciex step --trace`' lines script 296 10 "$pciex" step --trace
@@ -165,6 +172,7 @@ if [ -x "$pciex" ]; then
     row '`pciex search`, a lock' lines locks 50000 2000 "$pciex" search
     row '`pciex upgrade`' lines trace 42857 540 "$pciex" upgrade
     row '`pciex generate --lose 8`' events nothing1 1000000 10000 "$pciex" generate --seed 7 --lose 8 --events N
+    row '`pciex sweep --lose 8 --corrupt 9`, 1000 events each' seeds nothing1 1000 100 "$pciex" sweep --workers 1 --lose 8 --corrupt 9 --events 1000 --seeds 1..N
     row '`pciex run`, 7 requesters' additions nothing7 20000 0 "$pciex" run --requesters 7 --each N
     row '`pciex run --lose 2 --corrupt 3`, 7 requesters' additions nothing7 2000 0 "$pciex" run --requesters 7 --lose 2 --corrupt 3 --each N
 else
@@ -172,10 +180,13 @@ else
 fi
 if [ -e "$library" ]; then
     kit=$(dirname "$(rt doc)")/c
-    for name in device fabric; do
+    for name in device fabric endpoint; do
         cc -O2 -Wall -Wextra -Werror -std=c99 -Ic -o "$room/$name" bench/$name.c "$library" "$kit/liblibc_c.a"
     done
     row '`pciex_answer` from C' calls nothing1 1000000 10000 "$room/device" N
+    row '`pciex_endpoint_tlp` and `_next` from C' requests nothing1 1000000 10000 "$room/endpoint" N
+    row '`pciex_linked_packet` and `_next` from C, an Ack for each' requests nothing1 1000000 10000 "$room/endpoint" N link
+    row 'the same with CRCs' requests nothing1 1000000 10000 "$room/endpoint" N crc
     row '`pciex_fabric_event` from C, with its trace and `pciex_check`' lines script 296 10 "$room/fabric"
 else
     left_out="$left_out, the library for C, which isn't built"
