@@ -7,8 +7,8 @@ use Rattle.fabric_laws.specs.Steps.{Step, Run, stays, goes}
 use Rattle.fabric_laws.specs.Trace.{Belongs}
 use Rattle.fabric_laws.specs.Whole.{Whole}
 use Rattle.fabric_events.specs.Events.{Event, Seen}
-use Rattle.fabric_core.specs.declared.fault.Refusal.{Refusal}
-use Rattle.fabric_core.specs.Faults.{is_memory}
+use Rattle.fabric_events.specs.declared.fault.Refusal.{Refusal}
+use Rattle.fabric_events.specs.Faults.{is_memory}
 use Rattle.fabric_core.specs.Kept.{IsSoundFabric, records_of}
 use Rattle.fabric_core.specs.Answers.{Happens, Refused, answer}
 use Rattle.fabric_core.specs.Runs.{has_record}

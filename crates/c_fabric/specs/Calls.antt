@@ -6,10 +6,10 @@ use Rattle.fabric_core.specs.declared.config.Config.{Config}
 use Rattle.fabric_core.specs.declared.config.ConfigFault.{ConfigFault}
 use Rattle.fabric_core.specs.Config.{IsConfig, fault_name}
 use Rattle.fabric_events.specs.Events.{Event, Seen}
-use Rattle.fabric_core.specs.declared.fault.Refusal.{Refusal}
+use Rattle.fabric_events.specs.declared.fault.Refusal.{Refusal}
 use Rattle.fabric_core.specs.Kept.{records_of}
 use Rattle.fabric_core.specs.Answers.{Happens, answer, Refused}
-use Rattle.fabric_core.specs.Faults.{is_memory}
+use Rattle.fabric_events.specs.Faults.{is_memory}
 use Rattle.fabric_core.specs.Runs.{has_record}
 use Rattle.fabric_core.specs.New.{config_fault}
 use Rattle.fabric_settle.specs.Happenings.{Happening, Leads}

@@ -2,7 +2,7 @@
 ghost use Rattle.std.specs.Prelude.{◌≡◌, ◌≤◌, List, Some, Err, IsErr, true, false, length, IfErr, OnOk, OnErr};
 ghost use Rattle.history_check.specs.declared.Record as records;
 ghost use Rattle.fabric_core.specs.Answers.{answer};
-ghost use Rattle.fabric_core.specs.Faults.{is_memory, IsTold};
+ghost use Rattle.fabric_events.specs.Faults.{is_memory, IsTold};
 ghost use Rattle.script_text.specs.Names.{refusal_text};
 ghost use Rattle.c_buffer.specs.declared.outcome.Failure.TheVariants.{Text, NoMemory};
 ghost use Rattle.c_buffer.specs.Buffer.{filled, is_silent};

@@ -23,7 +23,7 @@ use Rattle.fabric_events.specs.declared.event.LaneName.TheVariants as lanes
 use Rattle.fabric_events.specs.declared.event.LinkEvent.TheVariants as links
 use Rattle.fabric_events.specs.Events.{Seen}
 use Rattle.fabric_events.specs.declared.event.SeenOf.TheVariants as seen
-use Rattle.fabric_core.specs.declared.fault.Refusal.TheVariants as refusals
+use Rattle.fabric_events.specs.declared.fault.Refusal.TheVariants as refusals
 use Rattle.fabric_core.specs.Answers.{and_then, map_err, some_or, deliver_dllp_on, timer_on, with_lane, answer}
 use Rattle.fabric_core.specs.Answers as parts
 use Rattle.chart_rows.specs.declared.row.Carried.{Carried}

@@ -28,8 +28,8 @@ use Rattle.fabric_events.specs.declared.event.LaneName.TheVariants as lanes
 use Rattle.fabric_events.specs.declared.event.LinkEvent.{LinkEvent}
 use Rattle.fabric_events.specs.declared.event.LinkEvent.TheVariants as links
 use Rattle.fabric_events.specs.declared.event.SeenOf.TheVariants as seen
-use Rattle.fabric_core.specs.declared.fault.Refusal.{Refusal}
-use Rattle.fabric_core.specs.declared.fault.Refusal.TheVariants as refusals
+use Rattle.fabric_events.specs.declared.fault.Refusal.{Refusal}
+use Rattle.fabric_events.specs.declared.fault.Refusal.TheVariants as refusals
 use Rattle.fabric_core.specs.Answers.{map_ok, some_or, transmit_on, deliver_on, deliver_dllp_on, timer_on, retrained_on, send_dllp_on, submit_on, forward_on, serve_on, collect_on, part_at, with_part, with_lane, with_requester, lane_to, port_from, or_no_port, link_on, link_at, forward_to, destination_on, answer}
 use Rattle.fabric_core.specs.Answers as parts
 use Rattle.fabric_core.specs.New.{new_fabric, config_fault}

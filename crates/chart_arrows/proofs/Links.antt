@@ -20,7 +20,7 @@ use Rattle.fabric_events.specs.declared.event.LaneName.{LaneName}
 use Rattle.fabric_events.specs.declared.event.LinkEvent.{LinkEvent}
 use Rattle.fabric_events.specs.declared.event.LinkEvent.TheVariants as links
 use Rattle.fabric_events.specs.declared.event.SeenOf.TheVariants as seen
-use Rattle.fabric_core.specs.declared.fault.Refusal.TheVariants as refusals
+use Rattle.fabric_events.specs.declared.fault.Refusal.TheVariants as refusals
 use Rattle.fabric_core.specs.Answers.{and_then, map_ok, map_err, some_or, transmit_on, deliver_on, deliver_dllp_on, with_lane, link_on, link_at, answer}
 use Rattle.fabric_core.specs.Answers as parts
 use Rattle.chart_rows.specs.declared.row.PacketSent.{PacketSent}

@@ -15,7 +15,7 @@ use Rattle.lane_core.specs.Calls.{Call, MakeRoom, Release, Enter, Transmit, Deli
 use Rattle.fabric_laws.specs.Fabric.{Fabric}
 use Rattle.fabric_events.specs.declared.event.LaneName.{LaneName}
 use Rattle.fabric_events.specs.declared.event.LaneName.TheVariants as lanes
-use Rattle.fabric_core.specs.declared.fault.Refusal.TheVariants as refusals
+use Rattle.fabric_events.specs.declared.fault.Refusal.TheVariants as refusals
 use Rattle.fabric_core.specs.Answers.{part_at}
 use Rattle.fabric_core.specs.Answers as parts
 use Rattle.fabric_core.specs.Kept.{IsSoundFabric}

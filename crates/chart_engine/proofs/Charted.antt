@@ -5,7 +5,7 @@ use Rattle.std.specs.Io.KnownBytes.{Appends}
 use Rattle.std.specs.Prelude.{nat_lt, Option, Some, None}
 use Rattle.fabric_core.specs.declared.config.ConfigFault.{ConfigFault}
 use Rattle.fabric_events.specs.Events.{Event}
-use Rattle.fabric_core.specs.declared.fault.Refusal.{Refusal}
+use Rattle.fabric_events.specs.declared.fault.Refusal.{Refusal}
 use Rattle.script_text.specs.declared.line.Line.{Line}
 use Rattle.script_text.specs.declared.line.Line.TheVariants as lines
 use Rattle.text_lines.specs.Lines.{lines_of, bare, said}

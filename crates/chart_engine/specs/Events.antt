@@ -3,7 +3,7 @@ use Rattle.std.specs.Prelude.{ℕ, ◌≡◌, ◌⊎◌, List, [], ◌∷◌, �
 use Rattle.std.specs.Io.KnownBytes.{Appends}
 use Rattle.fabric_core.specs.declared.config.Config.{Config}
 use Rattle.fabric_events.specs.Events.{Event, Seen}
-use Rattle.fabric_core.specs.declared.fault.Refusal.{Refusal}
+use Rattle.fabric_events.specs.declared.fault.Refusal.{Refusal}
 use Rattle.fabric_laws.specs.Fabric.{Fabric}
 use Rattle.fabric_core.specs.Answers.{answer}
 use Rattle.fabric_core.specs.New.{new_fabric, config_fault}

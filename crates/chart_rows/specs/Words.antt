@@ -12,7 +12,7 @@ use Rattle.lane_ends.specs.declared.packet.Arrival.TheVariants as arrivals
 use Rattle.link_receiver.specs.declared.receiver.Reception.TheVariants as receptions
 use Rattle.fabric_events.specs.Events.{Event, Seen}
 use Rattle.fabric_events.specs.declared.event.LaneName.{LaneName}
-use Rattle.fabric_core.specs.declared.fault.Refusal.{Refusal}
+use Rattle.fabric_events.specs.declared.fault.Refusal.{Refusal}
 use Rattle.operation_text.specs.Texts.{sequence_text}
 use Rattle.script_text.specs.Names.{class_name, refusal_text}
 use Rattle.script_text.specs.Texts.{seen_text}

@@ -17,8 +17,8 @@ use Rattle.lane_ends.specs.declared.packet.LaneRefusal.{LaneRefusal}
 use Rattle.lane_ends.specs.declared.packet.LaneRefusal.TheVariants as no_room
 use Rattle.lane_ends.specs.Refusals.{LacksRoom}
 use Rattle.lane_ends.specs.Steps.{ReceiverEndView, SenderEndView, may_enter, entered}
-use Rattle.fabric_core.specs.declared.fault.Refusal.{Refusal}
-use Rattle.fabric_core.specs.declared.fault.Refusal.TheVariants as refusals
+use Rattle.fabric_events.specs.declared.fault.Refusal.{Refusal}
+use Rattle.fabric_events.specs.declared.fault.Refusal.TheVariants as refusals
 use Rattle.fabric_core.specs.ByParts.{Enters}
 use Rattle.fabric_core.specs.Answers.{Refuses, serving_grows, map_ok, enter_on, enter_if_any, item_at, act_on, ActFits}
 

@@ -13,7 +13,7 @@ use Rattle.fabric_events.specs.Events.{Event, Seen}
 use Rattle.fabric_events.specs.declared.event.EventOf.TheVariants as events
 use Rattle.fabric_events.specs.declared.event.LaneName.{LaneName}
 use Rattle.fabric_events.specs.declared.event.LaneName.TheVariants as lanes
-use Rattle.fabric_core.specs.declared.fault.Refusal.TheVariants as refusals
+use Rattle.fabric_events.specs.declared.fault.Refusal.TheVariants as refusals
 use Rattle.fabric_core.specs.Answers.{part_at, lane_at, item_at, answer, Fits, Happens}
 use Rattle.fabric_core.specs.Kept.{IsSoundFabric, IsNoSubmission, down_credits}
 use Rattle.fabric_core.proofs.Views.{some_ok, at_place}

@@ -19,9 +19,9 @@ use Rattle.fabric_events.specs.declared.event.LaneName.{LaneName}
 use Rattle.fabric_events.specs.declared.event.LaneName.TheVariants as lanes
 use Rattle.fabric_events.specs.declared.event.LinkEvent.{LinkEvent}
 use Rattle.fabric_events.specs.declared.event.LinkEvent.TheVariants as links
-use Rattle.fabric_core.specs.declared.fault.Refusal.{Refusal}
-use Rattle.fabric_core.specs.declared.fault.Refusal.TheVariants as refusals
-use Rattle.fabric_core.specs.Faults.{is_memory}
+use Rattle.fabric_events.specs.declared.fault.Refusal.{Refusal}
+use Rattle.fabric_events.specs.declared.fault.Refusal.TheVariants as refusals
+use Rattle.fabric_events.specs.Faults.{is_memory}
 use Rattle.fabric_core.specs.Answers.{and_then, map_ok, some_or, map_err, transmit_on, deliver_on, deliver_dllp_on, timer_on, retrained_on, enter_on, item_at, submit_on, destination_on, forward_on, enter_if_any, act_on, serve_on, collect_on, part_at, lane_at, port_from, lane_to, or_no_port, link_on, link_at, forward_to, answer, Refuses, Refused, event_grows}
 
 -- the refusal of an answer, if it is one, isn't want of memory

@@ -7,10 +7,10 @@ use Rattle.lane_ends.specs.Steps.{SenderEndView}
 use Rattle.fabric_laws.specs.Fabric.{Fabric}
 use Rattle.fabric_events.specs.Events.{Event, Seen}
 use Rattle.fabric_events.specs.declared.event.SeenOf.TheVariants as seen
-use Rattle.fabric_core.specs.declared.fault.Refusal.{Refusal}
-use Rattle.fabric_core.specs.declared.fault.Refusal.TheVariants as refusals
+use Rattle.fabric_events.specs.declared.fault.Refusal.{Refusal}
+use Rattle.fabric_events.specs.declared.fault.Refusal.TheVariants as refusals
 use Rattle.fabric_core.specs.Answers.{Refuses, Refused, answer, event_grows, serving_grows}
-use Rattle.fabric_core.specs.Faults.{IsTold}
+use Rattle.fabric_events.specs.Faults.{IsTold}
 
 lane_memory : (r : Refusal) → r ≡ refusals.Lane Memory → IsTold r → ⊥
 lane_memory r h k = let no : IsTold (refusals.Lane Memory) = subst IsTold h k in cc

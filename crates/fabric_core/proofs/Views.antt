@@ -20,8 +20,8 @@ use Rattle.fabric_events.specs.declared.event.LaneName.TheVariants as lanes
 use Rattle.fabric_events.specs.declared.event.LinkEvent.{LinkEvent}
 use Rattle.fabric_events.specs.declared.event.LinkEvent.TheVariants as links
 use Rattle.fabric_events.specs.declared.event.SeenOf.TheVariants as seen
-use Rattle.fabric_core.specs.declared.fault.Refusal.{Refusal}
-use Rattle.fabric_core.specs.declared.fault.Refusal.TheVariants as refusals
+use Rattle.fabric_events.specs.declared.fault.Refusal.{Refusal}
+use Rattle.fabric_events.specs.declared.fault.Refusal.TheVariants as refusals
 use Rattle.fabric_core.specs.Answers.{and_then, map_ok, some_or, map_err, transmit_on, deliver_on, deliver_dllp_on, timer_on, retrained_on, link_on, link_at, part_at, or_no_port, enter_on, enter_if_any, item_at, submit_on, submit_at, destination_on, forward_on, forward_to, forward_at, act_on, serve_on, serve_at, collect_on, collect_at, SubmitFits, ForwardFits, ServeFits}
 use Rattle.fabric_core.proofs.Answering.{goes_inward}
 use Rattle.fabric_core.specs.ByParts.{Enters, EntersIfAny, IsAt, IsRoutedAs, IsSeen, Links, Submits, call_of}

@@ -34,8 +34,8 @@ use Rattle.fabric_events.specs.declared.event.LaneName.TheVariants as lanes
 use Rattle.fabric_events.specs.declared.event.LinkEvent.{LinkEvent}
 use Rattle.fabric_events.specs.declared.event.LinkEvent.TheVariants as links
 use Rattle.fabric_events.specs.declared.event.SeenOf.TheVariants as seen
-use Rattle.fabric_core.specs.declared.fault.Refusal.{Refusal}
-use Rattle.fabric_core.specs.declared.fault.Refusal.TheVariants as refusals
+use Rattle.fabric_events.specs.declared.fault.Refusal.{Refusal}
+use Rattle.fabric_events.specs.declared.fault.Refusal.TheVariants as refusals
 
 -- `Result::and_then`, `Result::map`, `Option::ok_or` and `Result::map_err`: the first refusal is the result
 abbrev pub and_then : {A B : Type 0} → Result A Refusal → (A → Result B Refusal) → Result B Refusal

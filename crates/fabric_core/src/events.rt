@@ -11,10 +11,9 @@ ghost use Rattle.lane_ends.specs.Refusals.{LacksRoom};
 ghost use Rattle.switch_core.specs.Forwarding.{Forwards};
 ghost use Rattle.fabric_core.specs.Answers.{Refuses, lane_grows, arrival_grows, serving_grows, enter_on, transmit_on, deliver_on, send_dllp_on, deliver_dllp_on, timer_on, retrained_on, submit_on, destination_on, forward_on, act_on, serve_on, collect_on, link_on, link_grows, SubmitFits, ForwardFits, ServeFits, ActFits};
 
-use crate::fault::Refusal;
 use completer_core::{need_for, serve_op};
 use dllp_core::Dllp;
-use fabric_events::{LinkEvent, SeenRef};
+use fabric_events::{LinkEvent, Refusal, SeenRef};
 use fc_credit::Need;
 use lane_core::{
     Arrival, BackWire, DllpKind, DllpSeen, Fate, ForwardWire, LaneEnds, LaneRefusal, ReceiverEnd,

@@ -4,8 +4,7 @@ ghost use Rattle.std.specs.Result.{result_ok};
 
 use crate::config::Config;
 use crate::events;
-use crate::fault::Refusal;
-use fabric_events::{AnswerLent, EventRef, LaneName, LinkEvent, SeenRef};
+use fabric_events::{AnswerLent, EventRef, LaneName, LinkEvent, Refusal, SeenRef};
 use fc_credit::LaneCredits;
 use lane_core::LaneEnds;
 use requester_core::{Answer, Requester};

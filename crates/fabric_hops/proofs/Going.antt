@@ -34,8 +34,8 @@ use Rattle.fabric_laws.specs.Sound.{Sound}
 use Rattle.fabric_events.specs.Events.{Event}
 use Rattle.fabric_events.specs.declared.event.EventOf.TheVariants as events
 use Rattle.fabric_events.specs.declared.event.LaneName.TheVariants as lanes
-use Rattle.fabric_core.specs.declared.fault.Refusal.{Refusal}
-use Rattle.fabric_core.specs.declared.fault.Refusal.TheVariants as refusals
+use Rattle.fabric_events.specs.declared.fault.Refusal.{Refusal}
+use Rattle.fabric_events.specs.declared.fault.Refusal.TheVariants as refusals
 use Rattle.fabric_core.specs.Answers.{answer, some_or, map_err, enter_on, enter_if_any, item_at, destination_on, forward_on}
 use Rattle.fabric_core.specs.Kept.{IsSoundFabric, down_credits}
 use Rattle.fabric_core.specs.Quiet.{IsQuiet}

@@ -13,8 +13,8 @@ use Rattle.fabric_laws.specs.Lists.{Each}
 use Rattle.fabric_laws.specs.ListFacts.{each_at}
 use Rattle.fabric_events.specs.declared.event.LaneName.{LaneName}
 use Rattle.fabric_events.specs.declared.event.LaneName.TheVariants as lanes
-use Rattle.fabric_core.specs.declared.fault.Refusal.{Refusal}
-use Rattle.fabric_core.specs.declared.fault.Refusal.TheVariants as refusals
+use Rattle.fabric_events.specs.declared.fault.Refusal.{Refusal}
+use Rattle.fabric_events.specs.declared.fault.Refusal.TheVariants as refusals
 use Rattle.fabric_core.specs.Answers.{some_or, part_at, lane_at}
 use Rattle.fabric_core.specs.Steps.{HasLanes}
 use Rattle.fabric_core.specs.Kept.{IsSoundFabric, down_credits}

@@ -4,7 +4,7 @@ use Rattle.std.specs.Prelude.{◌||◌, fold}
 use Rattle.fabric_laws.specs.Fabric.{Fabric}
 use Rattle.fabric_events.specs.Events.{Event, Seen}
 use Rattle.fabric_events.specs.declared.event.LaneName.{LaneName}
-use Rattle.fabric_core.specs.declared.fault.Refusal.{Refusal}
+use Rattle.fabric_events.specs.declared.fault.Refusal.{Refusal}
 use Rattle.fabric_core.specs.Answers.{answer}
 use Rattle.fabric_rounds.specs.Rounds.{Settling, at, answered, tried, times, is_move, round, attempted, lane_attempts, after_lanes, lane_turn, all_lanes}
 

@@ -5,8 +5,8 @@ use Rattle.lane_ends.specs.Steps.{LaneEndsView}
 use Rattle.fabric_laws.specs.Fabric.{Fabric}
 use Rattle.fabric_events.specs.declared.event.LaneName.{LaneName}
 use Rattle.fabric_events.specs.declared.event.LaneName.TheVariants as lanes
-use Rattle.fabric_core.specs.declared.fault.Refusal.{Refusal}
-use Rattle.fabric_core.specs.declared.fault.Refusal.TheVariants as refusals
+use Rattle.fabric_events.specs.declared.fault.Refusal.{Refusal}
+use Rattle.fabric_events.specs.declared.fault.Refusal.TheVariants as refusals
 use Rattle.fabric_core.specs.Answers.{some_or, part_at, with_part, lane_at, with_lane}
 
 -- ---- lists

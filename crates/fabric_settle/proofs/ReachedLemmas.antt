@@ -4,8 +4,8 @@ use Rattle.std.specs.Prelude.{fold}
 use Rattle.std.proofs.lemmas.List.Sums.{fold-append}
 use Rattle.fabric_laws.specs.Fabric.{Fabric}
 use Rattle.fabric_events.specs.Events.{Event, Seen}
-use Rattle.fabric_core.specs.declared.fault.Refusal.{Refusal}
-use Rattle.fabric_core.specs.declared.fault.Refusal.TheVariants as refusals
+use Rattle.fabric_events.specs.declared.fault.Refusal.{Refusal}
+use Rattle.fabric_events.specs.declared.fault.Refusal.TheVariants as refusals
 use Rattle.fabric_core.specs.Answers.{Happens}
 use Rattle.fabric_rounds.specs.Happenings.{Happening, happening, Leads, Answers}
 use Rattle.fabric_settle.specs.Keeping.{Witnessed, IsLossless}

@@ -3,9 +3,9 @@ use Rattle.std.specs.Prelude.{◌≡◌, ◌⊎◌, true, List, ◌++◌, length
 use Rattle.history_check.specs.declared.Record.{Record}
 use Rattle.fabric_laws.specs.Fabric.{Fabric}
 use Rattle.fabric_events.specs.Events.{Event, Seen}
-use Rattle.fabric_core.specs.declared.fault.Refusal.{Refusal}
+use Rattle.fabric_events.specs.declared.fault.Refusal.{Refusal}
 use Rattle.fabric_core.specs.Answers.{Happens, Refused}
-use Rattle.fabric_core.specs.Faults.{is_memory}
+use Rattle.fabric_events.specs.Faults.{is_memory}
 use Rattle.fabric_core.specs.Kept.{records_of}
 use Rattle.fabric_core.specs.Runs.{has_record}
 use Rattle.fabric_rounds.specs.Happenings.{Happening, happening}

@@ -3,7 +3,7 @@ ghost use Rattle.std.specs.Prelude.{◌≡◌, ◌<◌, ◌++◌, ℕ, vec_len, 
 ghost use Rattle.fabric_laws.specs.Fabric as fabrics;
 ghost use Rattle.fabric_events.specs.Events as events;
 ghost use Rattle.fabric_core.specs.Answers.{answer};
-ghost use Rattle.fabric_core.specs.Faults.{is_memory, IsTold};
+ghost use Rattle.fabric_events.specs.Faults.{is_memory, IsTold};
 ghost use Rattle.fabric_core.specs.Runs.{has_record};
 ghost use Rattle.fabric_rounds.specs.Happenings.{Happening, happening, Answers};
 ghost use Rattle.fabric_settle.specs.Keeping.{Witnessed, IsLossless, WantsMemory};

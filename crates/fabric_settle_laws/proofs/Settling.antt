@@ -5,7 +5,7 @@ use Rattle.fabric_laws.specs.Fabric.{Fabric}
 use Rattle.fabric_laws.specs.Lists.{Each}
 use Rattle.fabric_events.specs.Events.{Event, Seen}
 use Rattle.fabric_events.specs.declared.event.LaneName.{LaneName}
-use Rattle.fabric_core.specs.declared.fault.Refusal.{Refusal}
+use Rattle.fabric_events.specs.declared.fault.Refusal.{Refusal}
 use Rattle.fabric_core.specs.Answers.{answer, Happens}
 use Rattle.fabric_core.specs.Kept.{IsSoundFabric, IsNoSubmission}
 use Rattle.fabric_rounds.specs.declared.attempts.Attempt.{Attempt}

@@ -14,8 +14,8 @@ use Rattle.fabric_events.specs.declared.event.LaneName.{LaneName}
 use Rattle.fabric_events.specs.declared.event.LaneName.TheVariants as lanes
 use Rattle.fabric_events.specs.declared.event.LinkEvent.{LinkEvent}
 use Rattle.fabric_events.specs.declared.event.LinkEvent.TheVariants as links
-use Rattle.fabric_core.specs.declared.fault.Refusal.{Refusal}
-use Rattle.fabric_core.specs.declared.fault.Refusal.TheVariants.{NoSuchPart, Idle, Strange}
+use Rattle.fabric_events.specs.declared.fault.Refusal.{Refusal}
+use Rattle.fabric_events.specs.declared.fault.Refusal.TheVariants.{NoSuchPart, Idle, Strange}
 use Rattle.fabric_core.specs.Answers.{part_at, lane_at, and_then, map_ok, map_err, some_or, collect_on}
 use Rattle.fabric_core.specs.Steps.{HasLanes, Refused}
 use Rattle.hall_laws.specs.Parts.{IsLaneName}

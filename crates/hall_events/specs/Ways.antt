@@ -6,8 +6,8 @@ use Rattle.fabric_events.specs.declared.event.EventOf.TheVariants.{Forward}
 use Rattle.fabric_events.specs.declared.event.LaneName.{LaneName}
 use Rattle.fabric_events.specs.declared.event.LaneName.TheVariants as lanes
 use Rattle.fabric_events.specs.declared.event.SeenOf.TheVariants.{To}
-use Rattle.fabric_core.specs.declared.fault.Refusal.{Refusal}
-use Rattle.fabric_core.specs.declared.fault.Refusal.TheVariants.{Route}
+use Rattle.fabric_events.specs.declared.fault.Refusal.{Refusal}
+use Rattle.fabric_events.specs.declared.fault.Refusal.TheVariants.{Route}
 use Rattle.fabric_core.specs.Answers.{Refuses, lane_grows, destination_on, forward_on, ForwardFits}
 use Rattle.hall_laws.specs.declared.part.PartValue.TheVariants.{Sender, Receiver}
 use Rattle.hall_laws.specs.declared.token.Token.{Token}

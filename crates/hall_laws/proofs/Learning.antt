@@ -25,8 +25,8 @@ use Rattle.fabric_events.specs.declared.event.LaneName.{LaneName}
 use Rattle.fabric_events.specs.declared.event.LaneName.TheVariants as lanes
 use Rattle.fabric_events.specs.declared.event.LinkEvent.{LinkEvent}
 use Rattle.fabric_events.specs.declared.event.LinkEvent.TheVariants as links
-use Rattle.fabric_core.specs.declared.fault.Refusal.{Refusal}
-use Rattle.fabric_core.specs.declared.fault.Refusal.TheVariants as refusals
+use Rattle.fabric_events.specs.declared.fault.Refusal.{Refusal}
+use Rattle.fabric_events.specs.declared.fault.Refusal.TheVariants as refusals
 use Rattle.fabric_core.specs.Answers.{and_then, map_ok, some_or, item_at, enter_if_any, act_on, serve_on, submit_on, collect_on, destination_on, forward_on, link_on, link_at, part_at, lane_at, with_lane, with_requester, port_from, lane_to, or_no_port, answer, Happens}
 use Rattle.fabric_core.specs.Kept.{records_of}
 use Rattle.hall_laws.proofs.Lists.{get_before}

@@ -18,7 +18,7 @@ use Rattle.fabric_events.specs.declared.event.LaneName.TheVariants as lanes
 use Rattle.fabric_events.specs.declared.event.LinkEvent.{LinkEvent}
 use Rattle.fabric_events.specs.declared.event.LinkEvent.TheVariants as links
 use Rattle.fabric_events.specs.declared.event.SeenOf.TheVariants as seen
-use Rattle.fabric_core.specs.declared.fault.Refusal.{Refusal}
+use Rattle.fabric_events.specs.declared.fault.Refusal.{Refusal}
 use Rattle.fabric_core.specs.Answers.{map_ok, send_dllp_on, link_on, link_at, destination_on, forward_on, port_from, part_at, lane_to, with_requester, Happens, SubmitFits, ForwardFits}
 use Rattle.fabric_core.specs.Kept.{records_of}
 use Rattle.fabric_core.specs.Steps.{HasLane}

@@ -17,8 +17,8 @@ use Rattle.fabric_events.specs.declared.event.LaneName.{LaneName}
 use Rattle.fabric_events.specs.declared.event.LaneName.TheVariants as lanes
 use Rattle.fabric_events.specs.declared.event.LinkEvent.{LinkEvent}
 use Rattle.fabric_events.specs.declared.event.LinkEvent.TheVariants as links
-use Rattle.fabric_core.specs.declared.fault.Refusal.{Refusal}
-use Rattle.fabric_core.specs.declared.fault.Refusal.TheVariants as refusals
+use Rattle.fabric_events.specs.declared.fault.Refusal.{Refusal}
+use Rattle.fabric_events.specs.declared.fault.Refusal.TheVariants as refusals
 use Rattle.fabric_core.specs.Answers.{Refuses, map_ok, lane_grows, arrival_grows, serving_grows, event_grows, transmit_on, deliver_on, deliver_dllp_on, timer_on, retrained_on, submit_on, destination_on, forward_on, serve_on, link_on, link_at, port_from, lane_to, part_at, Refused}
 use Rattle.fabric_core.specs.Steps.{HasLane}
 use Rattle.hall_laws.specs.declared.part.PartValue.{PartValue}

@@ -13,7 +13,7 @@ use Rattle.fabric_laws.specs.Trace.{Belongs}
 use Rattle.fabric_core.specs.declared.config.Config.{Config}
 use Rattle.fabric_core.specs.declared.config.ConfigFault.{ConfigFault}
 use Rattle.fabric_events.specs.Events.{Event, Seen}
-use Rattle.fabric_core.specs.declared.fault.Refusal.{Refusal}
+use Rattle.fabric_events.specs.declared.fault.Refusal.{Refusal}
 use Rattle.fabric_core.specs.Config.{IsNewWith}
 use Rattle.fabric_core.specs.Kept.{IsSoundFabric, records_of}
 use Rattle.fabric_core.specs.Steps.{Happens, Refused}
@@ -21,7 +21,7 @@ use Rattle.fabric_core.specs.Runs.{Runs}
 use Rattle.fabric_core.specs.Answers.{answer}
 use Rattle.fabric_settle.specs.Happenings.{Happening, Leads}
 use Rattle.fabric_settle.specs.Keeping.{with_record}
-use Rattle.fabric_core.specs.Faults.{IsTold}
+use Rattle.fabric_events.specs.Faults.{IsTold}
 use Rattle.fabric_core.specs.New.{new_fabric, config_fault}
 use Rattle.operation_text.specs.Words.{words}
 use Rattle.trace_text.specs.Texts.{trace_text}

@@ -4,11 +4,11 @@ use Rattle.history_check.specs.declared.Record.{Record}
 use Rattle.fabric_laws.specs.Fabric.{Fabric}
 use Rattle.fabric_core.specs.declared.config.Config.{Config}
 use Rattle.fabric_events.specs.Events.{Event}
-use Rattle.fabric_core.specs.declared.fault.Refusal.{Refusal}
+use Rattle.fabric_events.specs.declared.fault.Refusal.{Refusal}
 use Rattle.fabric_core.specs.Config.{IsNewWith}
 use Rattle.fabric_core.specs.Steps.{Refused}
 use Rattle.fabric_core.specs.Runs.{Recorded}
-use Rattle.fabric_core.specs.Faults.{IsTold}
+use Rattle.fabric_events.specs.Faults.{IsTold}
 use Rattle.operation_text.specs.Words.{words}
 use Rattle.script_text.specs.declared.line.Line.{Line}
 use Rattle.script_text.specs.declared.line.Line.TheVariants as lines

@@ -2,7 +2,7 @@
 use Rattle.std.specs.Prelude.{Option, Some, None}
 use Rattle.requester_core.specs.declared.fault.SubmitRefusal.TheVariants.{TagsUsed}
 use Rattle.lane_ends.specs.declared.packet.LaneRefusal.TheVariants as lanes
-use Rattle.fabric_core.specs.declared.fault.Refusal.TheVariants as refusals
+use Rattle.fabric_events.specs.declared.fault.Refusal.TheVariants as refusals
 use Rattle.hall_events.specs.declared.refusal.HallRefusal.{HallRefusal}
 use Rattle.hall_events.specs.declared.refusal.HallRefusal.TheVariants.{Busy, Core}
 use Rattle.worker_turns.specs.declared.stop.Stop.{Stop}
