@@ -13,11 +13,11 @@ use Rattle.fabric_events.specs.declared.event.LaneName.{LaneName}
 use Rattle.log_pieces.specs.declared.Granularity.{Granularity}
 use Rattle.config_space.specs.SetupView.{SetupView}
 use Rattle.fc_credit.specs.declared.limits.LaneCredits.{LaneCredits}
-use Rattle.cli_words.specs.Links.{WritesCredits}
-use Rattle.cli_words.specs.Endpoints.{WritesId, WritesSize}
-use Rattle.cli_words.specs.Granularities.{WritesGranularity}
-use Rattle.cli_words.specs.Lanes.{WritesLane}
-use Rattle.cli_words.specs.Seeds.{first_digits, last_digits, WritesSeeds}
+use Rattle.cli_values.specs.Links.{WritesCredits}
+use Rattle.cli_values.specs.Endpoints.{WritesId, WritesSize}
+use Rattle.cli_values.specs.Granularities.{WritesGranularity}
+use Rattle.cli_values.specs.Lanes.{WritesLane}
+use Rattle.cli_values.specs.Seeds.{first_digits, last_digits, WritesSeeds}
 use Rattle.cli_words.specs.Options.{Asks}
 
 pub if_none : {T P : Type 0} (o : Option T) → P → IfNone o P

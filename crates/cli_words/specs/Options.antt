@@ -13,13 +13,13 @@ use Rattle.cli_options.specs.Values.{WritesBase, WritesNumber, WritesGiven, Writ
 use Rattle.fabric_events.specs.declared.event.LaneName.{LaneName}
 use Rattle.log_pieces.specs.declared.Granularity.{Granularity}
 use Rattle.config_space.specs.SetupView.{SetupView}
-use Rattle.cli_words.specs.Endpoints.{WritesId, WritesSize}
-use Rattle.cli_words.specs.Granularities.{WritesGranularity}
-use Rattle.cli_words.specs.Lanes.{WritesLane}
-use Rattle.cli_words.specs.Seeds.{WritesSeeds}
+use Rattle.cli_values.specs.Endpoints.{WritesId, WritesSize}
+use Rattle.cli_values.specs.Granularities.{WritesGranularity}
+use Rattle.cli_values.specs.Lanes.{WritesLane}
+use Rattle.cli_values.specs.Seeds.{WritesSeeds}
 use Rattle.cli_words.specs.declared.words.Request.{Request}
-use Rattle.cli_words.specs.declared.words.Subcommand.{Subcommand}
-use Rattle.cli_words.specs.declared.words.Subcommand.TheVariants as kinds
+use Rattle.cli_words.specs.declared.subcommands.Subcommand.{Subcommand}
+use Rattle.cli_words.specs.declared.subcommands.Subcommand.TheVariants as kinds
 use Rattle.cli_words.specs.declared.words.Request.TheVariants.{Tlp, Endpoint, Linked, Decode, Encode, Check, Search, Draw, Upgrade, Step, Chart, Generate, Sweep, Run}
 use Rattle.cli_words.specs.Links.{IsLinked, IsUnlinked}
 

@@ -4,13 +4,13 @@ use Rattle.std.specs.Prelude.{true, false, ◌≡◌, ◌≢◌, ◌≤◌, ◌+
 use Rattle.clap.specs.Words.{Row, Text, first_of}
 use Rattle.fabric_events.specs.declared.event.LaneName.{LaneName}
 use Rattle.log_pieces.specs.declared.Granularity.{Granularity}
-use Rattle.cli_words.specs.Endpoints.{WritesId, WritesSize}
-use Rattle.cli_words.specs.Granularities.{WritesGranularity}
-use Rattle.cli_words.specs.Lanes.{WritesLane}
-use Rattle.cli_words.specs.Seeds.{WritesSeeds}
+use Rattle.cli_values.specs.Endpoints.{WritesId, WritesSize}
+use Rattle.cli_values.specs.Granularities.{WritesGranularity}
+use Rattle.cli_values.specs.Lanes.{WritesLane}
+use Rattle.cli_values.specs.Seeds.{WritesSeeds}
 use Rattle.cli_options.specs.declared.options.ValueOption.{ValueOption}
 use Rattle.cli_options.specs.declared.options.ValueOption.TheVariants.{Base, Size, Block, Requesters, Each, Lose, Corrupt, Turns, Workers, From, To, Seed, Seeds, Events, Lane, Limit, Work, Granularity as the_granularity, EndpointSize, Id, Crc, Credits}
-use Rattle.cli_words.specs.Links.{WritesCredits}
+use Rattle.cli_values.specs.Links.{WritesCredits}
 use Rattle.cli_options.specs.declared.refused.RefusedValue.{RefusedValue}
 use Rattle.fc_credit.specs.declared.limits.LaneCredits.{LaneCredits}
 use Rattle.cli_options.specs.Values.{WritesFlag, Gives, GivesBase, GivesOptional, name_of}

@@ -1,11 +1,8 @@
 //! The words of a command line, and what they ask for.
 #![tactic(auto)]
 
-mod endpoints;
-mod granularities;
-mod lanes;
-mod links;
-mod seeds;
+mod devices;
+mod reading;
 mod subcommands;
 mod texts;
 mod words;

@@ -1,14 +1,69 @@
-//! The command line's grammar.
-ghost use Rattle.std.specs.Prelude.{◌≡◌, IfOk, false};
+//! The subcommands, and the command line's grammar.
+ghost use Rattle.std.specs.Prelude.{◌≡◌, IfOk, IfSome, IfNone, false};
 ghost use Rattle.clap.specs.Words.{App, app_of, new_app, with_rule, with_subcommand};
 ghost use Rattle.clap.specs.Walk.{rule_of};
 ghost use Rattle.clap.specs.declared.builder.Command.TheViews.{out-Command};
-ghost use Rattle.cli_words.specs.Options.{the_app, top_app, tlp_app, endpoint_app, check_app, search_app, draw_app, step_app, chart_app, generate_app, sweep_app, run_app, with_link, with_links, with_packets, with_traces, option, required, flag};
+ghost use Rattle.cli_words.specs.declared.subcommands.Subcommand.{Subcommand};
+ghost use Rattle.cli_words.specs.Options.{the_app, text_of, top_app, tlp_app, endpoint_app, check_app, search_app, draw_app, step_app, chart_app, generate_app, sweep_app, run_app, with_link, with_links, with_packets, with_traces, option, required, flag};
 
 use crate::texts;
 use crate::texts::Help;
 use clap::{Arg, ArgAction, Command};
 use std::alloc::{AllocError, Global};
+
+/// The subcommands.
+#[derive(Clone, Copy)]
+pub(crate) enum Subcommand {
+    Tlp,
+    Endpoint,
+    Decode,
+    Encode,
+    Check,
+    Search,
+    Draw,
+    Upgrade,
+    Step,
+    Chart,
+    Generate,
+    Sweep,
+    Run,
+}
+
+/// The subcommand of this name.
+pub(crate) fn subcommand_named(name: &str) -> Option<Subcommand>
+    ensures some { IfSome result (λ s. name.now ≡ text_of s) }
+    ensures none { IfNone result ((s : Subcommand) → name.now ≡ text_of s → ⊥) }
+{
+    if name == "tlp" {
+        Some(Subcommand::Tlp)
+    } else if name == "endpoint" {
+        Some(Subcommand::Endpoint)
+    } else if name == "decode" {
+        Some(Subcommand::Decode)
+    } else if name == "encode" {
+        Some(Subcommand::Encode)
+    } else if name == "check" {
+        Some(Subcommand::Check)
+    } else if name == "search" {
+        Some(Subcommand::Search)
+    } else if name == "draw" {
+        Some(Subcommand::Draw)
+    } else if name == "upgrade" {
+        Some(Subcommand::Upgrade)
+    } else if name == "step" {
+        Some(Subcommand::Step)
+    } else if name == "chart" {
+        Some(Subcommand::Chart)
+    } else if name == "generate" {
+        Some(Subcommand::Generate)
+    } else if name == "sweep" {
+        Some(Subcommand::Sweep)
+    } else if name == "run" {
+        Some(Subcommand::Run)
+    } else {
+        None
+    }
+}
 
 /// An option with a value.
 fn option_of<'a>(alloc: Global, name: &'a str, value: &'a str, help: &'a str) -> Arg<'a>

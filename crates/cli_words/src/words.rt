@@ -1,30 +1,19 @@
 //! What the words of a command line ask for.
-ghost use Rattle.std.specs.Prelude.{◌≡◌, IfOk, IfErr, IfSome, IfNone, OnOk, OnErr, map, true, codes, Some, [], option_map};
+ghost use Rattle.std.specs.Prelude.{◌≡◌, IfOk, IfErr, map, true, codes, Some, [], option_map};
 ghost use Rattle.clap.specs.Words.{FailsBy, HasKind, fault_of, kind_of, subcommand_of, subcommand_rows_of, has_subcommand, takes, rows_of, found_of, first_of};
-ghost use Rattle.cli_options.specs.Values.{Gives, GivesBase, GivesOptional, WritesFlag, name_of};
-ghost use Rattle.cli_options.specs.declared.options.ValueOption.TheVariants.{Base, Seeds, Lane, Granularity as the_granularity, EndpointSize, Id, Credits};
+ghost use Rattle.cli_options.specs.Values.{name_of};
 ghost use Rattle.cli_words.specs.declared.words.Request.{Request};
 ghost use Rattle.cli_words.specs.declared.words.RequestFault.TheVariants.{Value};
 ghost use Rattle.cli_words.specs.Faults.{WordsFault, RangeFault, ValueFault, IsRefusal};
-ghost use Rattle.config_space.specs.SetupView.{is_size};
-ghost use Rattle.cli_words.specs.Endpoints.{WritesId, WritesSize};
-ghost use Rattle.cli_words.specs.Granularities.{WritesGranularity};
-ghost use Rattle.cli_words.specs.Lanes.{WritesLane};
-ghost use Rattle.cli_words.specs.Seeds.{WritesSeeds};
 ghost use Rattle.cli_words.specs.Options.{the_app, text_of, Asks, AsksEndpoint};
-ghost use Rattle.cli_words.specs.declared.words.Subcommand.{Subcommand};
-ghost use Rattle.cli_words.specs.Refusals.{IsWrong, IsWrongBase, IsWrongCredits, IsWrongGranularity, IsWrongId, IsWrongLane, IsWrongOptional, IsWrongSeeds, IsWrongSize, HasNoLink, Refuses, RefusesDevice, RefusesLink, RefusesWithoutLink};
-ghost use Rattle.cli_words.specs.Links.{WritesCredits};
+ghost use Rattle.cli_words.specs.Refusals.{Refuses, RefusesLink};
 
-use crate::endpoints::{ids_of, size_of};
-use crate::granularities::granularity_of;
-use crate::lanes::lane_of;
-use crate::links::credits_of;
-use crate::seeds::seeds_of;
-use crate::subcommands::grammar;
+use crate::devices::{credits_in, device_in, no_link_in};
+use crate::reading::{base_in, flag_in, granularity_in, lane_in, number_in, optional_in, seeds_in};
+use crate::subcommands::{Subcommand, grammar, subcommand_named};
 use clap::ArgMatches;
 use clap::error::ErrorKind;
-use cli_options::{RefusedValue, ValueOption, base_of, is_set, number_of, optional_of};
+use cli_options::{RefusedValue, ValueOption, is_set};
 use config_space::Setup;
 use fabric_core::LaneName;
 use linked_engine::FiniteCredits;
@@ -142,40 +131,6 @@ fn matches_of<'a, S: AsStr>(alloc: Global, words: &'a [S]) -> Result<ArgMatches<
     command.try_get_matches_from(words)
 }
 
-/// The first address of a memory that the values give.
-fn base_in<'a>(values: &ArgMatches<'a>) -> Result<u64, RefusedValue<'a>>
-    ensures ok { IfOk result (GivesBase (first_of (codes "base") (rows_of (found_of values.now)))) }
-    ensures err { OnErr result (IsWrongBase (rows_of (found_of values.now))) }
-    ensures refused { IfErr result (λ e. (e.option ≡ Base) × (option_map (λ t. t.now) e.given ≡ first_of (codes "base") (rows_of (found_of values.now)))) }
-{
-    base_of(values.get_str("base"))
-}
-
-/// The number that the values give to an option.
-fn number_in<'a>(
-    values: &ArgMatches<'a>,
-    option: ValueOption,
-    default: Option<u64>,
-) -> Result<u64, RefusedValue<'a>>
-    ensures ok { IfOk result (Gives option default (first_of (name_of option) (rows_of (found_of values.now)))) }
-    ensures err { OnErr result (IsWrong (rows_of (found_of values.now)) (option, default)) }
-    ensures refused { IfErr result (λ e. (e.option ≡ option) × (option_map (λ t. t.now) e.given ≡ first_of (name_of option) (rows_of (found_of values.now)))) }
-{
-    number_of(option, default, values.get_str(option.name()))
-}
-
-/// The number that the values give to an option that need not be given.
-fn optional_in<'a>(
-    values: &ArgMatches<'a>,
-    option: ValueOption,
-) -> Result<Option<u64>, RefusedValue<'a>>
-    ensures ok { IfOk result (GivesOptional option (first_of (name_of option) (rows_of (found_of values.now)))) }
-    ensures err { OnErr result (IsWrongOptional (rows_of (found_of values.now)) option) }
-    ensures refused { IfErr result (λ e. (e.option ≡ option) × (option_map (λ t. t.now) e.given ≡ first_of (name_of option) (rows_of (found_of values.now)))) }
-{
-    optional_of(option, values.get_str(option.name()))
-}
-
 /// What the values of `tlp` ask for.
 fn tlp_of<'a>(tlp: &ArgMatches<'a>) -> Result<Request, RefusedValue<'a>>
     ensures ok { IfOk result (Asks (Some (codes "tlp", rows_of (found_of tlp.now)))) }
@@ -191,89 +146,6 @@ fn tlp_of<'a>(tlp: &ArgMatches<'a>) -> Result<Request, RefusedValue<'a>>
             given: tlp.get_str("base"),
         }),
     }
-}
-
-/// The size of an endpoint's memory that the values give.
-fn size_in<'a>(values: &ArgMatches<'a>) -> Result<u32, RefusedValue<'a>>
-    ensures ok { IfOk result (WritesSize (first_of (codes "size") (rows_of (found_of values.now)))) }
-    ensures right { IfOk result (λ n. is_size n ≡ true) }
-    ensures err { OnErr result (IsWrongSize (rows_of (found_of values.now))) }
-    ensures refused { IfErr result (λ e. (e.option ≡ EndpointSize) × (option_map (λ t. t.now) e.given ≡ first_of (codes "size") (rows_of (found_of values.now)))) }
-{
-    size_of(values.get_str("size"))
-}
-
-/// The Vendor ID and the Device ID that the values give.
-fn ids_in<'a>(values: &ArgMatches<'a>) -> Result<(u16, u16), RefusedValue<'a>>
-    ensures ok { IfOk result (WritesId (first_of (codes "id") (rows_of (found_of values.now)))) }
-    ensures err { OnErr result (IsWrongId (rows_of (found_of values.now))) }
-    ensures refused { IfErr result (λ e. (e.option ≡ Id) × (option_map (λ t. t.now) e.given ≡ first_of (codes "id") (rows_of (found_of values.now)))) }
-{
-    ids_of(values.get_str("id"))
-}
-
-/// A device of this size, which a device can have, with these IDs.
-fn setup_of(size: u32, ids: (u16, u16)) -> Setup
-    requires { is_size size ≡ true }
-    ensures { result ≡ record { size = size; vendor = ids.0; device = ids.1 } }
-{
-    Setup::new(size, ids.0, ids.1).unwrap()
-}
-
-/// The text that the values give to an option.
-fn given_in<'a>(values: &ArgMatches<'a>, name: &str) -> Option<&'a str>
-    ensures { option_map (λ t. t.now) result ≡ first_of name.now (rows_of (found_of values.now)) }
-{
-    values.get_str(name)
-}
-
-/// The credits that the values give.
-fn credits_in<'a>(values: &ArgMatches<'a>) -> Result<FiniteCredits, RefusedValue<'a>>
-    ensures ok { IfOk result (WritesCredits (first_of (codes "credits") (rows_of (found_of values.now)))) }
-    ensures err { OnErr result (IsWrongCredits (rows_of (found_of values.now))) }
-    ensures refused { IfErr result (λ e. (e.option ≡ Credits) × (option_map (λ t. t.now) e.given ≡ first_of (codes "credits") (rows_of (found_of values.now)))) }
-{
-    credits_of(given_in(values, "credits"))
-}
-
-/// The flag that the values set.
-fn flag_in(values: &ArgMatches<'_>, name: &str) -> bool
-    ensures { WritesFlag (first_of name.now (rows_of (found_of values.now))) result }
-{
-    is_set(given_in(values, name))
-}
-
-/// Whether the values have no CRCs and no credits.
-fn no_link_in<'a>(values: &ArgMatches<'a>) -> Result<(), RefusedValue<'a>>
-    ensures ok { OnOk result (HasNoLink (rows_of (found_of values.now))) }
-    ensures err { IfErr result (λ e. RefusesWithoutLink (rows_of (found_of values.now)) e.option) }
-    ensures refused { IfErr result (λ e. option_map (λ t. t.now) e.given ≡ first_of (name_of e.option) (rows_of (found_of values.now))) }
-{
-    if flag_in(values, "crc") {
-        return Err(RefusedValue {
-            option: ValueOption::Crc,
-            given: given_in(values, "crc"),
-        });
-    }
-    let given = given_in(values, "credits");
-    if given.is_none() {
-        return Ok(());
-    }
-    Err(RefusedValue {
-        option: ValueOption::Credits,
-        given,
-    })
-}
-
-/// The device that the values give.
-fn device_in<'a>(endpoint: &ArgMatches<'a>) -> Result<Setup, RefusedValue<'a>>
-    ensures ok { IfOk result (AsksEndpoint (rows_of (found_of endpoint.now))) }
-    ensures err { IfErr result (λ e. RefusesDevice (rows_of (found_of endpoint.now)) e.option) }
-    ensures refused { IfErr result (λ e. option_map (λ t. t.now) e.given ≡ first_of (name_of e.option) (rows_of (found_of endpoint.now))) }
-{
-    let size = size_in(endpoint)?;
-    let ids = ids_in(endpoint)?;
-    Ok(setup_of(size, ids))
 }
 
 /// What the values of `endpoint` ask for, of this device.
@@ -315,15 +187,6 @@ fn check_of(check: &ArgMatches<'_>) -> Request
     }
 }
 
-/// The granularity that the values give.
-fn granularity_in<'a>(values: &ArgMatches<'a>) -> Result<Granularity, RefusedValue<'a>>
-    ensures ok { IfOk result (WritesGranularity (first_of (codes "granularity") (rows_of (found_of values.now)))) }
-    ensures err { OnErr result (IsWrongGranularity (rows_of (found_of values.now))) }
-    ensures refused { IfErr result (λ e. (e.option ≡ the_granularity) × (option_map (λ t. t.now) e.given ≡ first_of (codes "granularity") (rows_of (found_of values.now)))) }
-{
-    granularity_of(values.get_str("granularity"))
-}
-
 /// What the values of `search` ask for.
 fn search_of<'a>(search: &ArgMatches<'a>) -> Result<Request, RefusedValue<'a>>
     ensures ok { IfOk result (Asks (Some (codes "search", rows_of (found_of search.now)))) }
@@ -355,15 +218,6 @@ fn draw_of<'a>(draw: &ArgMatches<'a>) -> Result<Request, RefusedValue<'a>>
         });
     }
     Ok(Request::Draw { from, to })
-}
-
-/// The lane that the values give.
-fn lane_in<'a>(values: &ArgMatches<'a>) -> Result<Option<LaneName>, RefusedValue<'a>>
-    ensures ok { IfOk result (WritesLane (first_of (codes "lane") (rows_of (found_of values.now)))) }
-    ensures err { OnErr result (IsWrongLane (rows_of (found_of values.now))) }
-    ensures refused { IfErr result (λ e. (e.option ≡ Lane) × (option_map (λ t. t.now) e.given ≡ first_of (codes "lane") (rows_of (found_of values.now)))) }
-{
-    lane_of(values.get_str("lane"))
 }
 
 /// What the values of `chart` ask for.
@@ -426,15 +280,6 @@ fn generate_of<'a>(generate: &ArgMatches<'a>) -> Result<Request, RefusedValue<'a
     })
 }
 
-/// The first seed and the last that the values give.
-fn seeds_in<'a>(values: &ArgMatches<'a>) -> Result<(u64, u64), RefusedValue<'a>>
-    ensures ok { IfOk result (WritesSeeds (first_of (codes "seeds") (rows_of (found_of values.now)))) }
-    ensures err { OnErr result (IsWrongSeeds (rows_of (found_of values.now))) }
-    ensures refused { IfErr result (λ e. (e.option ≡ Seeds) × (option_map (λ t. t.now) e.given ≡ first_of (codes "seeds") (rows_of (found_of values.now)))) }
-{
-    seeds_of(values.get_str("seeds"))
-}
-
 /// What the values of `sweep` ask for.
 fn sweep_of<'a>(sweep: &ArgMatches<'a>) -> Result<Request, RefusedValue<'a>>
     ensures ok { IfOk result (Asks (Some (codes "sweep", rows_of (found_of sweep.now)))) }
@@ -494,60 +339,6 @@ fn run_of<'a>(run: &ArgMatches<'a>) -> Result<Request, RefusedValue<'a>>
         },
         is_told: is_set(run.get_str("progress")),
     })
-}
-
-/// The subcommands.
-#[derive(Clone, Copy)]
-pub(crate) enum Subcommand {
-    Tlp,
-    Endpoint,
-    Decode,
-    Encode,
-    Check,
-    Search,
-    Draw,
-    Upgrade,
-    Step,
-    Chart,
-    Generate,
-    Sweep,
-    Run,
-}
-
-/// The subcommand of this name.
-fn subcommand_named(name: &str) -> Option<Subcommand>
-    ensures some { IfSome result (λ s. name.now ≡ text_of s) }
-    ensures none { IfNone result ((s : Subcommand) → name.now ≡ text_of s → ⊥) }
-{
-    if name == "tlp" {
-        Some(Subcommand::Tlp)
-    } else if name == "endpoint" {
-        Some(Subcommand::Endpoint)
-    } else if name == "decode" {
-        Some(Subcommand::Decode)
-    } else if name == "encode" {
-        Some(Subcommand::Encode)
-    } else if name == "check" {
-        Some(Subcommand::Check)
-    } else if name == "search" {
-        Some(Subcommand::Search)
-    } else if name == "draw" {
-        Some(Subcommand::Draw)
-    } else if name == "upgrade" {
-        Some(Subcommand::Upgrade)
-    } else if name == "step" {
-        Some(Subcommand::Step)
-    } else if name == "chart" {
-        Some(Subcommand::Chart)
-    } else if name == "generate" {
-        Some(Subcommand::Generate)
-    } else if name == "sweep" {
-        Some(Subcommand::Sweep)
-    } else if name == "run" {
-        Some(Subcommand::Run)
-    } else {
-        None
-    }
 }
 
 /// What a subcommand with these values asks for.

@@ -2,8 +2,8 @@ use Rattle.std.proofs.Common.{◌≡◌, ◌∙◌, refl}
 use Rattle.clap.specs.Words.{found_of, rows_of}
 use Rattle.cli_words.specs.declared.words.Request.{Request}
 use Rattle.cli_words.specs.declared.words.Request.TheVariants as requests
-use Rattle.cli_words.specs.declared.words.Subcommand.{Subcommand}
-use Rattle.cli_words.specs.declared.words.Subcommand.TheVariants as kinds
+use Rattle.cli_words.specs.declared.subcommands.Subcommand.{Subcommand}
+use Rattle.cli_words.specs.declared.subcommands.Subcommand.TheVariants as kinds
 use Rattle.cli_words.specs.Options.{text_of}
 use Rattle.cli_words.proofs.RequestsAsked.{name_of, asks_name}
 use Rattle.cli_words.proofs.words.named_request.Goals as goal

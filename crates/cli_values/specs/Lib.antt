@@ -1,0 +1,5 @@
+pub mod Endpoints
+pub mod Granularities
+pub mod Lanes
+pub mod Links
+pub mod Seeds

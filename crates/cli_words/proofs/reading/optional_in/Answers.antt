@@ -1,0 +1,25 @@
+use Rattle.std.proofs.Common.{◌∙◌, ℕ, ap, subst, Option, IfOk, OnErr, option_map}
+use Rattle.std.proofs.lemmas.Result.{IfErr-weaker}
+use Rattle.clap.specs.Words.{found_of, rows_of, first_of, Text}
+use Rattle.clap.proofs.WalkLemmas.{first_value-rows}
+use Rattle.cli_options.specs.declared.refused.RefusedValue.{RefusedValue}
+use Rattle.cli_options.specs.Values.{GivesOptional}
+use Rattle.cli_words.proofs.reading.optional_in.Goals as goal
+
+pub returns-clause-ok : goal.returns-clause-ok
+returns-clause-ok c =
+    let found = found_of c.args.values.now in
+    let text_is = c.get_str.ensures ∙ first_value-rows found _ ∙ ap (λ (name : Text). first_of name (rows_of found)) c.name.ensures in
+    subst (λ (t : Option Text). IfOk c.optional_of.result (GivesOptional c.args.option t)) text_is c.optional_of.ensures.ok
+
+pub returns-clause-err : goal.returns-clause-err
+returns-clause-err c =
+    let found = found_of c.args.values.now in
+    let text_is = c.get_str.ensures ∙ first_value-rows found _ ∙ ap (λ (name : Text). first_of name (rows_of found)) c.name.ensures in
+    subst (λ (t : Option Text). OnErr c.optional_of.result ((n : Option ℕ) → GivesOptional c.args.option t n → ⊥)) text_is c.optional_of.ensures.err
+
+pub returns-clause-refused : goal.returns-clause-refused
+returns-clause-refused c =
+    let found = found_of c.args.values.now in
+    let text_is = c.get_str.ensures ∙ first_value-rows found _ ∙ ap (λ (name : Text). first_of name (rows_of found)) c.name.ensures in
+    IfErr-weaker c.optional_of.result _ _ (λ e h. (ap (λ (v : RefusedValue). v.option) h, ap (λ (v : RefusedValue). option_map (λ t. t.now) v.given) h ∙ text_is)) c.optional_of.ensures.refused
