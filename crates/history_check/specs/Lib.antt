@@ -6,3 +6,4 @@ pub mod Flaws
 pub mod Lookup
 pub mod Heads
 pub mod Clocks
+pub mod Points

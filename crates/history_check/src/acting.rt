@@ -4,10 +4,12 @@ ghost use Rattle.seq_memory.specs.declared.Entry.{Entry};
 ghost use Rattle.history_check.specs.Flaws as flaw;
 ghost use Rattle.history_check.specs.Lookup.{IsIndex, ArePoints, point_in, missing_in};
 ghost use Rattle.history_check.specs.Heads.{found_in};
+ghost use Rattle.history_check.specs.Points.{Fits};
 
 use crate::claim::{AsClaim, Head};
 use crate::flaws::{Flaw, FlawKind, NO_MEMORY};
 use crate::index::{Index, row_of};
+use crate::points::{NONE, Points};
 use std::alloc::{AllocError, Global};
 
 fn submits_write<C: AsClaim>(claim: &C, place: usize) -> bool
@@ -36,22 +38,18 @@ fn submitted<C: AsClaim>(index: &Index, claim: &C, p: usize) -> Option<(u8, u32,
 }
 
 /// What a table has for the request, by the place of its submission.
-pub(crate) fn point(
-    index: &Index,
-    points: &[Option<usize>],
-    requester: u8,
-    number: u32,
-) -> Option<usize>
-    ensures { result ≡ point_in index.now points.now requester number }
+pub(crate) fn point(index: &Index, points: &Points, requester: u8, number: u32) -> Option<usize>
+    ensures value { result ≡ point_in index.now points.now requester number }
+    ensures small { Fits result }
 {
-    *points.get(index.place(requester, number)?)?
+    points.get(index.place(requester, number)?)
 }
 
 /// The request is a posted write that is not among the entries so far.
 fn missing<C: AsClaim>(
     index: &Index,
     claim: &C,
-    points: &[Option<usize>],
+    points: &Points,
     requester: u8,
     number: u32,
 ) -> bool
@@ -67,7 +65,7 @@ fn missing<C: AsClaim>(
 fn first_missing<C: AsClaim>(
     index: &Index,
     claim: &C,
-    points: &[Option<usize>],
+    points: &Points,
     requester: u8,
     from: u32,
     to: u32,
@@ -82,16 +80,6 @@ fn first_missing<C: AsClaim>(
     j
 }
 
-pub(crate) fn no_points(alloc: Global, count: usize) -> Result<Vec<Option<usize>>, AllocError>
-    ensures { IfOk result (λ v. v.items ≡ replicate count None) }
-{
-    let mut points = Vec::with_capacity(alloc, count)?;
-    for _ in 0..count {
-        points.push(None)?;
-    }
-    Ok(points)
-}
-
 fn zeros(alloc: Global) -> Result<Vec<u32>, AllocError>
     ensures { IfOk result (λ v. v.items ≡ replicate 256 0) }
 {
@@ -99,17 +87,16 @@ fn zeros(alloc: Global) -> Result<Vec<u32>, AllocError>
 }
 
 /// The index in the history of each submission that acted.
-pub(crate) fn act<C: AsClaim>(
-    alloc: Global,
-    index: &Index,
-    claim: &C,
-) -> Result<Vec<Option<usize>>, Flaw>
+pub(crate) fn act<C: AsClaim>(alloc: Global, index: &Index, claim: &C) -> Result<Points, Flaw>
     requires { IsIndex index.now (C.claim claim.now).records }
-    ensures points { IfOk result (λ v. ArePoints v.items (C.claim claim.now).records (C.claim claim.now).memory.entries) }
+    ensures points { IfOk result (λ points. ArePoints points (C.claim claim.now).records (C.claim claim.now).memory.entries) }
     ensures ok { OnOk result (flaw.first_at (flaw.entry_at (C.claim claim.now).records (C.claim claim.now).memory.entries) (length (C.claim claim.now).memory.entries) ≡ None) }
     ensures err { IfErr result (flaw.Tells (flaw.first_at (flaw.entry_at (C.claim claim.now).records (C.claim claim.now).memory.entries) (length (C.claim claim.now).memory.entries))) }
 {
-    let Ok(mut points) = no_points(alloc, claim.records()) else {
+    if claim.entries() > NONE as usize {
+        return Err(NO_MEMORY);
+    }
+    let Ok(mut points) = Points::none(alloc, claim.records()) else {
         return Err(NO_MEMORY);
     };
     let Ok(mut settled) = zeros(alloc) else {
@@ -122,7 +109,7 @@ pub(crate) fn act<C: AsClaim>(
                 place: p,
             });
         };
-        if points[place].is_some() {
+        if points.get(place).is_some() {
             return Err(Flaw {
                 kind: FlawKind::Twice,
                 place: p,
@@ -137,7 +124,7 @@ pub(crate) fn act<C: AsClaim>(
             });
         }
         settled[i] = to;
-        points[place] = Some(p);
+        points.set(place, Some(p));
     }
     Ok(points)
 }

@@ -1,30 +1,33 @@
 //! The answers: each has its point.
-ghost use Rattle.std.specs.Prelude.{ℕ, ◌≡◌, ◌||◌, length, None, IfOk, IfSome, OnOk, IfErr, slice_get, nat_le, nat_lt, option_and_then};
+ghost use Rattle.std.specs.Prelude.{ℕ, ◌≡◌, ◌||◌, length, None, IfOk, IfSome, OnOk, IfErr, nat_le, nat_lt};
 ghost use Rattle.history_check.specs.Flaws as flaw;
+ghost use Rattle.history_check.specs.Points.{Fits};
 ghost use Rattle.history_check.specs.Lookup.{AreFloors, AreTables, point_in, judged, acted_in};
 
-use crate::acting::{no_points, point};
+use crate::acting::point;
 use crate::claim::{AsClaim, Head};
 use crate::flaws::{Flaw, FlawKind};
 use crate::index::{Index, row_of};
+use crate::points::Points;
 use std::alloc::{AllocError, Global};
 
 /// What is looked up of an answer.
 #[derive(Clone, Copy)]
 pub(crate) struct Tables<'a> {
     /// By the place of a submission, the index of its request in the history.
-    pub(crate) points: &'a [Option<usize>],
+    pub(crate) points: &'a Points,
     /// By record, the greatest point of the answers that its requester had before.
-    pub(crate) floors: &'a [Option<usize>],
+    pub(crate) floors: &'a Points,
     /// By the place of a submission, where the first answer to it stands.
-    pub(crate) firsts: &'a [Option<usize>],
+    pub(crate) firsts: &'a Points,
     /// By index of the history, whether the first answer to that request has the memory's reply.
     pub(crate) right: &'a [bool],
 }
 
 /// The greater of two points.
 fn greater(a: Option<usize>, b: Option<usize>) -> Option<usize>
-    ensures { (p : ℕ) → flaw.some_and result (nat_le p) ≡ (flaw.some_and a (nat_le p) || flaw.some_and b (nat_le p)) }
+    ensures small { Fits a → Fits b → Fits result }
+    ensures greater { (p : ℕ) → flaw.some_and result (nat_le p) ≡ (flaw.some_and a (nat_le p) || flaw.some_and b (nat_le p)) }
 {
     match a {
         None => b,
@@ -39,17 +42,17 @@ fn greater(a: Option<usize>, b: Option<usize>) -> Option<usize>
 pub(crate) fn floors<C: AsClaim>(
     alloc: Global,
     index: &Index,
-    points: &[Option<usize>],
+    points: &Points,
     claim: &C,
-) -> Result<Vec<Option<usize>>, AllocError>
-    ensures { IfOk result (λ v. AreFloors v.items (point_in index.now points.now) (C.claim claim.now).records) }
+) -> Result<Points, AllocError>
+    ensures { IfOk result (λ floors. AreFloors floors (point_in index.now points.now) (C.claim claim.now).records) }
 {
-    let mut floors = Vec::with_capacity(alloc, claim.records())?;
-    let mut seen = no_points(alloc, 256)?;
+    let mut floors = Points::with_capacity(alloc, claim.records())?;
+    let mut seen = Points::none(alloc, 256)?;
     for a in 0..claim.records() {
         match claim.head(a) {
             Some(Head::Sub { requester, .. }) => {
-                floors.push(seen[row_of(requester)])?;
+                floors.push(seen.get(row_of(requester)))?;
             }
             Some(
                 Head::Ans {
@@ -59,8 +62,9 @@ pub(crate) fn floors<C: AsClaim>(
                 },
             ) => {
                 let i = row_of(requester);
-                floors.push(seen[i])?;
-                seen[i] = greater(seen[i], point(index, points, requester, number));
+                let floor = seen.get(i);
+                floors.push(floor)?;
+                seen.set(i, greater(floor, point(index, points, requester, number)));
             }
             None => {}
         }
@@ -96,22 +100,22 @@ fn is_right(right: &[bool], p: usize) -> bool
     }
 }
 
-fn is_stale(floors: &[Option<usize>], b: usize, p: usize) -> bool
+fn is_stale(floors: &Points, b: usize, p: usize) -> bool
     ensures { result ≡ flaw.at_place (λ o. flaw.some_and o (nat_le p)) floors.now b }
 {
     match floors.get(b) {
-        Some(Some(q)) => p <= *q,
-        _ => false,
+        Some(q) => p <= q,
+        None => false,
     }
 }
 
 /// An answer before place `a` answers the submission at place `b`.
-fn is_answered(firsts: &[Option<usize>], a: usize, b: usize) -> bool
+fn is_answered(firsts: &Points, a: usize, b: usize) -> bool
     ensures { result ≡ flaw.at_place (λ o. flaw.some_and o (λ c. nat_lt c a)) firsts.now b }
 {
     match firsts.get(b) {
-        Some(Some(c)) => *c < a,
-        _ => false,
+        Some(c) => c < a,
+        None => false,
     }
 }
 
@@ -141,12 +145,6 @@ fn judge_point<C: AsClaim>(
     None
 }
 
-pub(crate) fn point_at(points: &[Option<usize>], b: usize) -> Option<usize>
-    ensures { result ≡ option_and_then (λ p. p) (slice_get points.now b) }
-{
-    *points.get(b)?
-}
-
 /// The first flaw of the answer at place `a` with that `n`, whose submission stands at `place`.
 fn judge<C: AsClaim>(
     claim: &C,
@@ -167,7 +165,7 @@ fn judge<C: AsClaim>(
     if is_answered(tables.firsts, a, b) {
         return Some(FlawKind::Again);
     }
-    match point_at(tables.points, b) {
+    match tables.points.get(b) {
         None => Some(FlawKind::Absent),
         Some(p) => judge_point(claim, tables, n, b, p),
     }

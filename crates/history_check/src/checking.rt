@@ -11,14 +11,15 @@ use crate::claim::{AsClaim, Claim};
 use crate::clocks::first_unclocked;
 use crate::flaws::{Flaw, FlawKind, NO_MEMORY};
 use crate::laws::{answered_first_acts_first, explained_is_without_flaw};
+use crate::points::Points;
 use crate::{Trace, acting, answers, comparing, index};
 use seq_memory::Entry;
 use std::alloc::Global;
 
 /// The passes, one after the other. Gives, by the place of each submission, the index of its request.
-fn first_flaw_of<C: AsClaim>(alloc: Global, claim: &C) -> Result<Vec<Option<usize>>, Flaw>
+fn first_flaw_of<C: AsClaim>(alloc: Global, claim: &C) -> Result<Points, Flaw>
     ensures ok { OnOk result (first_flaw (C.claim claim.now) ≡ None) }
-    ensures points { IfOk result (λ v. ArePoints v.items (C.claim claim.now).records (C.claim claim.now).memory.entries) }
+    ensures points { IfOk result (λ points. ArePoints points (C.claim claim.now).records (C.claim claim.now).memory.entries) }
     ensures err { IfErr result (Tells (first_flaw (C.claim claim.now))) }
 {
     let index = index::index_of(alloc, claim)?;
@@ -43,8 +44,8 @@ fn first_flaw_of<C: AsClaim>(alloc: Global, claim: &C) -> Result<Vec<Option<usiz
 }
 
 /// Whether the history explains the trace, and else the first flaw. Where a growth was refused, a
-/// flaw of kind `Memory` tells it, and nothing is known. Takes as many bytes as the trace's memory
-/// has, and tables of the records and entries.
+/// flaw of kind `Memory` tells it, and nothing is known; so with more than 4,294,967,295 records or
+/// entries. Takes as many bytes as the trace's memory has, and tables of the records and entries.
 pub fn check_claim<C: AsClaim>(alloc: Global, claim: &C) -> Result<(), Flaw>
     ensures explained { OnOk result (Explains (C.claim claim.now)) }
     ensures unexplained { IfErr result (λ f. ¬ (f.kind ≡ FlawKind.Memory) → ¬ (Explains (C.claim claim.now))) }
@@ -93,8 +94,8 @@ pub fn check_claim_clocked<C: AsClaim>(alloc: Global, claim: &C) -> Result<(), F
 }
 
 /// Whether the history explains the trace, and else the first flaw. Where a growth was refused, a
-/// flaw of kind `Memory` tells it, and nothing is known. Takes as many bytes as the trace's memory
-/// has, and tables of the records and entries.
+/// flaw of kind `Memory` tells it, and nothing is known; so with more than 4,294,967,295 records or
+/// entries. Takes as many bytes as the trace's memory has, and tables of the records and entries.
 pub fn check(alloc: Global, trace: &Trace, history: &[Entry]) -> Result<(), Flaw>
     ensures explained { OnOk result (Explains (claim_of trace.now history.now)) }
     ensures unexplained { IfErr result (λ f. ¬ (f.kind ≡ FlawKind.Memory) → ¬ (Explains (claim_of trace.now history.now))) }

@@ -5,9 +5,9 @@ ghost use Rattle.history_check.specs.Heads.{early_at, unclocked_in};
 ghost use Rattle.history_check.specs.Lookup.{ArePoints};
 ghost use Rattle.history_check.specs.Trace.{IsNumbered};
 
-use crate::answers::point_at;
 use crate::claim::{AsClaim, Head};
 use crate::flaws::FlawKind;
+use crate::points::Points;
 
 /// The record submits the request at that index, and has an `n` above it.
 fn is_early(head: Head, point: Option<usize>) -> bool
@@ -28,7 +28,7 @@ fn is_unclocked(head: Head, last: u64, most: usize, point: Option<usize>) -> boo
 }
 
 /// The place of the first record whose `n` is no length of the history as it grew.
-pub(crate) fn first_unclocked<C: AsClaim>(points: &[Option<usize>], claim: &C) -> Option<usize>
+pub(crate) fn first_unclocked<C: AsClaim>(points: &Points, claim: &C) -> Option<usize>
     requires numbered { IsNumbered (C.claim claim.now).records }
     requires points { ArePoints points.now (C.claim claim.now).records (C.claim claim.now).memory.entries }
     ensures { first_at (clock_at (C.claim claim.now).records (C.claim claim.now).memory.entries) (length (C.claim claim.now).records) ≡ option_map (λ place. (FlawKind.Clock, place)) result }
@@ -38,7 +38,7 @@ pub(crate) fn first_unclocked<C: AsClaim>(points: &[Option<usize>], claim: &C) -
         let Some(head) = claim.head(a) else {
             return None;
         };
-        if is_unclocked(head, last, claim.entries(), point_at(points, a)) {
+        if is_unclocked(head, last, claim.entries(), points.get(a)) {
             return Some(a);
         }
         last = head.moment();

@@ -3,9 +3,10 @@ ghost use Rattle.std.specs.Prelude.{ℕ, ◌≡◌, IfOk, slice_get, replicate, 
 ghost use Rattle.history_check.specs.Heads.{first_in};
 ghost use Rattle.history_check.specs.Lookup.{IsIndex, AreFirsts, right_in};
 
-use crate::acting::{no_points, point};
+use crate::acting::point;
 use crate::claim::{AsClaim, Head};
 use crate::index::Index;
+use crate::points::{NONE, Points};
 use seq_memory::ReplyData;
 use std::alloc::{AllocError, Global};
 
@@ -14,12 +15,16 @@ pub(crate) fn first_answers<C: AsClaim>(
     alloc: Global,
     index: &Index,
     claim: &C,
-) -> Result<Vec<Option<usize>>, AllocError>
+) -> Result<Points, AllocError>
     requires { IsIndex index.now (C.claim claim.now).records }
-    ensures { IfOk result (λ v. AreFirsts v.items (C.claim claim.now).records (C.claim claim.now).records) }
+    ensures { IfOk result (λ firsts. AreFirsts firsts (C.claim claim.now).records (C.claim claim.now).records) }
 {
-    let mut firsts = no_points(alloc, claim.records())?;
-    for a in 0..claim.records() {
+    let count = claim.records();
+    if count > NONE as usize {
+        return Err(AllocError);
+    }
+    let mut firsts = Points::none(alloc, count)?;
+    for a in 0..count {
         match claim.head(a) {
             Some(
                 Head::Ans {
@@ -29,7 +34,7 @@ pub(crate) fn first_answers<C: AsClaim>(
                 },
             ) => {
                 if let Some(b) = index.place(requester, number) {
-                    firsts[b] = firsts[b].or(Some(a));
+                    firsts.set(b, firsts.get(b).or(Some(a)));
                 }
             }
             Some(Head::Sub { .. }) => {}
@@ -40,12 +45,7 @@ pub(crate) fn first_answers<C: AsClaim>(
 }
 
 /// Where the first answer stands to the request at the index of the history.
-fn first_answer<C: AsClaim>(
-    index: &Index,
-    claim: &C,
-    firsts: &[Option<usize>],
-    p: usize,
-) -> Option<usize>
+fn first_answer<C: AsClaim>(index: &Index, claim: &C, firsts: &Points, p: usize) -> Option<usize>
     ensures { result ≡ option_and_then (first_in index.now firsts.now) (slice_get (C.claim claim.now).memory.entries p) }
 {
     let (requester, number) = claim.request(p)?;
@@ -63,7 +63,7 @@ pub(crate) fn right_replies<C: AsClaim>(
     alloc: Global,
     index: &Index,
     claim: &C,
-    firsts: &[Option<usize>],
+    firsts: &Points,
 ) -> Result<Vec<bool>, AllocError>
     ensures { IfOk result (λ v. (p : ℕ) → slice_get v.items p ≡ right_in index.now firsts.now (C.claim claim.now) p) }
 {

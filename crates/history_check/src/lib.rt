@@ -24,6 +24,7 @@ mod comparing;
 mod flaws;
 mod index;
 pub mod laws;
+mod points;
 
 pub use checking::{
     check, check_claim, check_claim_clocked, check_claim_with_clock, check_clocked,

@@ -1,13 +1,13 @@
-use Rattle.std.proofs.Common.{ℕ, ◌≡◌, ◌<◌, ◌≤◌, length, take, get_or, ap, sym, ◌∙◌, arith, List, Some, false}
+use Rattle.std.proofs.Common.{ℕ, ◌≡◌, ◌<◌, ◌≤◌, length, take, get_or, ap, sym, ◌∙◌, arith, List, Option, Some, false, refl}
 use Rattle.std.specs.Prelude.{is_some, slice_get, option_and_then}
 use Rattle.std.proofs.lemmas.Option.{slice_get_within}
 use Rattle.std.proofs.lemmas.List.{length-replicate, get_or-replicate, length-set}
 use Rattle.tlp_core.specs.declared.operation.Op.{Op}
 use Rattle.seq_memory.specs.declared.Entry.{Entry}
 use Rattle.history_check.specs.declared.Record.{Record}
-use Rattle.history_check.specs.Flaws.{entry_at, misses, is_stranger, sub_place}
+use Rattle.history_check.specs.Flaws.{entry_at, misses, is_stranger, sub_place, place_of}
 use Rattle.history_check.specs.Heads.{found_in}
-use Rattle.history_check.specs.Lookup.{IsIndex}
+use Rattle.history_check.specs.Lookup.{IsIndex, ArePoints}
 use Rattle.history_check.proofs.Firsts.{first_at-none, first_at-more, first_at-found, any_below-one, tells}
 use Rattle.history_check.proofs.Parts.{there, was_submitted, not_submitted}
 use Rattle.history_check.proofs.Entries.{stranger, no_stranger, entry-stranger, entry-twice, entry-order, entry-good, read_point, read_settled, missed, settled_all, settled_next, points_next, points_none, nothing_there}
@@ -52,21 +52,17 @@ stands rows rs h p i k b index row found =
     let (s1, s2) = no_stranger rows rs e b index small there in
     record { op = op; at = at; small = small; known = s1; here = s2; within = slice_get_within h p e at }
 
-pub index-requires : goal.index-requires
-index-requires g c =
-    let x = g.C.AsClaim.claim c.args.claim.now in
-    let rs = x.records in
-    let h = x.memory.entries in
-    let s = stands c.args.index.now rs h c.loop-p.p c.in-Some.requester c.in-Some.number c.in-Some.place c.requires c.submitted.ensures.row (sym c.submitted.ensures.found ∙ c.in-Some.is) in
-    omega (arith, c.loop-p.points.ok.0, slice_get_within c.loop-p.points.items c.in-Some.place _ (c.loop-p.invariant.points.at c.in-Some.requester c.in-Some.number c.in-Some.place s.here))
+-- the table has the place
+inside : (points : List (Option ℕ)) (rs : List Record) (h : List Entry) (i k b : ℕ) → ArePoints points rs h → sub_place rs i k ≡ Some b → b < length points
+inside points rs h i k b a here = slice_get_within points b (place_of h i k) (a.at i k b here)
 
-pub index_mut-requires-in-loop-p : goal.index_mut-requires-in-loop-p
-index_mut-requires-in-loop-p g c =
+pub set-requires-clause-place : goal.set-requires-clause-place
+set-requires-clause-place g c =
     let x = g.C.AsClaim.claim c.args.claim.now in
     let rs = x.records in
     let h = x.memory.entries in
     let s = stands c.args.index.now rs h c.loop-p.p c.in-Some.requester c.in-Some.number c.in-Some.place c.requires c.submitted.ensures.row (sym c.submitted.ensures.found ∙ c.in-Some.is) in
-    omega (arith, c.loop-p.points.ok.0, slice_get_within c.loop-p.points.items c.in-Some.place _ (c.loop-p.invariant.points.at c.in-Some.requester c.in-Some.number c.in-Some.place s.here))
+    inside c.loop-p.points rs (take c.loop-p.p h) c.in-Some.requester c.in-Some.number c.in-Some.place c.loop-p.invariant.points s.here
 
 pub returns-then-is_some-clause-err : goal.returns-then-is_some-clause-err
 returns-then-is_some-clause-err g c =
@@ -76,7 +72,8 @@ returns-then-is_some-clause-err g c =
     let s = stands c.args.index.now rs h c.loop-p.p c.in-Some.requester c.in-Some.number c.in-Some.place c.requires c.submitted.ensures.row (sym c.submitted.ensures.found ∙ c.in-Some.is) in
     let e : Entry = record { requester = c.in-Some.requester; number = c.in-Some.number; op = s.op } in
     let before = take c.loop-p.p h in
-    let point = read_point c.loop-p.points.items rs before c.in-Some.requester c.in-Some.number c.in-Some.place c.index.result.now c.loop-p.invariant.points s.here c.index.ensures in
+    let within = inside c.loop-p.points rs before c.in-Some.requester c.in-Some.number c.in-Some.place c.loop-p.invariant.points s.here in
+    let point = read_point c.loop-p.points rs before c.in-Some.requester c.in-Some.number c.in-Some.place c.get.result c.loop-p.invariant.points s.here (c.get.ensures.read within) in
     tells _ _ (first_at-found (entry_at rs h) c.loop-p.p (length h) _ c.loop-p.invariant.clean
     (entry-twice rs h c.loop-p.p e s.at s.known (sym (ap is_some point) ∙ sym c.is_some.ensures ∙ c.if-is_some.true))
     s.within) (λ e. cc)
@@ -89,8 +86,9 @@ returns-then-to-number-clause-err g c =
     let s = stands c.args.index.now rs h c.loop-p.p c.in-Some.requester c.in-Some.number c.in-Some.place c.requires c.submitted.ensures.row (sym c.submitted.ensures.found ∙ c.in-Some.is) in
     let e : Entry = record { requester = c.in-Some.requester; number = c.in-Some.number; op = s.op } in
     let before = take c.loop-p.p h in
-    let point = read_point c.loop-p.points.items rs before c.in-Some.requester c.in-Some.number c.in-Some.place c.index.result.now c.loop-p.invariant.points s.here c.index.ensures in
-    let miss = missed c.args.index.now rs before c.loop-p.points.items c.deref.result.now c.in-Some.requester c.first_missing-to.result _ c.requires s.small c.loop-p.invariant.points c.deref.ensures.value (c.first_missing-to.ensures.stops c.if-to-number.true) in
+    let within = inside c.loop-p.points rs before c.in-Some.requester c.in-Some.number c.in-Some.place c.loop-p.invariant.points s.here in
+    let point = read_point c.loop-p.points rs before c.in-Some.requester c.in-Some.number c.in-Some.place c.get.result c.loop-p.invariant.points s.here (c.get.ensures.read within) in
+    let miss = missed c.args.index.now rs before c.loop-p.points c.loop-p.points c.in-Some.requester c.first_missing-to.result _ c.requires s.small c.loop-p.invariant.points refl (c.first_missing-to.ensures.stops c.if-to-number.true) in
     tells _ _ (first_at-found (entry_at rs h) c.loop-p.p (length h) _ c.loop-p.invariant.clean
     (entry-order rs h c.loop-p.p e s.at s.known (sym (ap is_some point) ∙ sym c.is_some.ensures ∙ c.if-is_some.false)
     (any_below-one (misses rs before c.in-Some.requester) c.in-Some.number c.first_missing-to.result c.if-to-number.true miss))
@@ -104,16 +102,17 @@ loop-p-preserved g c =
     let s = stands c.args.index.now rs h c.loop-p.p c.in-Some.requester c.in-Some.number c.in-Some.place c.requires c.submitted.ensures.row (sym c.submitted.ensures.found ∙ c.in-Some.is) in
     let e : Entry = record { requester = c.in-Some.requester; number = c.in-Some.number; op = s.op } in
     let before = take c.loop-p.p h in
-    let point = read_point c.loop-p.points.items rs before c.in-Some.requester c.in-Some.number c.in-Some.place c.index.result.now c.loop-p.invariant.points s.here c.index.ensures in
+    let within = inside c.loop-p.points rs before c.in-Some.requester c.in-Some.number c.in-Some.place c.loop-p.invariant.points s.here in
+    let point = read_point c.loop-p.points rs before c.in-Some.requester c.in-Some.number c.in-Some.place c.get.result c.loop-p.invariant.points s.here (c.get.ensures.read within) in
     let new = sym (ap is_some point) ∙ sym c.is_some.ensures ∙ c.if-is_some.false in
-    let from = c.index-in-loop-p.result.now in
+    let from = c.index.result.now in
     let to = c.first_missing-to.result in
     let row : c.row_of-i.result ≡ c.in-Some.requester = c.row_of-i.ensures.value in
-    let read : from ≡ get_or c.loop-p.settled.items c.in-Some.requester 0 = read_settled c.loop-p.settled.items c.in-Some.requester c.row_of-i.result from row (omega (arith, c.loop-p.invariant.rows, s.small)) c.index-in-loop-p.ensures in
+    let read : from ≡ get_or c.loop-p.settled.items c.in-Some.requester 0 = read_settled c.loop-p.settled.items c.in-Some.requester c.row_of-i.result from row (omega (arith, c.loop-p.invariant.rows, s.small)) c.index.ensures in
     let none : (j : ℕ) → from ≤ j → j < to → misses rs before c.in-Some.requester j ≡ false =
-    λ j l m. missed c.args.index.now rs before c.loop-p.points.items c.deref.result.now c.in-Some.requester j false c.requires s.small c.loop-p.invariant.points c.deref.ensures.value (c.first_missing-to.ensures.none j l m) in
+    λ j l m. missed c.args.index.now rs before c.loop-p.points c.loop-p.points c.in-Some.requester j false c.requires s.small c.loop-p.invariant.points refl (c.first_missing-to.ensures.none j l m) in
     record {
-      points = points_next c.loop-p.points.items rs h c.loop-p.p e c.in-Some.place c.loop-p.invariant.points s.at s.here (nothing_there _ new);
+      points = rw c.set.ensures (points_next c.loop-p.points rs h c.loop-p.p e c.in-Some.place c.loop-p.invariant.points s.at s.here (nothing_there _ new));
       rows = length-set c.loop-p.settled.items c.row_of-i.result to ∙ c.loop-p.invariant.rows;
       settled = rw row (λ i j l m. settled_next rs h c.loop-p.settled.items c.loop-p.settled.items c.loop-p.p e from to i c.loop-p.invariant.rows c.loop-p.invariant.settled s.at s.small read none l j m);
       clean = first_at-more (entry_at rs h) c.loop-p.p c.loop-p.invariant.clean

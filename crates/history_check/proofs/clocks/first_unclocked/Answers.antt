@@ -28,10 +28,10 @@ returns-then-is_unclocked g c =
     let rs = x.records in
     let h = x.memory.entries in
     let (r, at, is) = head_read (slice_get rs c.loop-a.a) c.in-Some.head (sym c.head.ensures ∙ c.in-Some.is) in
-    let tested : c.is_unclocked.result ≡ unclocked_in (head_of r) c.loop-a.last (length h) c.point_at.result =
-    c.is_unclocked.ensures ∙ ap (λ most. unclocked_in c.in-Some.head c.loop-a.last most c.point_at.result) c.entries.ensures ∙ ap (λ (head : Head). unclocked_in head c.loop-a.last (length h) c.point_at.result) is in
+    let tested : c.is_unclocked.result ≡ unclocked_in (head_of r) c.loop-a.last (length h) c.get.result =
+    c.is_unclocked.ensures ∙ ap (λ most. unclocked_in c.in-Some.head c.loop-a.last most c.get.result) c.entries.ensures ∙ ap (λ (head : Head). unclocked_in head c.loop-a.last (length h) c.get.result) is in
     first_at-found (clock_at rs h) c.loop-a.a (length rs) flaws.Clock c.loop-a.invariant.clean
-    (clock_is c.args.points.now rs h c.loop-a.a c.loop-a.last r c.point_at.result c.is_unclocked.result true c.requires.numbered c.requires.points at c.loop-a.invariant.last c.point_at.ensures tested c.if-is_unclocked.true)
+    (clock_is c.args.points.now rs h c.loop-a.a c.loop-a.last r c.get.result c.is_unclocked.result true c.requires.numbered c.requires.points at c.loop-a.invariant.last c.get.ensures.value tested c.if-is_unclocked.true)
     (omega (arith, c.records-a-end.ensures, c.loop-a-test.true))
 
 pub loop-a-preserved : goal.loop-a-preserved
@@ -40,12 +40,12 @@ loop-a-preserved g c =
     let rs = x.records in
     let h = x.memory.entries in
     let (r, at, is) = head_read (slice_get rs c.loop-a.a) c.in-Some.head (sym c.head.ensures ∙ c.in-Some.is) in
-    let tested : c.is_unclocked.result ≡ unclocked_in (head_of r) c.loop-a.last (length h) c.point_at.result =
-    c.is_unclocked.ensures ∙ ap (λ most. unclocked_in c.in-Some.head c.loop-a.last most c.point_at.result) c.entries.ensures ∙ ap (λ (head : Head). unclocked_in head c.loop-a.last (length h) c.point_at.result) is in
-    let up = not_fallen r c.loop-a.last (length h) c.point_at.result (sym tested ∙ c.if-is_unclocked.false) in
+    let tested : c.is_unclocked.result ≡ unclocked_in (head_of r) c.loop-a.last (length h) c.get.result =
+    c.is_unclocked.ensures ∙ ap (λ most. unclocked_in c.in-Some.head c.loop-a.last most c.get.result) c.entries.ensures ∙ ap (λ (head : Head). unclocked_in head c.loop-a.last (length h) c.get.result) is in
+    let up = not_fallen r c.loop-a.last (length h) c.get.result (sym tested ∙ c.if-is_unclocked.false) in
     record {
       clean = first_at-more (clock_at rs h) c.loop-a.a c.loop-a.invariant.clean
-          (clock_is c.args.points.now rs h c.loop-a.a c.loop-a.last r c.point_at.result c.is_unclocked.result false c.requires.numbered c.requires.points at c.loop-a.invariant.last c.point_at.ensures tested c.if-is_unclocked.false);
+          (clock_is c.args.points.now rs h c.loop-a.a c.loop-a.last r c.get.result c.is_unclocked.result false c.requires.numbered c.requires.points at c.loop-a.invariant.last c.get.ensures.value tested c.if-is_unclocked.false);
       last = λ n. last_next rs c.loop-a.a c.loop-a.last r at up c.loop-a.invariant.last n
           ∙ ap (nat_lt n) (sym (c.moment-last.ensures ∙ ap (λ (head : Head). moment_of head) is ∙ moment_is r));
     }

@@ -3,4 +3,4 @@ use Rattle.history_check.specs.Lookup.{AreFirsts}
 use Rattle.history_check.proofs.comparing.first_answers.Given as goal
 
 abbrev pub invariant-loop-a : goal.invariant-loop-a
-invariant-loop-a g l = AreFirsts l.firsts.items (g.C.AsClaim.claim l.claim).records (take l.a (g.C.AsClaim.claim l.claim).records)
+invariant-loop-a g l = AreFirsts l.firsts (g.C.AsClaim.claim l.claim).records (take l.a (g.C.AsClaim.claim l.claim).records)
