@@ -8,7 +8,11 @@ pub mod laws;
 mod lines;
 mod options;
 mod reasons;
+mod recording;
 mod texts;
 
 pub use lines::{run_endpoint, run_endpoint_with_reasons};
 pub use options::EndpointOptions;
+pub use reasons::{digits_reason, untraced_reason};
+pub use recording::{new_log, record_acting, record_answer, record_reset};
+pub use texts::{no_line, put_handled};

@@ -1,15 +1,14 @@
 //! The subcommand `endpoint`: TLPs of a root complex, line by line.
-ghost use Rattle.std.specs.Prelude.{◌≡◌, ◌≤◌, ◌++◌, codes, length, if◌then◌else◌, Some, None, Ok, option_map, option_and_then, IfOk, IfErr, OnOk, OnErr};
+ghost use Rattle.std.specs.Prelude.{◌≡◌, ◌≤◌, length, Ok, IfOk, IfErr, OnErr};
 ghost use Rattle.hex.specs.Hex.{decode_of};
 ghost use Rattle.hex_text.specs.Line.{digits_of};
-ghost use Rattle.endpoint_packets.specs.Classes.{becomes};
-ghost use Rattle.endpoint_log.specs.Steps as log_steps;
 ghost use Rattle.line_loop.specs.Run.{IsAnswer, IsCaughtUp, IsWhole, IsPart};
 ghost use Rattle.endpoint_engine.specs.Lines as spec;
 
 use crate::options::EndpointOptions;
 use crate::reasons::reason_of;
-use crate::texts::{put_completion, put_handled};
+use crate::recording::{new_log, record_acting, record_answer, record_coming, record_reset};
+use crate::texts::{no_line, put_completion, put_handled};
 use diagnostics::tell_long_line;
 use endpoint_core::{Endpoint, Room};
 use endpoint_log::Log;
@@ -19,7 +18,6 @@ use std::alloc::{AllocError, Global};
 use std::io::{Read, Write, sink};
 use std::marker::Model;
 use text_lines::is_skipped;
-use tlp_core::TlpRef;
 use trace_engine::tell_trace;
 
 /// A device whose TLPs come line by line.
@@ -45,69 +43,6 @@ impl Model for Lines {
     ghost Value = { DeviceLines };
 
     ghost view = { λ l. record { endpoint = l.endpoint; log = l.log } };
-}
-
-/// Adds the line of a fault.
-fn no_line(out: &mut Vec<u8>) -> Result<Verdict, AllocError>
-    ensures ok { IfOk result (λ verdict. (verdict ≡ Verdict.Fault) × (out.new.items ≡ out.old.items ++ codes "fault Line\n")) }
-    ensures err { OnErr result (out.new.items ≡ out.old.items) }
-{
-    out.extend_from_slice(b"fault Line\n")?;
-    Ok(Verdict::Fault)
-}
-
-/// What is recorded of a new device.
-fn new_log(alloc: Global, options: EndpointOptions) -> Option<Log>
-    ensures { result ≡ (if options.is_traced then Some (log_steps.new_log options.setup) else None) }
-{
-    if options.is_traced {
-        Some(Log::new(alloc, options.setup))
-    } else {
-        None
-    }
-}
-
-/// Records that a TLP of these bytes comes to the device, if it is traced.
-fn record_coming(
-    log: &mut Option<Log>,
-    endpoint: &Endpoint,
-    tlp: &[u8],
-    room: &mut endpoint_packets::Room,
-) -> Result<(), AllocError>
-    ensures { OnOk result (log.new ≡ option_map (log_steps.came endpoint.now.device (becomes tlp.now)) log.old) }
-{
-    match log {
-        Some(log) => log.come(endpoint, tlp, room),
-        None => Ok(()),
-    }
-}
-
-/// Records that the oldest request of the device acts, if it is traced. The number of its block request, if it is recorded.
-fn record_acting(log: &mut Option<Log>, endpoint: &Endpoint) -> Result<Option<u32>, AllocError>
-    ensures number { IfOk result (λ k. k ≡ option_and_then (log_steps.number_entered endpoint.now) log.old) }
-    ensures log { OnOk result (log.new ≡ option_map (log_steps.entered endpoint.now) log.old) }
-{
-    match log {
-        Some(log) => log.act(endpoint),
-        None => Ok(None),
-    }
-}
-
-/// Records the answer of the block request with that number, if it is recorded.
-fn record_answer(
-    log: &mut Option<Log>,
-    number: Option<u32>,
-    completion: &Option<TlpRef<'_>>,
-) -> Result<(), AllocError>
-    ensures { OnOk result (log.new ≡ option_map (λ l. log_steps.answered_by l number completion.now) log.old) }
-{
-    let Some(log) = log else {
-        return Ok(());
-    };
-    match (number, completion) {
-        (Some(number), Some(completion)) => log.answer(number, completion),
-        _ => Ok(()),
-    }
 }
 
 impl Lines {
@@ -158,9 +93,7 @@ impl Lines {
     {
         out.extend_from_slice(b"reset\n")?;
         self.endpoint.reset();
-        if let Some(log) = &mut self.log {
-            log.reset();
-        }
+        record_reset(&mut self.log);
         Ok(Verdict::Fine)
     }
 

@@ -1,5 +1,5 @@
 //! The texts of answers.
-ghost use Rattle.std.specs.Prelude.{◌≡◌, ◌++◌, ◌∷◌, [], OnOk, OnErr};
+ghost use Rattle.std.specs.Prelude.{◌≡◌, ◌++◌, ◌∷◌, [], codes, IfOk, OnOk, OnErr};
 ghost use Rattle.hex.specs.Hex.{encode_upper};
 ghost use Rattle.tlp_core.specs.Layout.{canonical};
 ghost use Rattle.hex_text.specs.Line.{spaced};
@@ -9,8 +9,18 @@ use completion_bytes::{HEADER, put_header};
 use endpoint_core::Handled;
 use endpoint_packets::Malformed;
 use hex_text::{HexText, write_both, write_bytes};
+use line_loop::Verdict;
 use std::alloc::AllocError;
 use tlp_core::{MAX_TLP, TlpRef, encode_lent};
+
+/// Adds the line of a fault.
+pub fn no_line(out: &mut Vec<u8>) -> Result<Verdict, AllocError>
+    ensures ok { IfOk result (λ verdict. (verdict ≡ Verdict.Fault) × (out.new.items ≡ out.old.items ++ codes "fault Line\n")) }
+    ensures err { OnErr result (out.new.items ≡ out.old.items) }
+{
+    out.extend_from_slice(b"fault Line\n")?;
+    Ok(Verdict::Fault)
+}
 
 /// Adds both texts, or nothing.
 #[inline(always)]
@@ -65,7 +75,7 @@ fn put_malformed(malformed: Malformed, out: &mut Vec<u8>) -> Result<(), AllocErr
 }
 
 /// Adds the line that says what became of a TLP.
-pub(crate) fn put_handled(handled: Handled, out: &mut Vec<u8>) -> Result<(), AllocError>
+pub fn put_handled(handled: Handled, out: &mut Vec<u8>) -> Result<(), AllocError>
     ensures ok { OnOk result (out.new.items ≡ out.old.items ++ (spec.handled_text handled ++ 10 ∷ [])) }
     ensures err { OnErr result (out.new.items ≡ out.old.items) }
 {

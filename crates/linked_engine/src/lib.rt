@@ -5,14 +5,16 @@
 //! `trace` for what the memory did. Any other line is a fault, which changes nothing.
 #![tactic(auto)]
 
+mod asked;
 mod credits;
+mod explained;
 mod frames;
-mod handled;
 mod lines;
 mod options;
 mod reasons;
+mod recording;
 mod texts;
 
 pub use credits::FiniteCredits;
-pub use lines::{run_linked, run_linked_with_reasons};
+pub use explained::{run_linked, run_linked_with_reasons};
 pub use options::LinkedOptions;

@@ -1,36 +1,26 @@
-//! The subcommand `endpoint --link`: what arrives at a device's end of a link and what is sent there, line by line.
-ghost use Rattle.std.specs.Prelude.{◌≡◌, ◌≤◌, ◌++◌, true, codes, length, if◌then◌else◌, Some, None, Ok, option_map, option_and_then, IfOk, IfErr, OnOk, OnErr};
-ghost use Rattle.hex.specs.Hex.{decode_of};
-ghost use Rattle.hex_text.specs.Line.{digits_of};
-ghost use Rattle.fc_credit.specs.Limits.{IsInLimits};
-ghost use Rattle.endpoint_log.specs.Steps as log_steps;
-ghost use Rattle.port_core.specs.Port as port;
+//! What a device behind its end of a link does, and what it answers.
+ghost use Rattle.std.specs.Prelude.{◌≡◌, true, if◌then◌else◌, Ok, IfOk, OnOk, OnErr};
 ghost use Rattle.linked_endpoint.specs.Linked as link;
-ghost use Rattle.linked_endpoint.specs.Runs.{Up, Down, ReceiveDllp, Enter, after_call};
-ghost use Rattle.line_loop.specs.Run.{IsAnswer, IsCaughtUp, IsWhole, IsPart};
+ghost use Rattle.linked_endpoint.specs.Runs.{Enter, after_call};
+ghost use Rattle.line_loop.specs.Run.{IsAnswer};
 ghost use Rattle.link_crc.specs.Checks.{lcrc_check_of};
-ghost use Rattle.linked_engine.specs.Crcs.{marked, without_last};
+ghost use Rattle.linked_engine.specs.Crcs.{without_last};
 ghost use Rattle.linked_engine.specs.Lines as spec;
 
-use crate::frames::{is_good_dllp, marked, without_dllp_crc, without_lcrc};
+use crate::frames::{is_good_dllp, without_dllp_crc, without_lcrc};
 use crate::options::LinkedOptions;
-use crate::reasons::reason_of;
+use crate::recording::record_coming;
 use crate::texts::{put_arrived, put_heard, put_replay, put_sent, put_state, put_word};
 use arrayvec::ArrayVec;
-use diagnostics::tell_long_line;
-use endpoint_core::{Endpoint, Room};
-use endpoint_engine::EndpointOptions;
+use endpoint_core::Room;
+use endpoint_engine::{new_log, no_line, record_acting, record_answer, record_reset};
 use endpoint_log::Log;
-use hex_text::HexLine;
-use line_loop::{EngineFault, Responder, Verdict, run};
+use line_loop::Verdict;
 use link_crc::{LcrcCheck, check_packet};
-use linked_endpoint::{Arrived, LinkedEndpoint, tlp_in};
+use linked_endpoint::{Arrived, LinkedEndpoint};
 use port_core::EnterRefusal;
 use std::alloc::{AllocError, Global};
-use std::io::{Read, Write, sink};
 use std::marker::Model;
-use text_lines::is_skipped;
-use tlp_core::TlpRef;
 use trace_engine::tell_trace;
 
 /// The most requests that act behind one line: more than a replay buffer holds packets.
@@ -38,11 +28,11 @@ const MOST_TURNS: u16 = 2048;
 
 /// A device behind its end of a link.
 #[derive(Drop)]
-struct Lines {
+pub(crate) struct Lines {
     alloc: Global,
     linked: LinkedEndpoint,
     log: Option<Log>,
-    has_crc: bool,
+    pub(crate) has_crc: bool,
     rooms: Rooms,
 }
 
@@ -59,95 +49,6 @@ impl Model for Lines {
     ghost Value = { LinkLines };
 
     ghost view = { λ l. record { linked = l.linked; log = l.log; has_crc = l.has_crc } };
-}
-
-/// Adds the line of a fault.
-fn no_line(out: &mut Vec<u8>) -> Result<Verdict, AllocError>
-    ensures ok { IfOk result (λ verdict. (verdict ≡ Verdict.Fault) × (out.new.items ≡ out.old.items ++ codes "fault Line\n")) }
-    ensures err { OnErr result (out.new.items ≡ out.old.items) }
-{
-    out.extend_from_slice(b"fault Line\n")?;
-    Ok(Verdict::Fault)
-}
-
-/// What is recorded of a new device.
-fn new_log(alloc: Global, options: EndpointOptions) -> Option<Log>
-    ensures { result ≡ (if options.is_traced then Some (log_steps.new_log options.setup) else None) }
-{
-    if options.is_traced {
-        Some(Log::new(alloc, options.setup))
-    } else {
-        None
-    }
-}
-
-/// Records what a packet does that arrives now, if its TLP goes to the device.
-fn record_taken(
-    log: &mut Log,
-    linked: &LinkedEndpoint,
-    packet: &[u8],
-    good: bool,
-    room: &mut endpoint_packets::Room,
-) -> Result<(), AllocError>
-    ensures { OnOk result (log.new ≡ spec.coming linked.now packet.now good log.old) }
-{
-    if linked.would_take(packet, good) {
-        return log.come(linked.endpoint(), tlp_in(packet), room);
-    }
-    Ok(())
-}
-
-/// Records what a packet does that arrives now, if the device is traced.
-fn record_coming(
-    log: &mut Option<Log>,
-    linked: &LinkedEndpoint,
-    packet: &[u8],
-    good: bool,
-    room: &mut endpoint_packets::Room,
-) -> Result<(), AllocError>
-    ensures { OnOk result (log.new ≡ option_map (spec.coming linked.now packet.now good) log.old) }
-{
-    match log {
-        Some(log) => record_taken(log, linked, packet, good, room),
-        None => Ok(()),
-    }
-}
-
-/// Records that the oldest request of the device acts, if it is traced. The number of its block request, if it is recorded.
-fn record_acting(log: &mut Option<Log>, endpoint: &Endpoint) -> Result<Option<u32>, AllocError>
-    ensures number { IfOk result (λ k. k ≡ option_and_then (log_steps.number_entered endpoint.now) log.old) }
-    ensures log { OnOk result (log.new ≡ option_map (log_steps.entered endpoint.now) log.old) }
-{
-    match log {
-        Some(log) => log.act(endpoint),
-        None => Ok(None),
-    }
-}
-
-/// Records the answer of the block request with that number, if it is recorded.
-fn record_answer(
-    log: &mut Option<Log>,
-    number: Option<u32>,
-    completion: &Option<TlpRef<'_>>,
-) -> Result<(), AllocError>
-    ensures { OnOk result (log.new ≡ option_map (λ l. log_steps.answered_by l number completion.now) log.old) }
-{
-    let Some(log) = log else {
-        return Ok(());
-    };
-    match (number, completion) {
-        (Some(number), Some(completion)) => log.answer(number, completion),
-        _ => Ok(()),
-    }
-}
-
-/// Records that what waits is dropped, if the device is traced.
-fn record_reset(log: &mut Option<Log>)
-    ensures { log.new ≡ option_map log_steps.dropped log.old }
-{
-    if let Some(log) = log {
-        log.reset();
-    }
 }
 
 /// The completion that is held enters the replay buffer, unless that is refused. Fails if memory can't be allocated.
@@ -170,7 +71,7 @@ fn new_linked(alloc: Global, options: LinkedOptions) -> Result<LinkedEndpoint, A
 
 impl Lines {
     /// A new device, before its first line.
-    fn new(alloc: Global, options: LinkedOptions) -> Result<Lines, AllocError>
+    pub(crate) fn new(alloc: Global, options: LinkedOptions) -> Result<Lines, AllocError>
         ensures { IfOk result (λ l. l ≡ spec.new_lines options.device.setup options.credits options.has_crc options.device.is_traced) }
     {
         Ok(Lines {
@@ -263,7 +164,7 @@ impl Lines {
     }
 
     /// The bytes of a packet's line arrive.
-    fn take_packet(
+    pub(crate) fn take_packet(
         &mut self,
         bytes: &[u8],
         good: bool,
@@ -291,7 +192,7 @@ impl Lines {
     }
 
     /// The bytes of a DLLP's line arrive.
-    fn take_dllp(
+    pub(crate) fn take_dllp(
         &mut self,
         bytes: &[u8],
         good: bool,
@@ -423,7 +324,11 @@ impl Lines {
     }
 
     /// Answers a line of one word.
-    fn answer_word(&mut self, line: &[u8], out: &mut Vec<u8>) -> Result<Verdict, AllocError>
+    pub(crate) fn answer_word(
+        &mut self,
+        line: &[u8],
+        out: &mut Vec<u8>,
+    ) -> Result<Verdict, AllocError>
         ensures ok { IfOk result (λ verdict. IsAnswer self.new out.old.items out.new.items verdict (spec.answer_word self.old line.now)) }
         ensures err { OnErr result (out.new.items ≡ out.old.items) }
     {
@@ -437,207 +342,4 @@ impl Lines {
             self.answer_link(line, out)
         }
     }
-}
-
-/// A device that is asked line by line, with the bytes of the last packet or DLLP.
-#[derive(Drop)]
-struct Asked {
-    lines: Lines,
-    line: HexLine,
-}
-
-impl Model for Asked {
-    ghost use Rattle.linked_engine.specs.Lines.{LinkLines};
-
-    ghost Value = { LinkLines };
-
-    ghost view = { λ a. a.lines };
-}
-
-impl Asked {
-    /// A new device, before its first line.
-    fn new(alloc: Global, options: LinkedOptions) -> Result<Asked, AllocError>
-        ensures { IfOk result (λ a. a ≡ spec.new_lines options.device.setup options.credits options.has_crc options.device.is_traced) }
-    {
-        Ok(Asked {
-            lines: Lines::new(alloc, options)?,
-            line: HexLine::new(),
-        })
-    }
-
-    /// Whether packets and DLLPs have CRCs.
-    fn has_crc(&self) -> bool
-        ensures { result ≡ self.now.has_crc }
-    {
-        self.lines.has_crc
-    }
-
-    /// A packet of these digits arrives.
-    #[tactic(auto, using(crate::proofs::Reading::no_packet))]
-    fn read_packet(
-        &mut self,
-        digits: &[u8],
-        good: bool,
-        out: &mut Vec<u8>,
-    ) -> Result<Verdict, AllocError>
-        requires { length digits.now ≤ 512 }
-        ensures ok { IfOk result (λ verdict. IsAnswer self.new out.old.items out.new.items verdict (spec.answer_packet_bytes self.old (decode_of (digits_of digits.now)) good)) }
-        ensures err { OnErr result (out.new.items ≡ out.old.items) }
-    {
-        if !self.line.read(digits) {
-            return no_line(out);
-        }
-        self.lines.take_packet(self.line.bytes(), good, out)
-    }
-
-    /// A DLLP of these digits arrives.
-    #[tactic(auto, using(crate::proofs::Reading::no_dllp))]
-    fn read_dllp(
-        &mut self,
-        digits: &[u8],
-        good: bool,
-        out: &mut Vec<u8>,
-    ) -> Result<Verdict, AllocError>
-        requires { length digits.now ≤ 512 }
-        ensures ok { IfOk result (λ verdict. IsAnswer self.new out.old.items out.new.items verdict (spec.answer_dllp_bytes self.old (decode_of (digits_of digits.now)) good)) }
-        ensures err { OnErr result (out.new.items ≡ out.old.items) }
-    {
-        if !self.line.read(digits) {
-            return no_line(out);
-        }
-        self.lines.take_dllp(self.line.bytes(), good, out)
-    }
-
-    /// Answers what stands behind `packet`.
-    fn answer_packet(&mut self, line: &[u8], out: &mut Vec<u8>) -> Result<Verdict, AllocError>
-        requires { length line.now ≤ 512 }
-        ensures ok { IfOk result (λ verdict. IsAnswer self.new out.old.items out.new.items verdict (spec.answer_packet self.old (marked self.old.has_crc line.now))) }
-        ensures err { OnErr result (out.new.items ≡ out.old.items) }
-    {
-        match marked(self.has_crc(), line) {
-            Some((digits, good)) => self.read_packet(digits, good, out),
-            None => no_line(out),
-        }
-    }
-
-    /// Answers what stands behind `dllp`.
-    fn answer_dllp(&mut self, line: &[u8], out: &mut Vec<u8>) -> Result<Verdict, AllocError>
-        requires { length line.now ≤ 512 }
-        ensures ok { IfOk result (λ verdict. IsAnswer self.new out.old.items out.new.items verdict (spec.answer_dllp self.old (marked self.old.has_crc line.now))) }
-        ensures err { OnErr result (out.new.items ≡ out.old.items) }
-    {
-        match marked(self.has_crc(), line) {
-            Some((digits, good)) => self.read_dllp(digits, good, out),
-            None => no_line(out),
-        }
-    }
-
-    /// Answers a line.
-    fn answer(&mut self, line: &[u8], out: &mut Vec<u8>) -> Result<Verdict, AllocError>
-        requires { length line.now ≤ 512 }
-        ensures ok { IfOk result (λ verdict. IsAnswer self.new out.old.items out.new.items verdict (spec.answer_line self.old line.now)) }
-        ensures err { OnErr result (out.new.items ≡ out.old.items) }
-    {
-        if is_skipped(line) {
-            return Ok(Verdict::Fine);
-        }
-        if let Some(packet) = line.strip_prefix(b"packet ") {
-            return self.answer_packet(packet, out);
-        }
-        match line.strip_prefix(b"dllp ") {
-            Some(dllp) => self.answer_dllp(dllp, out),
-            None => self.lines.answer_word(line, out),
-        }
-    }
-}
-
-/// A device that is asked line by line, and the stream on which reasons are told.
-#[derive(Drop)]
-struct Explained<E> {
-    device: Asked,
-    /// How many lines were answered.
-    count: u64,
-    errors: E,
-}
-
-impl<E> Model for Explained<E> {
-    ghost use Rattle.linked_engine.specs.Lines.{LinkLines};
-
-    ghost Value = { LinkLines };
-
-    ghost view = { λ e. e.device };
-}
-
-impl<E: Write + Drop> Explained<E> {
-    /// Tells why the line is a fault, if it is one.
-    fn explain(&mut self, verdict: Verdict, line: &[u8])
-        ensures { self.new ≡ self.old }
-    {
-        if verdict.is_fault() {
-            let has_crc = self.device.has_crc();
-            let _ = reason_of(line, has_crc).tell_at(self.count, &mut self.errors);
-        }
-    }
-}
-
-impl<E: Write + Drop> Responder for Explained<E> {
-    ghost use Rattle.linked_engine.specs.Lines.{link_responses};
-
-    ghost responses = { link_responses };
-
-    fn on_line(&mut self, line: &[u8], out: &mut Vec<u8>) -> Result<Verdict, AllocError> {
-        self.count = self.count.saturating_add(1);
-        let verdict = self.device.answer(line, out)?;
-        self.explain(verdict, line);
-        Ok(verdict)
-    }
-
-    fn on_long_line(&mut self, out: &mut Vec<u8>) -> Result<Verdict, AllocError> {
-        self.count = self.count.saturating_add(1);
-        let verdict = no_line(out)?;
-        let _ = tell_long_line(Some(self.count), &mut self.errors);
-        Ok(verdict)
-    }
-
-    fn on_end(&mut self, _out: &mut Vec<u8>) -> Result<Verdict, AllocError> {
-        Ok(Verdict::Fine)
-    }
-}
-
-/// Does what [`run_linked`] does, and tells on `errors` why it answers faults, a line each.
-pub fn run_linked_with_reasons<R: Read, W: Write, E: Write>(
-    alloc: Global,
-    options: LinkedOptions,
-    reader: &mut R,
-    writer: &mut W,
-    errors: &mut E,
-) -> Result<u8, EngineFault>
-    ensures ok { IfOk result (IsWhole (spec.out_linked options.device.setup options.credits options.has_crc options.device.is_traced) (R.remaining reader.old) (R.remaining reader.new) (W.contents writer.old) (W.contents writer.new)) }
-    ensures err { OnErr result (IsPart (spec.out_linked options.device.setup options.credits options.has_crc options.device.is_traced) (R.remaining reader.old) (R.remaining reader.new) (W.contents writer.old) (W.contents writer.new)) }
-    ensures read { IfErr result (λ f. f ≡ EngineFault.Read → IsCaughtUp spec.link_responses (spec.new_lines options.device.setup options.credits options.has_crc options.device.is_traced) (R.remaining reader.old) (R.remaining reader.new) (W.contents writer.old) (W.contents writer.new)) }
-{
-    let device = Asked::new(alloc, options)?;
-    let explained = Explained {
-        device,
-        count: 0,
-        errors,
-    };
-    run(alloc, explained, reader, writer)
-}
-
-/// Answers each line of the reader's input with one line, but `trace` with a trace: what arrives at a memory device's end of a
-/// link, and what is sent there. After a packet and a DLLP requests act, and their completions enter the replay buffer. `Ok`
-/// is the exit status, 1 if a line was a fault. After an `Err` what was written is a prefix of the whole output. The memory
-/// that it takes is bounded whatever the peer does, but for what is recorded.
-pub fn run_linked<R: Read, W: Write>(
-    alloc: Global,
-    options: LinkedOptions,
-    reader: &mut R,
-    writer: &mut W,
-) -> Result<u8, EngineFault>
-    ensures ok { IfOk result (IsWhole (spec.out_linked options.device.setup options.credits options.has_crc options.device.is_traced) (R.remaining reader.old) (R.remaining reader.new) (W.contents writer.old) (W.contents writer.new)) }
-    ensures err { OnErr result (IsPart (spec.out_linked options.device.setup options.credits options.has_crc options.device.is_traced) (R.remaining reader.old) (R.remaining reader.new) (W.contents writer.old) (W.contents writer.new)) }
-    ensures read { IfErr result (λ f. f ≡ EngineFault.Read → IsCaughtUp spec.link_responses (spec.new_lines options.device.setup options.credits options.has_crc options.device.is_traced) (R.remaining reader.old) (R.remaining reader.new) (W.contents writer.old) (W.contents writer.new)) }
-{
-    run_linked_with_reasons(alloc, options, reader, writer, &mut sink())
 }

@@ -8,8 +8,8 @@ ghost use Rattle.operation_text.specs.Texts.{sequence_text};
 ghost use Rattle.port_core.specs.Refusals.{dllp_name};
 ghost use Rattle.linked_engine.specs.Texts as spec;
 
-use crate::handled::put_handled;
 use arrayvec::ArrayString;
+use endpoint_engine::put_handled;
 use link_crc::{dllp_crc, lcrc};
 use linked_endpoint::{Arrived, LinkedEndpoint};
 use operation_text::{write_bytes, write_decimal, write_sequence};

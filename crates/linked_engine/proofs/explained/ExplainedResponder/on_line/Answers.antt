@@ -1,6 +1,6 @@
 use Rattle.std.proofs.Common.{◌∙◌, ◌++◌, ap}
 use Rattle.linked_engine.specs.Lines.{LinkLines, answer_line}
-use Rattle.linked_engine.proofs.lines.ExplainedResponder.on_line.Goals as goal
+use Rattle.linked_engine.proofs.explained.ExplainedResponder.on_line.Goals as goal
 
 pub returns-clause-ok : goal.returns-clause-ok
 returns-clause-ok g c =

@@ -1,6 +1,6 @@
 use Rattle.std.proofs.lemmas.Result.{on_ok_weaker}
 use Rattle.linked_engine.proofs.Coming.{taken}
-use Rattle.linked_engine.proofs.lines.record_taken.Goals as goal
+use Rattle.linked_engine.proofs.recording.record_taken.Goals as goal
 
 pub returns-then-would_take : goal.returns-then-would_take
 returns-then-would_take c =

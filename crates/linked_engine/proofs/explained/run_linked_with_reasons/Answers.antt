@@ -4,7 +4,7 @@ use Rattle.std.proofs.lemmas.Result.{err_from_is_err_and}
 use Rattle.std.specs.Io.KnownBytes.{Appends, Consumes}
 use Rattle.line_loop.specs.Run.{Run, IsBeginning, IsPart}
 use Rattle.linked_engine.specs.Lines.{out_linked}
-use Rattle.linked_engine.proofs.lines.run_linked_with_reasons.Goals as goal
+use Rattle.linked_engine.proofs.explained.run_linked_with_reasons.Goals as goal
 
 -- nothing read and nothing written
 nothing-done : {S : Type 0} (run : List ℕ → Run S) (u w : Option (List ℕ)) → IsPart run u u w w

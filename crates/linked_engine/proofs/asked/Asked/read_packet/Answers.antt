@@ -5,7 +5,7 @@ use Rattle.hex.specs.declared.error.FromHexError.{FromHexError}
 use Rattle.hex_text.specs.Line.{digits_of}
 use Rattle.line_loop.specs.Run.{Answer, IsAnswer}
 use Rattle.linked_engine.specs.Lines.{LinkLines, answer_packet_bytes}
-use Rattle.linked_engine.proofs.lines.Asked.read_packet.Goals as goal
+use Rattle.linked_engine.proofs.asked.Asked.read_packet.Goals as goal
 
 pub returns-clause-ok : goal.returns-clause-ok
 returns-clause-ok c =

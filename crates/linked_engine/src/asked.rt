@@ -1,0 +1,129 @@
+//! A device behind its end of a link, line by line: the digits of packets and DLLPs, and words.
+ghost use Rattle.std.specs.Prelude.{◌≡◌, ◌≤◌, length, IfOk, OnErr};
+ghost use Rattle.hex.specs.Hex.{decode_of};
+ghost use Rattle.hex_text.specs.Line.{digits_of};
+ghost use Rattle.line_loop.specs.Run.{IsAnswer};
+ghost use Rattle.linked_engine.specs.Crcs.{marked};
+ghost use Rattle.linked_engine.specs.Lines as spec;
+
+use crate::frames::marked;
+use crate::lines::Lines;
+use crate::options::LinkedOptions;
+use endpoint_engine::no_line;
+use hex_text::HexLine;
+use line_loop::Verdict;
+use std::alloc::{AllocError, Global};
+use std::marker::Model;
+use text_lines::is_skipped;
+
+/// A device that is asked line by line, with the bytes of the last packet or DLLP.
+#[derive(Drop)]
+pub(crate) struct Asked {
+    lines: Lines,
+    line: HexLine,
+}
+
+impl Model for Asked {
+    ghost use Rattle.linked_engine.specs.Lines.{LinkLines};
+
+    ghost Value = { LinkLines };
+
+    ghost view = { λ a. a.lines };
+}
+
+impl Asked {
+    /// A new device, before its first line.
+    pub(crate) fn new(alloc: Global, options: LinkedOptions) -> Result<Asked, AllocError>
+        ensures { IfOk result (λ a. a ≡ spec.new_lines options.device.setup options.credits options.has_crc options.device.is_traced) }
+    {
+        Ok(Asked {
+            lines: Lines::new(alloc, options)?,
+            line: HexLine::new(),
+        })
+    }
+
+    /// Whether packets and DLLPs have CRCs.
+    pub(crate) fn has_crc(&self) -> bool
+        ensures { result ≡ self.now.has_crc }
+    {
+        self.lines.has_crc
+    }
+
+    /// A packet of these digits arrives.
+    #[tactic(auto, using(crate::proofs::Reading::no_packet))]
+    fn read_packet(
+        &mut self,
+        digits: &[u8],
+        good: bool,
+        out: &mut Vec<u8>,
+    ) -> Result<Verdict, AllocError>
+        requires { length digits.now ≤ 512 }
+        ensures ok { IfOk result (λ verdict. IsAnswer self.new out.old.items out.new.items verdict (spec.answer_packet_bytes self.old (decode_of (digits_of digits.now)) good)) }
+        ensures err { OnErr result (out.new.items ≡ out.old.items) }
+    {
+        if !self.line.read(digits) {
+            return no_line(out);
+        }
+        self.lines.take_packet(self.line.bytes(), good, out)
+    }
+
+    /// A DLLP of these digits arrives.
+    #[tactic(auto, using(crate::proofs::Reading::no_dllp))]
+    fn read_dllp(
+        &mut self,
+        digits: &[u8],
+        good: bool,
+        out: &mut Vec<u8>,
+    ) -> Result<Verdict, AllocError>
+        requires { length digits.now ≤ 512 }
+        ensures ok { IfOk result (λ verdict. IsAnswer self.new out.old.items out.new.items verdict (spec.answer_dllp_bytes self.old (decode_of (digits_of digits.now)) good)) }
+        ensures err { OnErr result (out.new.items ≡ out.old.items) }
+    {
+        if !self.line.read(digits) {
+            return no_line(out);
+        }
+        self.lines.take_dllp(self.line.bytes(), good, out)
+    }
+
+    /// Answers what stands behind `packet`.
+    fn answer_packet(&mut self, line: &[u8], out: &mut Vec<u8>) -> Result<Verdict, AllocError>
+        requires { length line.now ≤ 512 }
+        ensures ok { IfOk result (λ verdict. IsAnswer self.new out.old.items out.new.items verdict (spec.answer_packet self.old (marked self.old.has_crc line.now))) }
+        ensures err { OnErr result (out.new.items ≡ out.old.items) }
+    {
+        match marked(self.has_crc(), line) {
+            Some((digits, good)) => self.read_packet(digits, good, out),
+            None => no_line(out),
+        }
+    }
+
+    /// Answers what stands behind `dllp`.
+    fn answer_dllp(&mut self, line: &[u8], out: &mut Vec<u8>) -> Result<Verdict, AllocError>
+        requires { length line.now ≤ 512 }
+        ensures ok { IfOk result (λ verdict. IsAnswer self.new out.old.items out.new.items verdict (spec.answer_dllp self.old (marked self.old.has_crc line.now))) }
+        ensures err { OnErr result (out.new.items ≡ out.old.items) }
+    {
+        match marked(self.has_crc(), line) {
+            Some((digits, good)) => self.read_dllp(digits, good, out),
+            None => no_line(out),
+        }
+    }
+
+    /// Answers a line.
+    pub(crate) fn answer(&mut self, line: &[u8], out: &mut Vec<u8>) -> Result<Verdict, AllocError>
+        requires { length line.now ≤ 512 }
+        ensures ok { IfOk result (λ verdict. IsAnswer self.new out.old.items out.new.items verdict (spec.answer_line self.old line.now)) }
+        ensures err { OnErr result (out.new.items ≡ out.old.items) }
+    {
+        if is_skipped(line) {
+            return Ok(Verdict::Fine);
+        }
+        if let Some(packet) = line.strip_prefix(b"packet ") {
+            return self.answer_packet(packet, out);
+        }
+        match line.strip_prefix(b"dllp ") {
+            Some(dllp) => self.answer_dllp(dllp, out),
+            None => self.lines.answer_word(line, out),
+        }
+    }
+}
