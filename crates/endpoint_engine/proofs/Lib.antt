@@ -1,4 +1,5 @@
+pub mod Calls
 pub mod Logging
 pub mod Reading
-pub mod Recording
 pub mod Telling
+pub mod Traced

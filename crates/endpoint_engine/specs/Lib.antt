@@ -1,3 +1,4 @@
 pub mod Texts
+pub mod Recorded
 pub mod Lines
 pub mod Traces
