@@ -3,4 +3,5 @@ pub mod Coming
 pub mod Groups
 pub mod Logging
 pub mod Reading
+pub mod Traced
 pub mod Turning

@@ -9,6 +9,7 @@ mod asked;
 mod credits;
 mod explained;
 mod frames;
+pub mod laws;
 mod lines;
 mod options;
 mod reasons;

@@ -1,0 +1,228 @@
+-- What is recorded of a device behind its end of a link that is asked line by line.
+use Rattle.std.proofs.Common.{◌≡◌, ◌∙◌, ℕ, zero, suc, ◌-◌, Bool, true, false, cond, List, [], ◌∷◌, Option, Some, None, option_map, Result, Ok, Err, refl, sym, ap, subst, arith}
+use Rattle.std.specs.Prelude.{fold, codes, IsSome, bytes_eq, take, drop, nat_lt, length}
+use Rattle.hex.specs.Hex.{decode_of}
+use Rattle.hex.specs.declared.error.FromHexError.{FromHexError}
+use Rattle.hex.proofs.HexLemmas.{decode_of-ok}
+use Rattle.tlp_core.specs.Bits.{IsBytes}
+use Rattle.tlp_core.specs.TlpView.{TlpView}
+use Rattle.fc_credit.specs.declared.limits.LaneCredits.{LaneCredits}
+use Rattle.link_crc.specs.Checks.{lcrc_check_of}
+use Rattle.link_crc.specs.declared.check.LcrcCheck.{LcrcCheck}
+use Rattle.link_crc.specs.declared.check.LcrcCheck.TheVariants as checks
+use Rattle.port_core.specs.declared.fault.EnterRefusal.{EnterRefusal}
+use Rattle.port_core.specs.declared.incoming.Received.{Received}
+use Rattle.port_core.specs.declared.incoming.Received.TheVariants as arrivals
+use Rattle.port_core.specs.Incoming.{tlp_in}
+use Rattle.port_core.specs.Port.{PortView}
+use Rattle.port_core.specs.Port as port
+use Rattle.config_space.specs.SetupView.{SetupView}
+use Rattle.endpoint_packets.specs.Classes.{becomes}
+use Rattle.endpoint_core.specs.EndpointView.{EndpointView}
+use Rattle.endpoint_core.specs.Steps as device
+use Rattle.endpoint_core.specs.Runs as devices
+use Rattle.endpoint_log.specs.LogView.{LogView}
+use Rattle.endpoint_log.specs.Steps.{new_log, came}
+use Rattle.endpoint_laws.specs.Runs.{logged, AreBytes}
+use Rattle.linked_endpoint.specs.LinkedView.{LinkedView}
+use Rattle.linked_endpoint.specs.Linked.{is_taken, after_arrival, may_act, is_last, given_back, entered_with, refusal_of}
+use Rattle.linked_endpoint.specs.Runs.{Up, Down, ReceiveDllp, entered_unless}
+use Rattle.hex_text.specs.Line.{digits_of}
+use Rattle.text_lines.specs.Lines.{lines_of, bare, said, is_skipped}
+use Rattle.line_loop.specs.Run.{Answer, Run, after_line, answer_to, new_run}
+use Rattle.trace_text.specs.Texts.{trace_text}
+use Rattle.endpoint_engine.specs.Recorded.{IsRecorded}
+use Rattle.linked_engine.specs.Crcs.{marked, without_last, is_good_dllp}
+use Rattle.linked_engine.specs.Traces.{asked, trace_after}
+use Rattle.linked_engine.specs.Lines.{LinkLines, nothing, no_line, called, acted, turned, turns, received, reset_by, answer_arrival, answer_checked, answer_packet_bytes, answer_packet, answer_hearing, answer_dllp_bytes, answer_dllp, answer_next, answer_up, answer_down, answer_refresh, answer_replay, answer_retrained, answer_state, answer_trace, answer_timer, answer_link, answer_word, is_packet, is_dllp, answer_line, link_responses, new_lines}
+
+-- it is traced, and recorded
+pub record IsTraced (s : SetupView) (u : LinkLines) : Type 0 where
+  pub recording : LogView
+  pub log : u.log ≡ Some recording
+  pub is : IsRecorded s u.linked.endpoint recording
+
+-- the law of what is recorded, call by call
+pub record Law : Type 0 where
+  pub first : (s : SetupView) → IsRecorded s (device.new_endpoint s) (new_log s)
+  pub next : (s : SetupView) (e : EndpointView) (l : LogView) (call : devices.Call) → IsRecorded s e l → AreBytes (call ∷ []) → IsRecorded s (devices.after_call e call) (logged e l call)
+
+-- ---- one call
+
+-- the device is as it was
+kept : (s : SetupView) (u v : LinkLines) → v.linked.endpoint ≡ u.linked.endpoint → v.log ≡ u.log → IsTraced s u → IsTraced s v
+kept s u v e l i = record { recording = i.recording; log = l ∙ i.log; is = subst (λ (x : EndpointView). IsRecorded s x i.recording) (sym e) i.is }
+
+-- the device has a call
+more : Law → (s : SetupView) (u v : LinkLines) (c : devices.Call) → v.linked.endpoint ≡ devices.after_call u.linked.endpoint c → v.log ≡ option_map (λ (l : LogView). logged u.linked.endpoint l c) u.log
+    → AreBytes (c ∷ []) → IsTraced s u → IsTraced s v
+more law s u v c e l bytes i = record {
+  recording = logged u.linked.endpoint i.recording c;
+  log = l ∙ ap (option_map (λ (l : LogView). logged u.linked.endpoint l c)) i.log;
+  is = subst (λ (x : EndpointView). IsRecorded s x (logged u.linked.endpoint i.recording c)) (sym e) (law.next s u.linked.endpoint i.recording c i.is bytes);
+}
+
+-- ---- requests act
+
+back : (b : Bool) (l : LinkedView) → (cond b (given_back l) l).endpoint ≡ l.endpoint
+back true l = refl
+back false l = refl
+
+acted_traced : Law → (s : SetupView) (u : LinkLines) → IsTraced s u → IsTraced s (acted u)
+acted_traced law s u i =
+    more law s u (acted u) devices.Act
+    (back (is_last u.linked.endpoint) (record u.linked { endpoint = device.acted u.linked.endpoint; held = device.next_completion u.linked.endpoint })) refl tt i
+
+enters : (t : Option TlpView) (l : LinkedView) → (entered_with l t).endpoint ≡ l.endpoint
+enters None l = refl
+enters (Some t) l = refl
+
+may_enter : (o : Option EnterRefusal) (l : LinkedView) → (entered_unless o l).endpoint ≡ l.endpoint
+may_enter None l = enters l.held l
+may_enter (Some r) l = refl
+
+turned_traced : Law → (s : SetupView) (u : LinkLines) → IsTraced s u → IsTraced s (turned u)
+turned_traced law s u i = kept s (acted u) (turned u) (may_enter (refusal_of (acted u).linked) (acted u).linked) refl (acted_traced law s u i)
+
+one_of : (s : SetupView) (b : Bool) (u v : LinkLines) → IsTraced s u → IsTraced s v → IsTraced s (cond b u v)
+one_of s true u v i j = i
+one_of s false u v i j = j
+
+turns_traced : Law → (s : SetupView) (n : ℕ) (u : LinkLines) → IsTraced s u → IsTraced s (turns n u)
+unfolding turns
+turns_traced law s zero u i = i
+turns_traced law s (suc n) u i = one_of s (may_act u.linked) (turns n (turned u)) u (turns_traced law s n (turned u) (turned_traced law s u i)) i
+
+-- ---- a packet arrives
+
+behind : (packet : List ℕ) → IsBytes packet → IsBytes (tlp_in packet)
+behind [] h = h
+behind (a ∷ []) h = λ i. h (suc i)
+behind (a ∷ b ∷ packet) h = λ i. h (suc (suc i))
+
+first_of : (n : ℕ) (bytes : List ℕ) → IsBytes bytes → IsBytes (take n bytes)
+first_of zero bytes h i = omega arith
+first_of (suc n) [] h i = h i
+first_of (suc n) (b ∷ bytes) h zero = h zero
+first_of (suc n) (b ∷ bytes) h (suc i) = first_of n bytes (λ j. h (suc j)) i
+
+as_it_was : (o : Option LogView) → option_map (λ (l : LogView). l) o ≡ o
+as_it_was None = refl
+as_it_was (Some l) = refl
+
+arrived_traced : Law → (s : SetupView) (u v : LinkLines) (r : Received) (p : PortView) (tlp : List ℕ) → IsBytes tlp
+    → v.linked.endpoint ≡ (after_arrival r u.linked p tlp).endpoint
+    → v.log ≡ option_map (λ (l : LogView). cond (is_taken r) (came u.linked.endpoint.device (becomes tlp) l) l) u.log
+    → IsTraced s u → IsTraced s v
+arrived_traced law s u v (arrivals.Accepted need false) p tlp bytes e l i = more law s u v (devices.Take tlp) e l (bytes, tt) i
+arrived_traced law s u v (arrivals.Accepted need true) p tlp bytes e l i = kept s u v e (l ∙ as_it_was u.log) i
+arrived_traced law s u v arrivals.Dropped p tlp bytes e l i = kept s u v e (l ∙ as_it_was u.log) i
+arrived_traced law s u v arrivals.Duplicate p tlp bytes e l i = kept s u v e (l ∙ as_it_was u.log) i
+arrived_traced law s u v arrivals.NakNow p tlp bytes e l i = kept s u v e (l ∙ as_it_was u.log) i
+arrived_traced law s u v arrivals.Quiet p tlp bytes e l i = kept s u v e (l ∙ as_it_was u.log) i
+
+received_traced : Law → (s : SetupView) (u : LinkLines) (packet : List ℕ) (good : Bool) → IsBytes packet → IsTraced s u → IsTraced s (received u packet good)
+received_traced law s u packet good bytes i =
+    arrived_traced law s u (received u packet good) (port.received u.linked.port packet good) (port.after_receive u.linked.port packet good) (tlp_in packet)
+    (behind packet bytes) refl refl i
+
+-- ---- one line
+
+module _ (law : Law) (s : SetupView) where
+  either : (b : Bool) (x y : Answer LinkLines) → IsTraced s x.state → IsTraced s y.state → IsTraced s (cond b x y).state
+  either true x y p q = p
+  either false x y p q = q
+
+  arrival_traced : (u : LinkLines) (packet : List ℕ) (good : Bool) → IsBytes packet → IsTraced s u → IsTraced s (answer_arrival u packet good).state
+  arrival_traced u packet good bytes i = turns_traced law s 2048 (received u packet good) (received_traced law s u packet good bytes i)
+
+  checked_traced : (u : LinkLines) (k : LcrcCheck) (packet : List ℕ) → IsBytes packet → IsTraced s u → IsTraced s (answer_checked u k packet).state
+  checked_traced u checks.Good packet bytes i = arrival_traced u packet true bytes i
+  checked_traced u checks.Failed packet bytes i = arrival_traced u packet false bytes i
+  checked_traced u checks.Nullified packet bytes i = i
+
+  packet_bytes_traced : (u : LinkLines) (r : Result (List ℕ) FromHexError) (good : Bool) → ((b : List ℕ) → r ≡ Ok b → IsBytes b) → IsTraced s u → IsTraced s (answer_packet_bytes u r good).state
+  packet_bytes_traced u (Err e) good are i = i
+  packet_bytes_traced u (Ok b) good are i =
+      either u.has_crc (answer_checked u (lcrc_check_of b) (without_last 4 b)) (answer_arrival u b good)
+      (checked_traced u (lcrc_check_of b) (without_last 4 b) (first_of (length b - 4) b (are b refl)) i) (arrival_traced u b good (are b refl) i)
+
+  packet_traced : (u : LinkLines) (o : Option (List ℕ × Bool)) → IsTraced s u → IsTraced s (answer_packet u o).state
+  packet_traced u None i = i
+  packet_traced u (Some m) i = packet_bytes_traced u (decode_of (digits_of m.0)) m.1 (λ b e. (decode_of-ok (digits_of m.0) b e).3) i
+
+  hearing_traced : (u : LinkLines) (bytes : List ℕ) (good : Bool) → IsTraced s u → IsTraced s (answer_hearing u bytes good).state
+  hearing_traced u bytes good i = turns_traced law s 2048 (called u (ReceiveDllp bytes good)) (kept s u (called u (ReceiveDllp bytes good)) refl refl i)
+
+  dllp_bytes_traced : (u : LinkLines) (r : Result (List ℕ) FromHexError) (good : Bool) → IsTraced s u → IsTraced s (answer_dllp_bytes u r good).state
+  dllp_bytes_traced u (Err e) good i = i
+  dllp_bytes_traced u (Ok b) good i =
+      either u.has_crc (answer_hearing u (take 4 b) (is_good_dllp b)) (answer_hearing u b good) (hearing_traced u (take 4 b) (is_good_dllp b) i) (hearing_traced u b good i)
+
+  dllp_traced : (u : LinkLines) (o : Option (List ℕ × Bool)) → IsTraced s u → IsTraced s (answer_dllp u o).state
+  dllp_traced u None i = i
+  dllp_traced u (Some m) i = dllp_bytes_traced u (decode_of (digits_of m.0)) m.1 i
+
+  trace_traced : (u : LinkLines) (o : Option LogView) → IsTraced s u → IsTraced s (answer_trace u o).state
+  trace_traced u None i = i
+  trace_traced u (Some l) i = i
+
+  timer_traced : (u : LinkLines) (line : List ℕ) → IsTraced s u → IsTraced s (answer_timer u line).state
+  timer_traced u line i =
+      either (bytes_eq line (codes "refresh")) (answer_refresh u) _ (kept s u (answer_refresh u).state refl refl i)
+      (either (bytes_eq line (codes "replay")) (answer_replay u) _ (kept s u (answer_replay u).state refl refl i)
+      (either (bytes_eq line (codes "retrained")) (answer_retrained u) (no_line u) (kept s u (answer_retrained u).state refl refl i) i))
+
+  link_traced : (u : LinkLines) (line : List ℕ) → IsTraced s u → IsTraced s (answer_link u line).state
+  link_traced u line i =
+      either (bytes_eq line (codes "up")) (answer_up u) _ (more law s u (reset_by u Up) devices.Reset refl refl tt i)
+      (either (bytes_eq line (codes "down")) (answer_down u) (answer_timer u line) (more law s u (reset_by u Down) devices.Reset refl refl tt i) (timer_traced u line i))
+
+  word_traced : (u : LinkLines) (line : List ℕ) → IsTraced s u → IsTraced s (answer_word u line).state
+  word_traced u line i =
+      either (bytes_eq line (codes "next")) (answer_next u) _ (kept s u (answer_next u).state refl refl i)
+      (either (bytes_eq line (codes "state")) (answer_state u) _ i
+      (either (bytes_eq line (codes "trace")) (answer_trace u u.log) (answer_link u line) (trace_traced u u.log i) (link_traced u line i)))
+
+  line_traced : (u : LinkLines) (line : List ℕ) → IsTraced s u → IsTraced s (answer_line u line).state
+  line_traced u line i =
+      either (is_skipped line) (nothing u) _ i
+      (either (is_packet line) (answer_packet u (marked u.has_crc (drop 7 line))) _ (packet_traced u (marked u.has_crc (drop 7 line)) i)
+      (either (is_dllp line) (answer_dllp u (marked u.has_crc (drop 5 line))) (answer_word u line) (dllp_traced u (marked u.has_crc (drop 5 line)) i) (word_traced u line i)))
+
+  said_traced : (u : LinkLines) (line : List ℕ) → IsTraced s u → IsTraced s (answer_to link_responses u line).state
+  said_traced u line i = either (nat_lt 512 (length (bare line))) (no_line u) (answer_line u (said line)) i (line_traced u (said line) i)
+
+  -- ---- all lines
+
+  lines_traced : (lines : List (List ℕ)) (r : Run LinkLines) → IsTraced s r.state → IsTraced s (fold (after_line link_responses) r lines).state
+  lines_traced [] r i = i
+  lines_traced (line ∷ lines) r i = lines_traced lines (after_line link_responses r line) (said_traced r.state line i)
+
+  pub traced : (ours : LaneCredits) (has_crc : Bool) (input : List ℕ) → IsTraced s (asked s ours has_crc input)
+  traced ours has_crc input =
+      lines_traced (lines_of input) (new_run (new_lines s ours has_crc true)) (record { recording = new_log s; log = refl; is = law.first s })
+
+-- ---- what is told
+
+some_is : {X : Type 0} (x y : X) → Some x ≡ Some y → x ≡ y
+some_is x y e = cc
+
+-- what is recorded then
+pub recorded_as : Law → (s : SetupView) (ours : LaneCredits) (has_crc : Bool) (input : List ℕ) (l : LogView) → (asked s ours has_crc input).log ≡ Some l
+    → IsRecorded s (asked s ours has_crc input).linked.endpoint l
+recorded_as law s ours has_crc input l e =
+    let i : IsTraced s (asked s ours has_crc input) = traced law s ours has_crc input in
+    subst (IsRecorded s (asked s ours has_crc input).linked.endpoint) (some_is i.recording l (sym i.log ∙ e)) i.is
+
+is_some_by : {X : Type 0} (o : Option X) (x : X) → o ≡ Some x → IsSome o
+is_some_by None x e = absurd (cc)
+is_some_by (Some y) x e = refl
+
+pub is_traced : Law → (s : SetupView) (ours : LaneCredits) (has_crc : Bool) (input : List ℕ) → IsSome (asked s ours has_crc input).log
+is_traced law s ours has_crc input =
+    let i : IsTraced s (asked s ours has_crc input) = traced law s ours has_crc input in is_some_by (asked s ours has_crc input).log i.recording i.log
+
+pub told_after : (s : SetupView) (ours : LaneCredits) (has_crc : Bool) (input : List ℕ) (l : LogView) → (asked s ours has_crc input).log ≡ Some l
+    → trace_after s ours has_crc input ≡ trace_text l.claim
+told_after s ours has_crc input l e = ap (λ (o : Option LogView). (answer_trace (asked s ours has_crc input) o).text) e

@@ -1,0 +1,43 @@
+//! What holds of the traces that `trace` prints.
+ghost use Rattle.std.specs.Prelude.{◌≡◌, ℕ, Bool, List, Some, IsSome, true, codes};
+ghost use Rattle.fc_credit.specs.declared.limits.LaneCredits.{LaneCredits};
+ghost use Rattle.history_check.specs.Clocks.{IsClocked};
+ghost use Rattle.history_check.specs.Trace.{Explains};
+ghost use Rattle.config_space.specs.SetupView.{SetupView, is_size};
+ghost use Rattle.endpoint_log.specs.LogView.{LogView};
+ghost use Rattle.trace_text.specs.Tellable.{IsTellable};
+ghost use Rattle.trace_text.specs.Texts.{trace_text};
+ghost use Rattle.trace_engine.specs.Check.{out_check_clocked};
+ghost use Rattle.endpoint_engine.specs.Recorded.{IsCounted};
+ghost use Rattle.linked_engine.specs.Traces.{asked, trace_after};
+
+use endpoint_engine::laws::{a_recorded_trace_is_ok, each_call_is_recorded};
+
+/// Whatever lines came, so whatever the peer and the wires did: the line `trace` then prints what is recorded of the device, if
+/// it is traced. The history that is recorded explains the trace, whose `n` are those of a history that grew.
+pub fn the_trace_behind_a_link_is_explained()
+    ensures traced { (s : SetupView) (ours : LaneCredits) (has_crc : Bool) (input : List ℕ) → IsSome (asked s ours has_crc input).log }
+    ensures told { (s : SetupView) (ours : LaneCredits) (has_crc : Bool) (input : List ℕ) (l : LogView) →
+        (asked s ours has_crc input).log ≡ Some l → trace_after s ours has_crc input ≡ trace_text l.claim }
+    ensures explained { (s : SetupView) (ours : LaneCredits) (has_crc : Bool) (input : List ℕ) (l : LogView) →
+        is_size s.size ≡ true → (asked s ours has_crc input).log ≡ Some l → Explains l.claim }
+    ensures clocked { (s : SetupView) (ours : LaneCredits) (has_crc : Bool) (input : List ℕ) (l : LogView) →
+        is_size s.size ≡ true → (asked s ours has_crc input).log ≡ Some l → IsClocked l.claim }
+{
+    each_call_is_recorded();
+    a_recorded_trace_is_ok();
+}
+
+/// Whatever lines came: `check --clocked` says `ok`, with status 0, to what the line `trace` then prints. A log counts the
+/// block requests that were submitted in 32 bits, and those that acted in 64: lines can tell each trace with no more.
+pub fn the_trace_behind_a_link_is_ok()
+    ensures tellable { (s : SetupView) (ours : LaneCredits) (has_crc : Bool) (input : List ℕ) (l : LogView) →
+        is_size s.size ≡ true → (asked s ours has_crc input).log ≡ Some l → IsCounted l → IsTellable l.claim }
+    ensures ok { (s : SetupView) (ours : LaneCredits) (has_crc : Bool) (input : List ℕ) (l : LogView) →
+        is_size s.size ≡ true → (asked s ours has_crc input).log ≡ Some l → IsCounted l → (out_check_clocked (trace_after s ours has_crc input)).text ≡ codes "ok\n" }
+    ensures status { (s : SetupView) (ours : LaneCredits) (has_crc : Bool) (input : List ℕ) (l : LogView) →
+        is_size s.size ≡ true → (asked s ours has_crc input).log ≡ Some l → IsCounted l → (out_check_clocked (trace_after s ours has_crc input)).status ≡ 0 }
+{
+    each_call_is_recorded();
+    a_recorded_trace_is_ok();
+}
