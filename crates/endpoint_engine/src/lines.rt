@@ -18,6 +18,7 @@ use std::alloc::{AllocError, Global};
 use std::io::{Read, Write, sink};
 use std::marker::Model;
 use text_lines::is_skipped;
+use tlp_core::MAX_TLP;
 use trace_engine::tell_trace;
 
 /// A device whose TLPs come line by line.
@@ -34,6 +35,7 @@ struct Lines {
 struct Rooms {
     device: Room,
     record: endpoint_packets::Room,
+    packet: [u8; MAX_TLP],
     text: HexText,
 }
 
@@ -57,6 +59,7 @@ impl Lines {
             rooms: Rooms {
                 device: Room::new(),
                 record: endpoint_packets::Room::new(),
+                packet: [0; MAX_TLP],
                 text: HexText::new(),
             },
         })
@@ -74,6 +77,7 @@ impl Lines {
     }
 
     /// The oldest request acts, and its completion is written.
+    #[inline(never)]
     #[tactic(auto, using(crate::proofs::Logging::acted_log))]
     fn next(&mut self, out: &mut Vec<u8>) -> Result<Verdict, AllocError>
         ensures ok { IfOk result (λ verdict. IsAnswer self.new out.old.items out.new.items verdict (spec.answer_next self.old)) }
@@ -82,7 +86,12 @@ impl Lines {
         let number = record_acting(&mut self.log, &self.endpoint)?;
         let completion = self.endpoint.act(&mut self.rooms.device);
         record_answer(&mut self.log, number, &completion)?;
-        put_completion(&completion, &mut self.rooms.text, out)?;
+        put_completion(
+            &completion,
+            &mut self.rooms.packet,
+            &mut self.rooms.text,
+            out,
+        )?;
         Ok(Verdict::Fine)
     }
 
@@ -153,6 +162,7 @@ impl Asked {
     }
 
     /// A TLP of these digits comes.
+    #[inline(never)]
     #[tactic(auto, using(crate::proofs::Reading::unread))]
     fn take(&mut self, digits: &[u8], out: &mut Vec<u8>) -> Result<Verdict, AllocError>
         requires { length digits.now ≤ 512 }
@@ -165,8 +175,9 @@ impl Asked {
         self.lines.take(self.line.bytes(), out)
     }
 
-    /// Answers a line.
-    fn answer(&mut self, line: &[u8], out: &mut Vec<u8>) -> Result<Verdict, AllocError>
+    /// Answers a line, whatever it is.
+    #[inline(never)]
+    fn answer_other(&mut self, line: &[u8], out: &mut Vec<u8>) -> Result<Verdict, AllocError>
         requires { length line.now ≤ 512 }
         ensures ok { IfOk result (λ verdict. IsAnswer self.new out.old.items out.new.items verdict (spec.answer_line self.old line.now)) }
         ensures err { OnErr result (out.new.items ≡ out.old.items) }
@@ -177,6 +188,20 @@ impl Asked {
         match line.strip_prefix(b"tlp ") {
             Some(digits) => self.take(digits, out),
             None => self.lines.answer_word(line, out),
+        }
+    }
+
+    /// Answers a line.
+    #[inline(always)]
+    fn answer(&mut self, line: &[u8], out: &mut Vec<u8>) -> Result<Verdict, AllocError>
+        requires { length line.now ≤ 512 }
+        ensures ok { IfOk result (λ verdict. IsAnswer self.new out.old.items out.new.items verdict (spec.answer_line self.old line.now)) }
+        ensures err { OnErr result (out.new.items ≡ out.old.items) }
+    {
+        match line {
+            [b't', b'l', b'p', b' ', digits @ ..] => self.take(digits, out),
+            [b'n', b'e', b'x', b't'] => self.lines.next(out),
+            _ => self.answer_other(line, out),
         }
     }
 }
@@ -198,6 +223,16 @@ impl<E> Model for Explained<E> {
     ghost view = { λ e. e.device };
 }
 
+impl<E: Write + Drop> Explained<E> {
+    /// Tells why the line is a fault.
+    #[inline(never)]
+    fn explain(&mut self, line: &[u8])
+        ensures { self.new ≡ self.old }
+    {
+        let _ = reason_of(line).tell_at(self.count, &mut self.errors);
+    }
+}
+
 impl<E: Write + Drop> Responder for Explained<E> {
     ghost use Rattle.endpoint_engine.specs.Lines.{endpoint_responses};
 
@@ -207,7 +242,7 @@ impl<E: Write + Drop> Responder for Explained<E> {
         self.count = self.count.saturating_add(1);
         let verdict = self.device.answer(line, out)?;
         if verdict.is_fault() {
-            let _ = reason_of(line).tell_at(self.count, &mut self.errors);
+            self.explain(line);
         }
         Ok(verdict)
     }

@@ -88,8 +88,10 @@ pub fn put_handled(handled: Handled, out: &mut Vec<u8>) -> Result<(), AllocError
     }
 }
 
-/// Writes the line of the packet's bytes, in capitals in groups of four, in place of what the text was.
-fn write_packet(packet: &TlpRef<'_>, text: &mut HexText)
+/// Writes the line of the packet's bytes, in capitals in groups of four, in place of what the text was. What the room holds
+/// counts for nothing.
+#[inline(always)]
+fn write_packet(packet: &TlpRef<'_>, room: &mut [u8; MAX_TLP], text: &mut HexText)
     ensures { text.new ≡ spaced (encode_upper (canonical packet.now)) ++ 10 ∷ [] }
 {
     let mut header = [0; HEADER];
@@ -97,14 +99,15 @@ fn write_packet(packet: &TlpRef<'_>, text: &mut HexText)
         write_both(&header, packet.payload, text);
         return;
     }
-    let mut room = [0; MAX_TLP];
-    let count = encode_lent(packet, &mut room);
+    let count = encode_lent(packet, room);
     write_bytes(&room[..count], text);
 }
 
-/// Adds the line of a completion, or `-` for none. What the text holds counts for nothing.
+/// Adds the line of a completion, or `-` for none. What the room and the text hold counts for nothing.
+#[inline(always)]
 pub(crate) fn put_completion(
     completion: &Option<TlpRef<'_>>,
+    room: &mut [u8; MAX_TLP],
     text: &mut HexText,
     out: &mut Vec<u8>,
 ) -> Result<(), AllocError>
@@ -114,6 +117,6 @@ pub(crate) fn put_completion(
     let Some(completion) = completion else {
         return out.extend_from_slice(b"-\n");
     };
-    write_packet(completion, text);
+    write_packet(completion, room, text);
     put(b"tlp ", text.as_slice(), out)
 }
