@@ -1,10 +1,9 @@
 //! Why answers have no history, if that can be said in a few words.
 use crate::doubles::{LOOKS, taken_twice};
-use crate::prefix::Prefix;
-use crate::requests::Requests;
 use crate::sums::{Sum, wrong_sum};
 use crate::tallies::Question;
 use crate::words::Word;
+use log_requests::{Prefix, Requests};
 use seq_memory::Reply;
 use std::alloc::{AllocError, Global};
 

@@ -2,9 +2,8 @@
 //!
 //! Requests are left out that change nothing which an answer shows: reads that aren't answered there, and what is on other
 //! DW. What an AtomicOp leaves depends on all that it reads, so its DW count, too. Nothing rests on this choice.
-use crate::prefix::Prefix;
-use crate::requests::{Request, Requests};
 use history_check::Record;
+use log_requests::{Prefix, Request, Requests};
 use std::alloc::{AllocError, Global};
 use tlp_core::Op;
 

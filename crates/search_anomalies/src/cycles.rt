@@ -5,8 +5,8 @@
 use crate::doubles::LOOKS;
 use crate::effects::{Effect, effect_by, shows};
 use crate::links::Edge;
-use crate::requests::{Request, Requests};
 use crate::words::{Sight, Word};
+use log_requests::{Request, Requests};
 use search_effects::{is_needed, left};
 use seq_memory::Reply;
 use std::alloc::{AllocError, Global};

@@ -1,8 +1,8 @@
 //! A word that two AtomicOps of a whole log were answered, and that was there once.
 use crate::causes::WordCause;
-use crate::requests::{Request, Requests};
 use crate::tallies::Question;
 use crate::words::Word;
+use log_requests::{Request, Requests};
 use seq_memory::Reply;
 use std::alloc::{AllocError, Global};
 use tlp_core::Op;

@@ -1,8 +1,7 @@
 //! A cycle of requests, by the places of their records.
 use crate::cycles::cycle_by;
-use crate::prefix::Prefix;
-use crate::requests::Requests;
 use crate::words::Word;
+use log_requests::{Prefix, Requests};
 use std::alloc::{AllocError, Global};
 
 /// Why a request acts before the next one.

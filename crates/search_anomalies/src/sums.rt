@@ -1,6 +1,6 @@
 //! What additions make of the zeros at the start.
-use crate::requests::Request;
 use crate::tallies::Question;
+use log_requests::Request;
 use search_effects::{are_apart, is_needed, is_quiet};
 use search_undo::refusal;
 use seq_memory::Reply;

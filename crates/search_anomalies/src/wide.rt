@@ -1,17 +1,26 @@
 //! Reads and writes of several DW, which may act in parts.
-use crate::prefix::Prefix;
-use crate::requests::Requests;
+ghost use Rattle.std.specs.Prelude.{◌≡◌, true, IfOk, IfSome};
+ghost use Rattle.search_anomalies.specs.Wide.{IsWide, IsWideAt};
+
+use log_requests::{Prefix, Requests};
 use search_effects::are_apart;
 use std::alloc::{AllocError, Global};
 use tlp_core::Op;
 
 /// A read or a write of several DW.
-fn is_wide(op: &Op) -> bool {
-    matches!(op, Op::Read { .. } | Op::Write { .. }) && op.size() > 4
+fn is_wide(op: &Op) -> bool
+    ensures { result ≡ true → IsWide op.now }
+{
+    match op {
+        Op::Read { .. } | Op::Write { .. } => op.size() > 4,
+        _ => false,
+    }
 }
 
 /// The submission of a read of several DW that was answered at the place.
-fn asked_at(requests: &Requests<'_>, answer: usize) -> Option<usize> {
+fn asked_at(requests: &Requests<'_>, answer: usize) -> Option<usize>
+    ensures { IfSome result (IsWideAt requests.now.records.now) }
+{
     let request = requests.at(answer)?;
     let op = requests.op(&request)?;
     if is_wide(op) {
@@ -22,7 +31,9 @@ fn asked_at(requests: &Requests<'_>, answer: usize) -> Option<usize> {
 }
 
 /// The last submission of a write of several DW, some of which the request that was answered at the place has too.
-fn written_for(requests: &Requests<'_>, answer: usize) -> Option<usize> {
+fn written_for(requests: &Requests<'_>, answer: usize) -> Option<usize>
+    ensures { IfSome result (IsWideAt requests.now.records.now) }
+{
     let request = requests.at(answer)?;
     let asked = requests.op(&request)?;
     for other in requests.all.as_slice() {
@@ -43,7 +54,9 @@ pub fn wide_request(
     alloc: Global,
     prefix: Prefix<'_>,
     answers: &[usize],
-) -> Result<Option<usize>, AllocError> {
+) -> Result<Option<usize>, AllocError>
+    ensures { IfOk result (λ o. IfSome o (IsWideAt prefix.entry.trace.now.records)) }
+{
     let requests = Requests::of(alloc, prefix)?;
     for answer in answers {
         if let Some(submission) = asked_at(&requests, *answer) {

@@ -1,4 +1,8 @@
 //! The requests of a log, with what is known of when they act.
+ghost use Rattle.std.specs.Prelude.{◌≡◌, ℕ, IfOk, IfSome, Some};
+ghost use Rattle.history_check.specs.declared.Record.TheVariants as kinds;
+ghost use Rattle.log_requests.specs.Asked.{IsSubmitted, IsOf, IsAnswered};
+
 use crate::prefix::Prefix;
 use history_check::Record;
 use log_events::form_of;
@@ -8,12 +12,12 @@ use tlp_core::Op;
 
 /// A request, by the places of its records.
 #[derive(Clone, Copy, Debug)]
-pub(crate) struct Request {
-    pub(crate) submission: usize,
-    pub(crate) answer: Option<usize>,
+pub struct Request {
+    pub submission: usize,
+    pub answer: Option<usize>,
     /// The answer before which it acted: its own, or, of a posted write, the first one to a later request
     /// of its requester.
-    pub(crate) due: Option<usize>,
+    pub due: Option<usize>,
 }
 
 /// The lesser one of two places, as far as they are known.
@@ -67,12 +71,12 @@ fn request_of(
 
 /// The requests of the first records of a log.
 #[derive(Drop)]
-pub(crate) struct Requests<'a> {
-    pub(crate) extent: Extent,
+pub struct Requests<'a> {
+    pub extent: Extent,
     /// All records of the log.
-    records: &'a [Record],
+    pub records: &'a [Record],
     /// The last one first.
-    pub(crate) all: Vec<Request>,
+    pub all: Vec<Request>,
 }
 
 /// The requests of the records, the last one first.
@@ -91,8 +95,41 @@ fn requests_of(alloc: Global, records: &[Record]) -> Result<Vec<Request>, AllocE
     Ok(requests)
 }
 
+/// The operation that the record submits.
+fn op_of(item: &Record) -> Option<&Op>
+    ensures { IfSome result (λ op. (i : ℕ) × (k : ℕ) × (n : ℕ) × (item.now ≡ kinds.Sub i k op.now n)) }
+{
+    match item {
+        Record::Sub { op, .. } => Some(op),
+        Record::Ans { .. } => None,
+    }
+}
+
+/// The requester whose submission the record is.
+fn requester_of(item: &Record) -> Option<u8>
+    ensures { IfSome result (λ i. (k : ℕ) × (op : Op) × (n : ℕ) × (item.now ≡ kinds.Sub i k op n)) }
+{
+    match item {
+        Record::Sub { requester, .. } => Some(*requester),
+        Record::Ans { .. } => None,
+    }
+}
+
+/// The reply that the record is.
+fn reply_of(item: &Record) -> Option<&Reply>
+    ensures { IfSome result (λ reply. (i : ℕ) × (k : ℕ) × (n : ℕ) × (item.now ≡ kinds.Ans i k reply.now n)) }
+{
+    match item {
+        Record::Sub { .. } => None,
+        Record::Ans { reply, .. } => Some(reply),
+    }
+}
+
 impl<'a> Requests<'a> {
-    pub(crate) fn of(alloc: Global, prefix: Prefix<'a>) -> Result<Requests<'a>, AllocError> {
+    /// The requests of the first records. Where a form is wrong, those of the records before it are joined with their answers.
+    pub fn of(alloc: Global, prefix: Prefix<'a>) -> Result<Requests<'a>, AllocError>
+        ensures records { IfOk result (λ r. r.records.now ≡ prefix.entry.trace.now.records) }
+    {
         let trace = prefix.trace;
         let all = requests_of(alloc, prefix.records())?;
         Ok(Requests {
@@ -103,7 +140,7 @@ impl<'a> Requests<'a> {
     }
 
     /// The request that the record at the place answers, or that it submits.
-    pub(crate) fn at(&self, place: usize) -> Option<Request> {
+    pub fn at(&self, place: usize) -> Option<Request> {
         for request in self.all.as_slice() {
             if request.answer == Some(place) || request.submission == place {
                 return Some(*request);
@@ -112,27 +149,34 @@ impl<'a> Requests<'a> {
         None
     }
 
-    /// The operation of the request.
-    pub(crate) fn op(&self, request: &Request) -> Option<&'a Op> {
+    /// The operation of the request, as its submission has it.
+    pub fn op(&self, request: &Request) -> Option<&'a Op>
+        ensures { IfSome result (λ op. IsSubmitted self.now.records.now request.now.submission op.now) }
+    {
         match self.records.get(request.submission) {
-            Some(Record::Sub { op, .. }) => Some(op),
-            _ => None,
+            Some(record) => op_of(record),
+            None => None,
         }
     }
 
-    /// The requester of the request.
-    pub(crate) fn requester(&self, request: &Request) -> Option<u8> {
+    /// The requester of the request, as its submission has it.
+    pub fn requester(&self, request: &Request) -> Option<u8>
+        ensures { IfSome result (IsOf self.now.records.now request.now.submission) }
+    {
         match self.records.get(request.submission) {
-            Some(Record::Sub { requester, .. }) => Some(*requester),
-            _ => None,
+            Some(record) => requester_of(record),
+            None => None,
         }
     }
 
-    /// The reply to the request.
-    pub(crate) fn reply(&self, request: &Request) -> Option<&'a Reply> {
-        match self.records.get(request.answer?) {
-            Some(Record::Ans { reply, .. }) => Some(reply),
-            _ => None,
+    /// The reply to the request, as its answer has it.
+    pub fn reply(&self, request: &Request) -> Option<&'a Reply>
+        ensures { IfSome result (λ reply. (a : ℕ) × (request.now.answer ≡ Some a) × IsAnswered self.now.records.now a reply.now) }
+    {
+        let answer = request.answer?;
+        match self.records.get(answer) {
+            Some(record) => reply_of(record),
+            None => None,
         }
     }
 }

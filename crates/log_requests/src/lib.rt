@@ -1,0 +1,8 @@
+//! The requests of a log's first records, by the places of their records, and when they acted at the latest.
+#![tactic(auto)]
+
+mod prefix;
+mod requests;
+
+pub use prefix::Prefix;
+pub use requests::{Request, Requests};
