@@ -1056,7 +1056,7 @@ static inline uint32_t pciex_check_clocked(const uint8_t *text, size_t length, u
  * text can't be read, and PCIEX_NOT_FOUND; `limit 1000000`, and PCIEX_GIVEN_UP: nothing is known then. `length` is the
  * number of its bytes, also with PCIEX_SMALL_ROOM, for a buffer of fewer. Or PCIEX_NO_MEMORY: nothing is known, and
  * `length` stays as it was; a text whose first fault comes before its records needs no memory. At most `limit` choices
- * are looked at.
+ * are looked at; the work has no bound, so `pciex search --work` is the one that prints `work`.
  */
 static inline uint32_t pciex_search(const uint8_t *text, size_t text_length, uint64_t limit, uint8_t *room,
                                     size_t room_length, size_t *length)
@@ -1075,9 +1075,9 @@ static inline uint32_t pciex_search(const uint8_t *text, size_t text_length, uin
  * as a whole for PCIEX_WHOLE; as `pciex search --granularity` has it, so a trace is one of pieces. Other numbers return
  * PCIEX_WRONG_GRANULARITY, which is tested first. With PCIEX_NOT_FOUND the lines that `pciex search` prints on standard
  * error are at the front of `reasons`: which lines of the text have no history, which answers contradict each other, and
- * why; or what is wrong with a line. `reasons_length` is the number of their bytes, and a buffer of fewer gets the first
- * ones. It is 0 with PCIEX_FOUND and PCIEX_GIVEN_UP; without memory for the lines there are fewer or none. With
- * PCIEX_SMALL_ROOM, which is about `room` alone, both lengths are known, and no buffer has changed.
+ * why; or what is wrong with a line. With PCIEX_GIVEN_UP they tell how far it came. `reasons_length` is the number of
+ * their bytes, and a buffer of fewer gets the first ones. It is 0 with PCIEX_FOUND; without memory for the lines there are
+ * fewer or none. With PCIEX_SMALL_ROOM, which is about `room` alone, both lengths are known, and no buffer has changed.
  */
 static inline uint32_t pciex_search_with_reasons(const uint8_t *text, size_t text_length, uint64_t limit,
                                                  uint32_t granularity, uint8_t *room, size_t room_length,

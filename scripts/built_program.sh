@@ -150,8 +150,8 @@ wants "search --limit 1" 3 "$room/limit" "$room/far"
 of_file "$room/hard" search --limit 1 --progress
 wants "search --progress" 3 "$room/limit" "$room/stages"
 of_file "$room/hard" search --work 1
-echo "limit 1000000" > "$room/limit"
-wants "search --work 1" 3 "$room/limit" "$room/nothing"
+echo "work 1" > "$room/work"
+wants "search --work 1" 3 "$room/work" "$room/nothing"
 
 # A script goes on after a refusal where it is to, and shows its lines where it is to.
 sed 's/^submit/collect 1\nsubmit/' examples/first_script.txt > "$room/refused.txt"

@@ -52,7 +52,7 @@ pub enum Sought {
     /// No history does: `none` with the place of a record up to which there is none; `flaw` with the first bookkeeping
     /// mistake; or `fault` with the line that can't be read, and why.
     NotFound(String),
-    /// It was given up: nothing is known.
+    /// It was given up after `limit` choices: nothing is known.
     GivenUp,
 }
 
@@ -89,7 +89,8 @@ pub enum Granularity {
 }
 
 /// [`search`] for a memory whose reads and writes act in pieces, with the lines that `pciex search` prints on standard
-/// error: why there is no history, or what is wrong with a line. There are none for what is found or given up.
+/// error: why there is no history, what is wrong with a line, or how far a search came that was given up. There are none
+/// for what is found.
 pub fn search_with_reasons(text: &[u8], limit: u64, granularity: Granularity) -> Result<(Sought, Vec<String>), Error> {
     let (mut room, mut reasons) = (vec![0; 8 * text.len() + 512], vec![0; 4096]);
     loop {

@@ -4,4 +4,4 @@
 
 mod verdict;
 
-pub use verdict::{search_text, search_with_reasons};
+pub use verdict::{Question, Sizes, search_text, search_with_reasons};

@@ -27,10 +27,10 @@ fn put(outcome: &Outcome, buffer: &mut [u8]) -> Result<u8, Failure>
 
 /// Looks for a history that explains the log of the text, or the trace, whose history says nothing: what
 /// `pciex search` prints of it stands at the front of `buffer`, `size` is how many bytes it has, and Ok is
-/// the exit status: 0 for a trace, 1 for `none`, `flaw` or `fault`, 3 for `limit`. No more than `limit`
-/// choices are looked at. `SmallBuffer` for fewer bytes: `size` is how many are needed. `NoMemory`, where nothing
-/// is known and `size` stays as it was: never for a text whose first fault comes before its records and
-/// entries. With these two the buffer stays as it was.
+/// the exit status: 0 for a trace, 1 for `none`, `flaw` or `fault`, 3 for `limit`, where it looked at `limit`
+/// choices. It looks at no more, and its work has no bound. `SmallBuffer` for fewer bytes: `size` is how many
+/// are needed. `NoMemory`, where nothing is known and `size` stays as it was: never for a text whose first
+/// fault comes before its records and entries. With these two the buffer stays as it was.
 pub fn search_text(
     alloc: Global,
     text: &[u8],
@@ -75,28 +75,43 @@ fn put_reasons(reasons: &[u8], is_put: bool, buffer: &mut [u8])
     }
 }
 
-/// Does what [`search_text`] does, for a history of pieces of `bytes` bytes, 4, 8, 16 or 64, or of whole
-/// requests for 0. The lines that `pciex search` prints on standard error stand at the front of `reasons`,
-/// as many of their bytes as it has, and `reasons_size` is how many they have. There are none for what is
-/// found or given up, and fewer if there is no memory for them. `WrongGranularity` for another number is
-/// tested first. With an error both buffers stay as they were; with `SmallBuffer` both sizes are known.
+/// A text whose history is looked for, and how.
+#[derive(Clone, Copy)]
+pub struct Question<'a> {
+    pub text: &'a [u8],
+    /// The most choices that are looked at.
+    pub limit: u64,
+    /// How many bytes of a read or a write act at once, 4, 8, 16 or 64; 0 for all.
+    pub bytes: u32,
+}
+
+/// How many bytes an answer and its reasons have.
+#[derive(Clone, Copy, Debug, PartialEq, Eq)]
+pub struct Sizes {
+    pub answer: usize,
+    pub reasons: usize,
+}
+
+/// Does what [`search_text`] does, for a history of pieces of the bytes that are asked for, or of whole requests. The lines
+/// that `pciex search` prints on standard error stand at the front of `reasons`, as many of their bytes as it has, and
+/// `sizes` has how many they have. There are none for what is found, and fewer if there is no memory for them.
+/// `WrongGranularity` for another number of bytes is tested first. With an error both buffers stay as they were; with
+/// `SmallBuffer` both sizes are known.
 pub fn search_with_reasons(
     alloc: Global,
-    text: &[u8],
-    limit: u64,
-    bytes: u32,
+    question: Question<'_>,
     buffer: &mut [u8],
-    size: &mut usize,
     reasons: &mut [u8],
-    reasons_size: &mut usize,
+    sizes: &mut Sizes,
 ) -> Result<u8, Failure>
-    ensures wrong { granularity_of bytes ≡ None → result ≡ Err WrongGranularity }
-    ensures answered { ¬ (result ≡ Err NoMemory) → (g : granularities.Granularity) → granularity_of bytes ≡ Some g → IsSearchedIn g limit text.now buffer.old buffer.new size.new result }
-    ensures reasons { IsOk result → (lines : List ℕ) × (reasons_size.new ≡ length lines) × (reasons.new ≡ cut reasons.old lines) }
-    ensures no_memory { result ≡ Err NoMemory → WantsMemory text.now }
-    ensures unchanged_sizes { (result ≡ Err NoMemory) ⊎ (result ≡ Err WrongGranularity) → (size.new ≡ size.old) × (reasons_size.new ≡ reasons_size.old) }
+    ensures wrong { granularity_of question.entry.bytes ≡ None → result ≡ Err WrongGranularity }
+    ensures answered { ¬ (result ≡ Err NoMemory) → (g : granularities.Granularity) → granularity_of question.entry.bytes ≡ Some g → IsSearchedIn g question.entry.limit question.entry.text.now buffer.old buffer.new sizes.new.answer result }
+    ensures reasons { IsOk result → (lines : List ℕ) × (sizes.new.reasons ≡ length lines) × (reasons.new ≡ cut reasons.old lines) }
+    ensures no_memory { result ≡ Err NoMemory → WantsMemory question.entry.text.now }
+    ensures unchanged_sizes { (result ≡ Err NoMemory) ⊎ (result ≡ Err WrongGranularity) → sizes.new ≡ sizes.old }
     ensures unchanged { IsErr result → (buffer.new ≡ buffer.old) × (reasons.new ≡ reasons.old) }
 {
+    let Question { text, limit, bytes } = question;
     let Some(granularity) = granularity_of(bytes) else {
         return Err(Failure::WrongGranularity);
     };
@@ -108,8 +123,10 @@ pub fn search_with_reasons(
     let mut lines = Vec::new(alloc);
     match answer_with_reasons(alloc, text, options, &mut lines) {
         Ok(outcome) => {
-            *size = outcome.text.as_slice().len();
-            *reasons_size = lines.len();
+            *sizes = Sizes {
+                answer: outcome.text.as_slice().len(),
+                reasons: lines.len(),
+            };
             let status = put(&outcome, buffer);
             put_reasons(lines.as_slice(), status.is_ok(), reasons);
             status

@@ -37,7 +37,7 @@ IsDone (Linked s is_traced ours has_crc) input rest out out' exit = IsRun (out_l
 IsDone Decode input rest out out' exit = IsRun out_decode input rest out out' exit
 IsDone Encode input rest out out' exit = IsRun out_encode input rest out out' exit
 IsDone (Check is_clocked) input rest out out' exit = IsRun (out_check_with is_clocked) input rest out out' exit
-IsDone (Search limit work size has_core is_told) input rest out out' exit = IsSearchedFor has_core size limit input rest out out' exit
+IsDone (Search limit work size has_core is_told) input rest out out' exit = IsSearchedFor has_core size (record { choices = limit; work = work }) input rest out out' exit
 IsDone (Draw from to) input rest out out' exit = IsRun (out_draw (record { from = from; to = to })) input rest out out' exit
 IsDone Upgrade input rest out out' exit = IsRun out_upgrade input rest out out' exit
 IsDone (Step is_traced keeps_going echoes) input rest out out' exit =

@@ -21,7 +21,7 @@ use line_loop::EngineFault;
 use linked_engine::{LinkedOptions, run_linked_with_reasons};
 use packet_engine::{run_decode_with_reasons, run_encode_with_reasons};
 use parameters::Counting;
-use search_engine::{SearchDemand, SearchOptions, Stages, run_search_for};
+use search_engine::{SearchDemand, SearchOptions, SearchTask, Stages, run_search_for};
 use std::alloc::Global;
 use std::convert::AsStr;
 use std::io;
@@ -221,7 +221,11 @@ fn begin<C: Clock, R: Read + Fallible, W: Write + Fallible, E: Write>(
                 work,
                 has_core,
             };
-            let run = run_search_for(alloc, demand, host.clock, reader, writer, errors);
+            let task = SearchTask {
+                demand,
+                clock: host.clock,
+            };
+            let run = run_search_for(alloc, task, reader, writer, errors);
             Outcome::Ended(ended(run, reader, writer, errors))
         }
         Request::Draw { from, to } => {

@@ -80,12 +80,7 @@ static RUNS: [Run; 26] = [
     (&["pciex", "search", "--limit", "1"], LIE, "none 1\n", 1),
     (&["pciex", "search", "--granularity", "4"], LOG, FOUND, 0),
     (&["pciex", "search", "--core"], LIE, LIE, 1),
-    (
-        &["pciex", "search", "--work", "1"],
-        LOG,
-        "limit 1000000\n",
-        3,
-    ),
+    (&["pciex", "search", "--work", "1"], LOG, "work 1\n", 3),
     (
         &["pciex", "search", "--granularity", "8"],
         TORN,

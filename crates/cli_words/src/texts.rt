@@ -25,7 +25,7 @@ Exit status:
   1  a fault, a flaw, a refusal, 'none', a failing seed or a halt was printed, or reading,
      writing or memory failed
   2  wrong arguments
-  3  a part of 'run' used up its turns, or 'search' its limit";
+  3  a part of 'run' used up its turns, or 'search' its limit or its work";
 
 pub(crate) static TLP: Help = Help {
     about: "Answer request TLPs with their completions",
@@ -109,9 +109,9 @@ pub(crate) static SEARCH: Help = Help {
 The input is one log: what requesters submitted and were answered, in the order of time. A
 trace may stand in its place; its history is ignored. The result is a trace with a history,
 to which 'check' says 'ok'; or one line: 'none' with the place of a record up to which no
-history explains the log; 'limit' if the search was given up and nothing is known; 'flaw'
-with the first bookkeeping mistake; or 'fault' with the first line that can't be read and
-the reason. With '--core' a short log may stand in place of 'none'.
+history explains the log; 'limit' or 'work' if that bound ended the search and nothing is
+known; 'flaw' with the first bookkeeping mistake; or 'fault' with the first line that can't
+be read and the reason. With '--core' a short log may stand in place of 'none'.
 
 Each read and write acts as a whole, which PCI Express doesn't require of several DW. With
 '--granularity' it acts in pieces.",

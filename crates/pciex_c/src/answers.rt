@@ -21,6 +21,7 @@ ghost use Rattle.pciex_c.specs.Codes.{code_of, status_of};
 
 use crate::codes::{code, exit_code, status};
 use c_packets::TlpFields;
+use c_search::{Question, Sizes};
 use std::alloc::Global;
 
 /// One packet at a device over the caller's bytes, whose first has the address `base`.
@@ -102,16 +103,19 @@ pub extern "C" fn pciex_raw_search_with_reasons(
     ensures unchanged_sizes { (result ≡ NO_MEMORY) ⊎ (result ≡ WRONG_GRANULARITY) → (size.new ≡ size.old) × (reasons_size.new ≡ reasons_size.old) }
     ensures unchanged { 1000 ≤ result → (buffer.new ≡ buffer.old) × (reasons.new ≡ reasons.old) }
 {
-    exit_code(c_search::search_with_reasons(
-        alloc,
+    let question = Question {
         text,
         limit,
-        granularity,
-        buffer,
-        size,
-        reasons,
-        reasons_size,
-    ))
+        bytes: granularity,
+    };
+    let mut sizes = Sizes {
+        answer: *size,
+        reasons: *reasons_size,
+    };
+    let outcome = c_search::search_with_reasons(alloc, question, buffer, reasons, &mut sizes);
+    *size = sizes.answer;
+    *reasons_size = sizes.reasons;
+    exit_code(outcome)
 }
 
 /// The fields of a TLP.

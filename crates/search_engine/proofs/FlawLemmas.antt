@@ -11,6 +11,7 @@ use Rattle.history_check.specs.declared.flaws.FlawKind.TheVariants as flaws
 use Rattle.history_check.specs.Trace.{answers_to}
 use Rattle.log_events.specs.Formed.{AreFormed, MisformedAt}
 use Rattle.log_pieces.specs.declared.Granularity.{Granularity}
+use Rattle.search_run.specs.declared.exploring.Bounds.{Bounds}
 use Rattle.search_engine.specs.declared.answering.Finding.{Finding}
 use Rattle.search_engine.specs.declared.answering.Finding.TheVariants as findings
 use Rattle.search_engine.specs.Findings.{IsFindingOf, IsJudged}
@@ -33,9 +34,9 @@ pub unasked : (before : List Record) (item : Record) (i k n : ℕ) (reply : Repl
 unasked before item i k n reply e is = subst (λ (r : Record). flaws.Unasked ≡ flaw_of before r) (sym e) (rw is refl)
 
 -- what comes of a search of a log whose form is right
-pub judged_of : (size : Granularity) (t : TraceView) (f : Finding) → AreFormed t.records (length t.records) → IsFindingOf size t f → IsJudged size t f
-judged_of size t (findings.Found trace history) formed h = (formed, h)
-judged_of size t (findings.None trace count pieces) formed h = (formed, h)
-judged_of size t (findings.Limit trace far pieces) formed h = (formed, h)
-judged_of size t (findings.Flaw trace flaw) formed h = absurd h
-judged_of size t (findings.Fault f) formed h = absurd h
+pub judged_of : (size : Granularity) (bounds : Bounds) (t : TraceView) (f : Finding) → AreFormed t.records (length t.records) → IsFindingOf size bounds t f → IsJudged size bounds t f
+judged_of size bounds t (findings.Found trace history) formed h = (formed, h)
+judged_of size bounds t (findings.None trace count pieces) formed h = (formed, h)
+judged_of size bounds t (findings.Limit trace ending far pieces) formed h = (formed, h)
+judged_of size bounds t (findings.Flaw trace flaw) formed h = absurd h
+judged_of size bounds t (findings.Fault f) formed h = absurd h

@@ -5,6 +5,7 @@ use Rattle.log_runs.specs.Explainable.{SeenAlike, IsExplainable, prefix as first
 use Rattle.log_pieces.specs.declared.Granularity.{Granularity}
 use Rattle.log_pieces.specs.declared.Granularity.TheVariants.{Whole}
 use Rattle.log_pieces.specs.InPieces.{in_pieces}
+use Rattle.search_run.specs.declared.exploring.Bounds.{Bounds}
 use Rattle.search_engine.specs.declared.answering.Finding.{Finding}
 use Rattle.search_engine.specs.declared.answering.Finding.TheVariants as findings
 use Rattle.search_engine.specs.declared.granularity.Pieces.{Pieces}
@@ -25,10 +26,10 @@ pub unexplained : (t : TraceView) (count : ℕ) → AreUnexplained Whole t count
 unexplained t count dead e = dead.unexplained (subst IsExplainable (sym (whole_is (first count t))) e)
 
 -- what is found of the log in pieces is found of the log, but for where it has none
-pub of_log : (size : Granularity) (t : TraceView) (f : Finding) → IsFindingOf Whole (in_pieces size t) f
-    → ((u : TraceView) (count : ℕ) (pieces : Option Pieces) → f ≡ findings.None u count pieces → ⊥) → IsFindingOf size t f
-of_log size t (findings.Found trace history) h none = (subst (λ (v : TraceView). SeenAlike v trace) (whole_is (in_pieces size t)) h.0, h.1, h.2, h.3)
-of_log size t (findings.None trace count pieces) h none = absurd (none trace count pieces refl)
-of_log size t (findings.Limit trace far pieces) h none = tt
-of_log size t (findings.Flaw trace flaw) h none = h
-of_log size t (findings.Fault f) h none = h
+pub of_log : (size : Granularity) (bounds : Bounds) (t : TraceView) (f : Finding) → IsFindingOf Whole bounds (in_pieces size t) f
+    → ((u : TraceView) (count : ℕ) (pieces : Option Pieces) → f ≡ findings.None u count pieces → ⊥) → IsFindingOf size bounds t f
+of_log size bounds t (findings.Found trace history) h none = (subst (λ (v : TraceView). SeenAlike v trace) (whole_is (in_pieces size t)) h.0, h.1, h.2, h.3)
+of_log size bounds t (findings.None trace count pieces) h none = absurd (none trace count pieces refl)
+of_log size bounds t (findings.Limit trace ending far pieces) h none = h
+of_log size bounds t (findings.Flaw trace flaw) h none = h
+of_log size bounds t (findings.Fault f) h none = h

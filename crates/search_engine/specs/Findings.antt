@@ -11,6 +11,8 @@ use Rattle.log_runs.specs.Explainable.{SeenAlike, prefix as first}
 use Rattle.log_pieces.specs.declared.Granularity.{Granularity}
 use Rattle.log_pieces.specs.InPieces.{in_pieces, IsExplainableIn}
 use Rattle.log_events.specs.Formed.{AreFormed}
+use Rattle.search_run.specs.declared.exploring.Bounds.{Bounds}
+use Rattle.search_engine.specs.Bounded.{IsEnded}
 use Rattle.search_engine.specs.Flaws.{IsFirstFlaw}
 use Rattle.search_engine.specs.declared.answering.Finding.{Finding}
 use Rattle.search_engine.specs.declared.answering.Finding.TheVariants as findings
@@ -27,27 +29,27 @@ pub record AreUnexplained (size : Granularity) (t : TraceView) (count : ℕ) : T
   pub unexplained : IsExplainableIn size (first count t) → ⊥
 
 -- of a log that was searched
-abbrev pub IsFindingOf : Granularity → TraceView → Finding → Type 0
-IsFindingOf size t (findings.Found trace history) =
+abbrev pub IsFindingOf : Granularity → Bounds → TraceView → Finding → Type 0
+IsFindingOf size bounds t (findings.Found trace history) =
     SeenAlike (in_pieces size t) trace × Explains (claim_of trace history.items) × IsClocked (claim_of trace history.items) × (length history.items < 2 ^ 64)
-IsFindingOf size t (findings.None trace prefix pieces) = AreUnexplained size t prefix
-IsFindingOf size t (findings.Limit trace far pieces) = Unit {0}
-IsFindingOf size t (findings.Flaw trace flaw) = ⊥
-IsFindingOf size t (findings.Fault f) = ⊥
+IsFindingOf size bounds t (findings.None trace prefix pieces) = AreUnexplained size t prefix
+IsFindingOf size bounds t (findings.Limit trace ending far pieces) = IsEnded bounds ending.choices ending.bound
+IsFindingOf size bounds t (findings.Flaw trace flaw) = ⊥
+IsFindingOf size bounds t (findings.Fault f) = ⊥
 
 -- of a log that was read: its first flaw, or what comes of a search, if its form is right
-abbrev pub IsJudged : Granularity → TraceView → Finding → Type 0
-IsJudged size t (findings.Flaw trace flaw) = IsFirstFlaw t.records flaw
-IsJudged size t finding = AreFormed t.records (length t.records) × IsFindingOf size t finding
+abbrev pub IsJudged : Granularity → Bounds → TraceView → Finding → Type 0
+IsJudged size bounds t (findings.Flaw trace flaw) = IsFirstFlaw t.records flaw
+IsJudged size bounds t finding = AreFormed t.records (length t.records) × IsFindingOf size bounds t finding
 
 -- of what was read
-abbrev pub IsFinding : Granularity → Result TraceView ReadFault → Finding → Type 0
-IsFinding size (Ok t) finding = IsJudged size t finding
-IsFinding size (Err f) (findings.Found trace history) = ⊥
-IsFinding size (Err f) (findings.None trace prefix pieces) = ⊥
-IsFinding size (Err f) (findings.Limit trace far pieces) = ⊥
-IsFinding size (Err f) (findings.Flaw trace flaw) = ⊥
-IsFinding size (Err f) (findings.Fault g) = f ≡ g.fault
+abbrev pub IsFinding : Granularity → Bounds → Result TraceView ReadFault → Finding → Type 0
+IsFinding size bounds (Ok t) finding = IsJudged size bounds t finding
+IsFinding size bounds (Err f) (findings.Found trace history) = ⊥
+IsFinding size bounds (Err f) (findings.None trace prefix pieces) = ⊥
+IsFinding size bounds (Err f) (findings.Limit trace ending far pieces) = ⊥
+IsFinding size bounds (Err f) (findings.Flaw trace flaw) = ⊥
+IsFinding size bounds (Err f) (findings.Fault g) = f ≡ g.fault
 
 -- of a log that has no history
 abbrev pub IsNoneFinding : Finding → Type 0

@@ -1,3 +1,4 @@
+pub mod Bounded
 pub mod Search
 pub mod Flaws
 pub mod Findings

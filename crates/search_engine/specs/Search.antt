@@ -19,13 +19,12 @@ use Rattle.log_events.specs.Formed.{AreFormed}
 use Rattle.log_text.specs.LogReaderView.{seen_of}
 use Rattle.log_text.specs.LogReaderView as logs
 use Rattle.trace_text.specs.TraceReaderView as traces
+use Rattle.search_run.specs.declared.exploring.Bounds.{Bounds}
+use Rattle.search_engine.specs.Bounded.{by_choices, IsGivenUp}
 use Rattle.search_engine.specs.Flaws.{IsFlawIn}
 
 abbrev pub none_line : ℕ → List ℕ
 none_line place = codes "none " ++ decimal place
-
-abbrev pub limit_line : ℕ → List ℕ
-limit_line limit = codes "limit " ++ decimal limit
 
 -- the text is that of a trace and a history: the trace is what was seen, with n's, and the history explains it
 pub record IsFoundIn (t : TraceView) (text : List ℕ) (status : ℕ) : Type 0 where
@@ -62,68 +61,64 @@ pub record IsCoreIn (core : Bool) (size : Granularity) (t : TraceView) (text : L
   pub says : IsUnexplainedText text
   pub tells : status ≡ 1
 
--- the text is `limit` and the limit: nothing is known
-abbrev pub IsLimit : ℕ → List ℕ → ℕ → Type 0
-IsLimit limit text status = (text ≡ limit_line limit ++ 10 ∷ []) × (status ≡ 3)
-
 -- what a search says of a log, and the exit status; what is found is a history of the log in pieces of that size. `core` says
 -- whether a log of few answers is asked for
-abbrev pub IsJudgmentOf : Bool → Granularity → ℕ → TraceView → List ℕ → ℕ → Type 0
-IsJudgmentOf core size limit t text status =
-    IsFoundIn (in_pieces size t) text status ⊎ IsNoneIn size t text status ⊎ IsLimit limit text status ⊎ IsCoreIn core size t text status
+abbrev pub IsJudgmentOf : Bool → Granularity → Bounds → TraceView → List ℕ → ℕ → Type 0
+IsJudgmentOf core size bounds t text status =
+    IsFoundIn (in_pieces size t) text status ⊎ IsNoneIn size t text status ⊎ IsGivenUp bounds text status ⊎ IsCoreIn core size t text status
 
 -- an answer to what was read, and its exit status: the first flaw of a log whose form is wrong, and what a search says of
 -- any other
-abbrev pub IsAnswerTo : Bool → Granularity → ℕ → Result TraceView ReadFault → List ℕ → ℕ → Type 0
-IsAnswerTo core size limit (Ok t) text status =
-    IsFlawIn t text status ⊎ (AreFormed t.records (length t.records) × IsJudgmentOf core size limit t text status)
-IsAnswerTo core size limit (Err f) text status = (text ≡ fault_line f ++ 10 ∷ []) × (status ≡ 1)
+abbrev pub IsAnswerTo : Bool → Granularity → Bounds → Result TraceView ReadFault → List ℕ → ℕ → Type 0
+IsAnswerTo core size bounds (Ok t) text status =
+    IsFlawIn t text status ⊎ (AreFormed t.records (length t.records) × IsJudgmentOf core size bounds t text status)
+IsAnswerTo core size bounds (Err f) text status = (text ≡ fault_line f ++ 10 ∷ []) × (status ≡ 1)
 
 -- the answer to a text, and its exit status; a text may have many
-abbrev pub OutSearchFor : Bool → Granularity → ℕ → List ℕ → List ℕ → ℕ → Type 0
-OutSearchFor core size limit input text status = IsAnswerTo core size limit (seen_of input) text status
+abbrev pub OutSearchFor : Bool → Granularity → Bounds → List ℕ → List ℕ → ℕ → Type 0
+OutSearchFor core size bounds input text status = IsAnswerTo core size bounds (seen_of input) text status
 
 -- the input was read to its end, and an answer to it was written
-pub record IsWholeFor (core : Bool) (size : Granularity) (limit : ℕ) (input rest out out' : Option (List ℕ)) (status : ℕ) : Type 0 where
+pub record IsWholeFor (core : Bool) (size : Granularity) (bounds : Bounds) (input rest out out' : Option (List ℕ)) (status : ℕ) : Type 0 where
   pub read : List ℕ
   pub consumed : Consumes input rest read
   pub at_end : IsAtEnd rest
   pub text : List ℕ
-  pub answers : OutSearchFor core size limit read text status
+  pub answers : OutSearchFor core size bounds read text status
   pub written : Appends out out' text
 
 -- a first part of an answer to the whole input
-pub record BeginsAnswerFor (core : Bool) (size : Granularity) (limit : ℕ) (read : List ℕ) (rest : Option (List ℕ)) (done : List ℕ) : Type 0 where
+pub record BeginsAnswerFor (core : Bool) (size : Granularity) (bounds : Bounds) (read : List ℕ) (rest : Option (List ℕ)) (done : List ℕ) : Type 0 where
   pub at_end : IsAtEnd rest
   pub text : List ℕ
   pub status : ℕ
-  pub answers : OutSearchFor core size limit read text status
+  pub answers : OutSearchFor core size bounds read text status
   pub begins : IsBeginning done text
 
 -- nothing was written, or a first part of an answer to the whole input
-pub record IsPartFor (core : Bool) (size : Granularity) (limit : ℕ) (input rest out out' : Option (List ℕ)) : Type 0 where
+pub record IsPartFor (core : Bool) (size : Granularity) (bounds : Bounds) (input rest out out' : Option (List ℕ)) : Type 0 where
   pub read : List ℕ
   pub consumed : Consumes input rest read
   pub done : List ℕ
-  pub begins : (done ≡ []) ⊎ BeginsAnswerFor core size limit read rest done
+  pub begins : (done ≡ []) ⊎ BeginsAnswerFor core size bounds read rest done
   pub written : Appends out out' done
 
 -- the answer was written, with its exit status; or part of one, with status 1
-abbrev pub IsSearchedFor : Bool → Granularity → ℕ → Option (List ℕ) → Option (List ℕ) → Option (List ℕ) → Option (List ℕ) → ℕ → Type 0
-IsSearchedFor core size limit input rest out out' status = IsWholeFor core size limit input rest out out' status ⊎ ((status ≡ 1) × IsPartFor core size limit input rest out out')
+abbrev pub IsSearchedFor : Bool → Granularity → Bounds → Option (List ℕ) → Option (List ℕ) → Option (List ℕ) → Option (List ℕ) → ℕ → Type 0
+IsSearchedFor core size bounds input rest out out' status = IsWholeFor core size bounds input rest out out' status ⊎ ((status ≡ 1) × IsPartFor core size bounds input rest out out')
 
--- the same where no log of few answers is asked for
+-- the same where no log of few answers is asked for, and only the choices are bounded
 abbrev pub OutSearchWith : Granularity → ℕ → List ℕ → List ℕ → ℕ → Type 0
-OutSearchWith size limit = OutSearchFor false size limit
+OutSearchWith size limit = OutSearchFor false size (by_choices limit)
 
 abbrev pub IsWholeWith : Granularity → ℕ → Option (List ℕ) → Option (List ℕ) → Option (List ℕ) → Option (List ℕ) → ℕ → Type 0
-IsWholeWith size limit = IsWholeFor false size limit
+IsWholeWith size limit = IsWholeFor false size (by_choices limit)
 
 abbrev pub IsPartWith : Granularity → ℕ → Option (List ℕ) → Option (List ℕ) → Option (List ℕ) → Option (List ℕ) → Type 0
-IsPartWith size limit = IsPartFor false size limit
+IsPartWith size limit = IsPartFor false size (by_choices limit)
 
 abbrev pub IsSearchedWith : Granularity → ℕ → Option (List ℕ) → Option (List ℕ) → Option (List ℕ) → Option (List ℕ) → ℕ → Type 0
-IsSearchedWith size limit = IsSearchedFor false size limit
+IsSearchedWith size limit = IsSearchedFor false size (by_choices limit)
 
 -- the same of requests that act as a whole
 abbrev pub OutSearch : ℕ → List ℕ → List ℕ → ℕ → Type 0

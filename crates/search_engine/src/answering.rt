@@ -6,12 +6,14 @@ ghost use Rattle.history_check.specs.TraceView.{TraceView};
 ghost use Rattle.record_text.specs.declared.fault.ReadFault.{ReadFault};
 ghost use Rattle.trace_text.specs.Texts.{trace_text};
 ghost use Rattle.log_text.specs.LogReaderView.{seen_of};
+ghost use Rattle.search_engine.specs.Bounded.{bounds_of, by_choices, TellsEnding};
 ghost use Rattle.search_engine.specs.Findings.{is_memory, text_of, IsFinding, IsFindingOf};
 ghost use Rattle.search_engine.specs.Search.{IsAnswerTo, OutSearch, OutSearchWith, WantsMemory};
 
+use crate::ending::Ending;
 use crate::flaws::judged;
 use crate::granularity::Pieces;
-use crate::lines::{fault_text, flaw_text, limit_text, none_text};
+use crate::lines::{bound_text, fault_text, flaw_text, none_text};
 use crate::options::{SearchDemand, SearchOptions};
 use crate::stages::{NoClock, Progress};
 use crate::telling::tell;
@@ -43,9 +45,11 @@ pub(crate) enum Finding {
         prefix: usize,
         pieces: Option<Pieces>,
     },
-    /// A log of which nothing is known, the farthest choice that was looked at, and the pieces that were searched.
+    /// A log of which nothing is known, what ended the search, the farthest choice that was looked at, and the pieces that
+    /// were searched.
     Limit {
         trace: Trace,
+        ending: Ending,
         far: Option<Spot>,
         pieces: Option<Pieces>,
     },
@@ -81,14 +85,17 @@ impl OutcomeText {
 pub struct Outcome {
     pub text: OutcomeText,
     pub status: u8,
+    /// What ended the search, if it was given up.
+    pub ending: Option<Ending>,
 }
 
 /// Nothing is known of the log.
-fn given_up(trace: Trace, far: Option<Spot>) -> Finding
-    ensures { result ≡ Finding.Limit trace far None }
+fn given_up(trace: Trace, ending: Ending, far: Option<Spot>) -> Finding
+    ensures { result ≡ Finding.Limit trace ending far None }
 {
     Finding::Limit {
         trace,
+        ending,
         far,
         pieces: None,
     }
@@ -102,14 +109,11 @@ pub(crate) fn sought<C: Clock, E: Write>(
     clock: &C,
     errors: &mut E,
 ) -> Result<Finding, AllocError>
-    ensures { IfOk result (IsFindingOf Granularity.Whole trace) }
+    ensures { IfOk result (IsFindingOf Granularity.Whole (bounds_of demand) trace) }
 {
     let records = trace.records.len();
     let mut progress = Progress::new(demand, records, clock, errors);
-    let bounds = Bounds {
-        choices: demand.options.limit,
-        work: demand.work,
-    };
+    let bounds = demand.bounds();
     let (sought, choices) = search_watched(alloc, &mut trace, bounds, &mut progress)?;
     progress.end(choices);
     let far = progress.far();
@@ -120,7 +124,7 @@ pub(crate) fn sought<C: Clock, E: Write>(
             prefix,
             pieces: None,
         }),
-        Sought::Limit => Ok(given_up(trace, far)),
+        Sought::Limit(bound) => Ok(given_up(trace, Ending { bound, choices }, far)),
     }
 }
 
@@ -138,7 +142,7 @@ pub(crate) fn find<C: Clock, E: Write>(
     clock: &C,
     errors: &mut E,
 ) -> Result<Finding, AllocError>
-    ensures ok { IfOk result (IsFinding demand.options.granularity (seen_of text.now)) }
+    ensures ok { IfOk result (IsFinding demand.options.granularity (bounds_of demand) (seen_of text.now)) }
     ensures err { OnErr result (WantsMemory text.now) }
 {
     no_fault_is_out_of_memory();
@@ -161,10 +165,11 @@ fn found_text(alloc: Global, trace: &Trace, history: &[Entry]) -> Result<Vec<u8>
 pub(crate) fn outcome_of(
     alloc: Global,
     finding: &Finding,
-    limit: u64,
+    bounds: Bounds,
 ) -> Result<Outcome, AllocError>
-    ensures ok { (size : Granularity) (r : Result TraceView ReadFault) → IsFinding size r finding.now → IfOk result (λ o. IsAnswerTo false size limit r (text_of o.text) o.status) }
-    ensures err { (size : Granularity) (r : Result TraceView ReadFault) → IsFinding size r finding.now → OnErr result ((t : TraceView) × (r ≡ Ok t)) }
+    ensures ok { (size : Granularity) (r : Result TraceView ReadFault) → IsFinding size bounds r finding.now → IfOk result (λ o. IsAnswerTo false size bounds r (text_of o.text) o.status) }
+    ensures err { (size : Granularity) (r : Result TraceView ReadFault) → IsFinding size bounds r finding.now → OnErr result ((t : TraceView) × (r ≡ Ok t)) }
+    ensures ending { (size : Granularity) (r : Result TraceView ReadFault) → IsFinding size bounds r finding.now → IfOk result (λ o. TellsEnding bounds o.ending (text_of o.text) o.status) }
 {
     match finding {
         Finding::Found { trace, history } => {
@@ -172,6 +177,7 @@ pub(crate) fn outcome_of(
             Ok(Outcome {
                 text: OutcomeText::Trace(text),
                 status: 0,
+                ending: None,
             })
         }
         Finding::None { prefix, .. } => {
@@ -179,13 +185,16 @@ pub(crate) fn outcome_of(
             Ok(Outcome {
                 text: OutcomeText::Line(line),
                 status: 1,
+                ending: None,
             })
         }
-        Finding::Limit { .. } => {
-            let line = limit_text(limit);
+        Finding::Limit { ending, .. } => {
+            let ending = *ending;
+            let line = bound_text(bounds, ending.bound);
             Ok(Outcome {
                 text: OutcomeText::Line(line),
                 status: LIMIT_STATUS,
+                ending: Some(ending),
             })
         }
         Finding::Flaw { flaw, .. } => {
@@ -193,6 +202,7 @@ pub(crate) fn outcome_of(
             Ok(Outcome {
                 text: OutcomeText::Line(line),
                 status: 1,
+                ending: None,
             })
         }
         Finding::Fault(misread) => {
@@ -200,6 +210,7 @@ pub(crate) fn outcome_of(
             Ok(Outcome {
                 text: OutcomeText::Line(line),
                 status: 1,
+                ending: None,
             })
         }
     }
@@ -208,15 +219,18 @@ pub(crate) fn outcome_of(
 /// The answer to the text of a log or a trace: a trace with a history that explains what was seen, and
 /// status 0; `none` and the place of a record up to which no history explains it, `flaw` with the first
 /// bookkeeping mistake and its place, or `fault` with the line that can't be read and why, and status 1; or
-/// `limit` and the limit, and status 3. No more than `limit` choices are looked at. Fails where memory can't be
-/// allocated; nothing is known then. A text whose first fault comes before its records and entries needs none.
+/// `limit` and the limit, and status 3, where it looked at that many choices. It looks at no more, and its work has no bound.
+/// Fails where memory can't be allocated; nothing is known then. A text whose first fault comes before its records and entries
+/// needs none.
 pub fn answer_of(alloc: Global, text: &[u8], limit: u64) -> Result<Outcome, AllocError>
     ensures ok { IfOk result (λ o. OutSearch limit text.now (text_of o.text) o.status) }
     ensures err { OnErr result (WantsMemory text.now) }
+    ensures ending { IfOk result (λ o. TellsEnding (by_choices limit) o.ending (text_of o.text) o.status) }
 {
     let options = SearchOptions::of_whole_requests(limit);
-    let finding = find(alloc, text, options.plain(), &NoClock, &mut sink())?;
-    outcome_of(alloc, &finding, limit)
+    let demand = options.plain();
+    let finding = find(alloc, text, demand, &NoClock, &mut sink())?;
+    outcome_of(alloc, &finding, demand.bounds())
 }
 
 /// What [`answer_of`] returns, for a history of pieces of the size that is asked for. Once it is known, adds to `reasons`
@@ -229,9 +243,11 @@ pub fn answer_with_reasons(
 ) -> Result<Outcome, AllocError>
     ensures ok { IfOk result (λ o. OutSearchWith options.granularity options.limit text.now (text_of o.text) o.status) }
     ensures err { OnErr result (WantsMemory text.now) }
+    ensures ending { IfOk result (λ o. TellsEnding (by_choices options.limit) o.ending (text_of o.text) o.status) }
 {
-    let finding = find(alloc, text, options.plain(), &NoClock, &mut sink())?;
-    let outcome = outcome_of(alloc, &finding, options.limit)?;
+    let demand = options.plain();
+    let finding = find(alloc, text, demand, &NoClock, &mut sink())?;
+    let outcome = outcome_of(alloc, &finding, demand.bounds())?;
     tell(alloc, text, &finding, options.limit, reasons);
     Ok(outcome)
 }

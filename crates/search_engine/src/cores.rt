@@ -10,7 +10,7 @@ use arrayvec::ArrayString;
 use history_check::{Record, Trace};
 use log_text::read_seen;
 use operation_text::{write_hexadecimal, write_op, write_reply};
-use search_history::{Bounds, Sought, Unwatched, search_watched};
+use search_history::{Sought, Unwatched, search_watched};
 use search_reasons::{Case, Kept, Why, core_of, reasons_of};
 use std::alloc::{AllocError, Global};
 use std::fmt::Display;
@@ -94,11 +94,7 @@ fn is_unexplained(alloc: Global, text: &[u8], demand: SearchDemand) -> Result<bo
     let Ok(mut log) = read_seen(alloc, text) else {
         return Ok(false);
     };
-    let bounds = Bounds {
-        choices: demand.options.limit,
-        work: demand.work,
-    };
-    match search_watched(alloc, &mut log, bounds, &mut Unwatched)? {
+    match search_watched(alloc, &mut log, demand.bounds(), &mut Unwatched)? {
         (Sought::None { .. }, _) => Ok(true),
         _ => Ok(false),
     }

@@ -4,6 +4,7 @@ ghost use Rattle.std.specs.List.{list_any};
 ghost use Rattle.history_check.specs.declared.Record.{Record};
 ghost use Rattle.history_check.specs.Trace.{answers_to};
 ghost use Rattle.log_events.specs.Formed.{AreFormed, MisformedAt};
+ghost use Rattle.search_engine.specs.Bounded.{bounds_of};
 ghost use Rattle.search_engine.specs.Flaws as spec;
 ghost use Rattle.search_engine.specs.Findings.{IsJudged};
 
@@ -101,7 +102,7 @@ pub(crate) fn judged<C: Clock, E: Write>(
     clock: &C,
     errors: &mut E,
 ) -> Result<Finding, AllocError>
-    ensures { IfOk result (IsJudged demand.options.granularity trace) }
+    ensures { IfOk result (IsJudged demand.options.granularity (bounds_of demand) trace) }
 {
     let flaw = first_flaw(alloc, &trace)?;
     match flaw {

@@ -2,6 +2,7 @@
 ghost use Rattle.std.specs.Prelude.{IfOk};
 ghost use Rattle.log_pieces.specs.InPieces.{in_pieces};
 ghost use Rattle.log_pieces.specs.declared.Granularity.TheVariants.{Whole};
+ghost use Rattle.search_engine.specs.Bounded.{bounds_of};
 ghost use Rattle.search_engine.specs.Findings.{IsFindingOf};
 
 use crate::answering::{Finding, sought};
@@ -43,12 +44,13 @@ fn pieces_of(
 fn of_records(
     alloc: Global,
     trace: Trace,
-    granularity: Granularity,
+    demand: SearchDemand,
     finding: Finding,
 ) -> Result<Finding, AllocError>
-    requires { IsFindingOf Whole (in_pieces granularity trace) finding }
-    ensures { IfOk result (IsFindingOf granularity trace) }
+    requires { IsFindingOf Whole (bounds_of demand) (in_pieces demand.options.granularity trace) finding }
+    ensures { IfOk result (IsFindingOf demand.options.granularity (bounds_of demand) trace) }
 {
+    let granularity = demand.options.granularity;
     match finding {
         Finding::None {
             trace: searched,
@@ -65,12 +67,18 @@ fn of_records(
         }
         Finding::Limit {
             trace: searched,
+            ending,
             far,
             ..
         } => {
             let count = searched.records.len();
             let pieces = pieces_of(alloc, &trace, granularity, searched, count)?;
-            Ok(Finding::Limit { trace, far, pieces })
+            Ok(Finding::Limit {
+                trace,
+                ending,
+                far,
+                pieces,
+            })
         }
         found => Ok(found),
     }
@@ -84,14 +92,14 @@ pub(crate) fn sought_in<C: Clock, E: Write>(
     clock: &C,
     errors: &mut E,
 ) -> Result<Finding, AllocError>
-    ensures { IfOk result (IsFindingOf demand.options.granularity trace) }
+    ensures { IfOk result (IsFindingOf demand.options.granularity (bounds_of demand) trace) }
 {
     let granularity = demand.options.granularity;
     match in_pieces(alloc, &trace, granularity)? {
         None => sought(alloc, trace, demand, clock, errors),
         Some(pieces) => {
             let finding = sought(alloc, pieces, demand, clock, errors)?;
-            of_records(alloc, trace, granularity, finding)
+            of_records(alloc, trace, demand, finding)
         }
     }
 }

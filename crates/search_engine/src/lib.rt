@@ -6,10 +6,12 @@
 //! [`run_search_with_reasons`] also says for people why there is no history, or why the input can't be
 //! read. [`run_search_with`] looks for a history of pieces, too, of reads and writes that don't act as a whole, and
 //! tells how far it is. [`run_search_for`] has a bound of work, too, and may write a log of few answers in place of `none`.
+//! Which of its bounds ended a search is what is answered, `limit` or `work`.
 #![tactic(auto)]
 
 mod answering;
 mod cores;
+mod ending;
 mod flaws;
 mod granularity;
 mod input;
@@ -21,6 +23,9 @@ mod stages;
 mod telling;
 
 pub use answering::{LIMIT_STATUS, Outcome, OutcomeText, answer_of, answer_with_reasons};
+pub use ending::Ending;
 pub use options::{SearchDemand, SearchOptions};
-pub use search::{run_search, run_search_for, run_search_with, run_search_with_reasons};
+pub use search::{
+    SearchTask, run_search, run_search_for, run_search_with, run_search_with_reasons,
+};
 pub use stages::{NoClock, Stages};

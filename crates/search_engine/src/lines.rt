@@ -2,13 +2,15 @@
 ghost use Rattle.std.specs.Prelude.{◌≡◌, ◌++◌, ◌∷◌, []};
 ghost use Rattle.flaw_places.specs.Places.{flaw_line};
 ghost use Rattle.record_text.specs.Names.{fault_line};
-ghost use Rattle.search_engine.specs.Search.{none_line, limit_line};
+ghost use Rattle.search_engine.specs.Bounded.{limit_line, work_line, bound_line};
+ghost use Rattle.search_engine.specs.Search.{none_line};
 
 use arrayvec::ArrayString;
 use flaw_places::write_flaw;
 use history_check::Flaw;
 use operation_text::write_decimal;
 use record_text::{ReadFault, write_fault};
+use search_history::{Bound, Bounds};
 
 /// That no history explains the records up to this place.
 pub(crate) fn none_text(place: usize) -> ArrayString<512>
@@ -21,8 +23,8 @@ pub(crate) fn none_text(place: usize) -> ArrayString<512>
     text
 }
 
-/// That the search was given up.
-pub(crate) fn limit_text(limit: u64) -> ArrayString<512>
+/// That the search was given up after so many choices, its limit.
+fn limit_text(limit: u64) -> ArrayString<512>
     ensures { result.bytes ≡ limit_line limit ++ 10 ∷ [] }
 {
     let mut text = ArrayString::new();
@@ -30,6 +32,27 @@ pub(crate) fn limit_text(limit: u64) -> ArrayString<512>
     write_decimal(limit, &mut text);
     text.push_str("\n");
     text
+}
+
+/// That the search was given up after so much work.
+fn work_text(work: u64) -> ArrayString<512>
+    ensures { result.bytes ≡ work_line work ++ 10 ∷ [] }
+{
+    let mut text = ArrayString::new();
+    text.push_str("work ");
+    write_decimal(work, &mut text);
+    text.push_str("\n");
+    text
+}
+
+/// Which of the bounds ended the search.
+pub(crate) fn bound_text(bounds: Bounds, bound: Bound) -> ArrayString<512>
+    ensures { result.bytes ≡ bound_line bounds bound ++ 10 ∷ [] }
+{
+    match bound {
+        Bound::Choices => limit_text(bounds.choices),
+        Bound::Work => work_text(bounds.work),
+    }
 }
 
 /// That the form of the log is wrong.

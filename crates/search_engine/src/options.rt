@@ -1,10 +1,12 @@
 //! What a search is asked for.
 ghost use Rattle.std.specs.Prelude.{◌≡◌, false};
 ghost use Rattle.log_pieces.specs.declared.Granularity.TheVariants.{Whole};
+ghost use Rattle.search_engine.specs.Bounded.{bounds_of};
 ghost use Rattle.search_engine.specs.declared.stages.Stages.TheVariants.{Hidden};
 
 use crate::stages::Stages;
 use log_pieces::Granularity;
+use search_history::Bounds;
 
 /// What a search is asked for.
 #[derive(Clone, Copy, Debug, PartialEq, Eq)]
@@ -25,6 +27,18 @@ pub struct SearchDemand {
     pub work: u64,
     /// Whether a log of few answers that has no history is written in place of `none`, if it is found.
     pub has_core: bool,
+}
+
+impl SearchDemand {
+    /// What the search may do.
+    pub(crate) fn bounds(self) -> Bounds
+        ensures { result ≡ bounds_of self }
+    {
+        Bounds {
+            choices: self.options.limit,
+            work: self.work,
+        }
+    }
 }
 
 impl SearchOptions {

@@ -2,6 +2,7 @@
 ghost use Rattle.std.specs.Prelude.{IfOk, OnErr, Result};
 ghost use Rattle.history_check.specs.TraceView.{TraceView};
 ghost use Rattle.record_text.specs.declared.fault.ReadFault.{ReadFault};
+ghost use Rattle.search_engine.specs.Bounded.{bounds_of, TellsEnding};
 ghost use Rattle.search_engine.specs.Findings.{text_of, IsFinding};
 ghost use Rattle.search_engine.specs.Search.{IsAnswerTo, IsWhole, IsWholeFor, IsWholeWith, IsPart, IsPartFor, IsPartWith, OutSearchFor};
 
@@ -39,15 +40,17 @@ fn outcome_with_core(
     finding: &Finding,
     demand: SearchDemand,
 ) -> Result<Outcome, AllocError>
-    ensures { (r : Result TraceView ReadFault) → IsFinding demand.options.granularity r finding.now → IfOk result (λ o. IsAnswerTo demand.has_core demand.options.granularity demand.options.limit r (text_of o.text) o.status) }
+    ensures answers { (r : Result TraceView ReadFault) → IsFinding demand.options.granularity (bounds_of demand) r finding.now → IfOk result (λ o. IsAnswerTo demand.has_core demand.options.granularity (bounds_of demand) r (text_of o.text) o.status) }
+    ensures ending { (r : Result TraceView ReadFault) → IsFinding demand.options.granularity (bounds_of demand) r finding.now → IfOk result (λ o. TellsEnding (bounds_of demand) o.ending (text_of o.text) o.status) }
 {
     let core = core_text(alloc, finding, demand)?;
     match core {
         Some(text) => Ok(Outcome {
             text: OutcomeText::Trace(text),
             status: 1,
+            ending: None,
         }),
-        None => outcome_of(alloc, finding, demand.options.limit),
+        None => outcome_of(alloc, finding, demand.bounds()),
     }
 }
 
@@ -59,7 +62,8 @@ fn answered<C: Clock, E: Write>(
     clock: &C,
     errors: &mut E,
 ) -> Result<Answer, AllocError>
-    ensures { IfOk result (λ a. OutSearchFor demand.has_core demand.options.granularity demand.options.limit text.items (text_of a.outcome.text) a.outcome.status) }
+    ensures answers { IfOk result (λ a. OutSearchFor demand.has_core demand.options.granularity (bounds_of demand) text.items (text_of a.outcome.text) a.outcome.status) }
+    ensures ending { IfOk result (λ a. TellsEnding (bounds_of demand) a.outcome.ending (text_of a.outcome.text) a.outcome.status) }
 {
     let finding = find(alloc, &text, demand, clock, errors)?;
     let outcome = outcome_with_core(alloc, &finding, demand)?;
@@ -71,6 +75,13 @@ fn answered<C: Clock, E: Write>(
     })
 }
 
+/// A search that is asked for, and the clock by which it is told how far it is.
+#[derive(Drop)]
+pub struct SearchTask<'c, C> {
+    pub demand: SearchDemand,
+    pub clock: &'c C,
+}
+
 /// Tells the reason of the answer.
 fn tell_reason<E: Write>(alloc: Global, answer: &Answer, limit: u64, errors: &mut E) {
     if let Some(text) = &answer.text {
@@ -78,20 +89,21 @@ fn tell_reason<E: Write>(alloc: Global, answer: &Answer, limit: u64, errors: &mu
     }
 }
 
-/// Does what [`run_search_with`] does, within the bounds. In place of `none` it writes a log of few answers that has no
-/// history, if that is asked for and found. How many choices were looked at is also told while the search goes on: after
-/// about two seconds by the clock, and then in pauses that are twice as long each time, 16 seconds at most.
+/// Does what [`run_search_with`] does, within the bounds: where the work ended the search before it looked at as many choices
+/// as it may, it writes `work` with the work that was allowed, with status 3. In place of `none` it writes a log of few answers
+/// that has no history, if that is asked for and found. How many choices were looked at is also told while the search goes
+/// on: after about two seconds by the clock, and then in pauses that are twice as long each time, 16 seconds at most.
 pub fn run_search_for<C: Clock, R: Read, W: Write, E: Write>(
     alloc: Global,
-    demand: SearchDemand,
-    clock: &C,
+    task: SearchTask<'_, C>,
     reader: &mut R,
     writer: &mut W,
     errors: &mut E,
 ) -> Result<u8, EngineFault>
-    ensures ok { IfOk result (IsWholeFor demand.has_core demand.options.granularity demand.options.limit (R.remaining reader.old) (R.remaining reader.new) (W.contents writer.old) (W.contents writer.new)) }
-    ensures err { OnErr result (IsPartFor demand.has_core demand.options.granularity demand.options.limit (R.remaining reader.old) (R.remaining reader.new) (W.contents writer.old) (W.contents writer.new)) }
+    ensures ok { IfOk result (IsWholeFor task.entry.demand.has_core task.entry.demand.options.granularity (bounds_of task.entry.demand) (R.remaining reader.old) (R.remaining reader.new) (W.contents writer.old) (W.contents writer.new)) }
+    ensures err { OnErr result (IsPartFor task.entry.demand.has_core task.entry.demand.options.granularity (bounds_of task.entry.demand) (R.remaining reader.old) (R.remaining reader.new) (W.contents writer.old) (W.contents writer.new)) }
 {
+    let SearchTask { demand, clock } = task;
     let text = read_rest(alloc, reader)?;
     let answer = answered(alloc, text, demand, clock, errors)?;
     write_out(writer, answer.outcome.text.as_slice())?;
@@ -113,7 +125,11 @@ pub fn run_search_with<R: Read, W: Write, E: Write>(
     ensures ok { IfOk result (IsWholeWith options.granularity options.limit (R.remaining reader.old) (R.remaining reader.new) (W.contents writer.old) (W.contents writer.new)) }
     ensures err { OnErr result (IsPartWith options.granularity options.limit (R.remaining reader.old) (R.remaining reader.new) (W.contents writer.old) (W.contents writer.new)) }
 {
-    run_search_for(alloc, options.plain(), &NoClock, reader, writer, errors)
+    let task = SearchTask {
+        demand: options.plain(),
+        clock: &NoClock,
+    };
+    run_search_for(alloc, task, reader, writer, errors)
 }
 
 /// Does what [`run_search`] does. Once the answer is written and flushed, it tells on `errors` why there is no
@@ -134,9 +150,10 @@ pub fn run_search_with_reasons<R: Read, W: Write, E: Write>(
 
 /// Reads a log, or a trace whose n's and history say nothing, and writes the answer: a trace with a history
 /// that explains what was seen; or one line: `none` with the place of a record up to which no history
-/// explains it, `limit` with the limit, `flaw` with the first bookkeeping mistake and its place, or `fault` with
-/// the line that can't be read and why. No more than `limit` choices are looked at. `Ok` is the exit status: 0 for
-/// a trace, 3 for `limit`, else 1. After an `Err` what was written is nothing or a beginning of an answer.
+/// explains it, `limit` with the limit, where it looked at that many choices, `flaw` with the first bookkeeping mistake
+/// and its place, or `fault` with the line that can't be read and why. It looks at no more choices, and its work has no
+/// bound. `Ok` is the exit status: 0 for a trace, 3 for `limit`, else 1. After an `Err` what was written is nothing or a
+/// beginning of an answer.
 pub fn run_search<R: Read, W: Write>(
     alloc: Global,
     limit: u64,

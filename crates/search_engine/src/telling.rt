@@ -3,7 +3,7 @@
 use crate::answering::Finding;
 use crate::granularity::Pieces;
 use history_check::Trace;
-use search_reasons::{Case, Prefix, tell_fault, tell_flaw, tell_limit, tell_none};
+use search_reasons::{Case, GivenUp, Prefix, tell_fault, tell_flaw, tell_given_up, tell_none};
 use std::alloc::Global;
 use std::io::Write;
 
@@ -49,9 +49,13 @@ pub(crate) fn tell<E: Write>(
             trace,
             far: Some(far),
             pieces,
+            ..
         } => {
-            let case = case_of(trace, trace.records.len(), pieces);
-            tell_limit(alloc, text, case, *far, limit, errors)
+            let given_up = GivenUp {
+                case: case_of(trace, trace.records.len(), pieces),
+                spot: *far,
+            };
+            tell_given_up(alloc, text, given_up, limit, errors)
         }
         Finding::Flaw { trace, flaw } => tell_flaw(alloc, text, trace, *flaw, errors),
         Finding::Fault(misread) => tell_fault(text, *misread, errors),

@@ -28,11 +28,11 @@ IsOutcomeOf t (outcomes.Limit bound) = Unit {0}
 abbrev pub IsVerdictOf : TraceView → Verdict → Type 0
 IsVerdictOf t (verdicts.Run xs) = IsRunOf t xs.items
 IsVerdictOf t (verdicts.None n) = Unit {0}
-IsVerdictOf t verdicts.Limit = Unit {0}
+IsVerdictOf t (verdicts.Limit bound) = Unit {0}
 
--- a run is answered by a history, and nothing else is
+-- a run is answered by a history, and nothing else is; what bound ended it is told
 abbrev pub IsAnswered : Verdict → Sought → Type 0
 IsAnswered (verdicts.Run xs) (answers.Found h) = Unit {0}
 IsAnswered (verdicts.None n) (answers.None prefix) = n ≡ prefix
-IsAnswered verdicts.Limit answers.Limit = Unit {0}
+IsAnswered (verdicts.Limit bound) (answers.Limit other) = bound ≡ other
 IsAnswered _ _ = ⊥

@@ -98,6 +98,7 @@ fn explored_parts<W: Watch>(
     ensures states { IfOk result (λ r. r.states ≤ bounds.choices) }
     ensures limit { IfOk result (λ r. r.outcome ≡ Outcome.Limit Bound.Choices → r.states ≡ bounds.choices) }
     ensures work { IfOk result (λ r. r.outcome ≡ Outcome.Limit Bound.Work → bounds.work < 18446744073709551615) }
+    ensures less { IfOk result (λ r. r.outcome ≡ Outcome.Limit Bound.Work → r.states < bounds.choices) }
     ensures saw { IfOk result (λ r. Saw W.sees r.states watch.old watch.new) }
 {
     let few = Bounds {
@@ -146,6 +147,7 @@ fn explored<W: Watch>(
     ensures states { IfOk result (λ r. r.states ≤ bounds.choices) }
     ensures limit { IfOk result (λ r. r.outcome ≡ Outcome.Limit Bound.Choices → r.states ≡ bounds.choices) }
     ensures work { IfOk result (λ r. r.outcome ≡ Outcome.Limit Bound.Work → bounds.work < 18446744073709551615) }
+    ensures less { IfOk result (λ r. r.outcome ≡ Outcome.Limit Bound.Work → r.states < bounds.choices) }
     ensures saw { IfOk result (λ r. Saw W.sees r.states watch.old watch.new) }
 {
     match refuted_at(alloc, log)? {
@@ -167,6 +169,7 @@ pub(crate) fn judged<W: Watch>(
     ensures states { IfOk result (λ r. r.states ≤ bounds.choices) }
     ensures limit { IfOk result (λ r. r.outcome ≡ Outcome.Limit Bound.Choices → r.states ≡ bounds.choices) }
     ensures work { IfOk result (λ r. r.outcome ≡ Outcome.Limit Bound.Work → bounds.work < 18446744073709551615) }
+    ensures less { IfOk result (λ r. r.outcome ≡ Outcome.Limit Bound.Work → r.states < bounds.choices) }
     ensures saw { IfOk result (λ r. Saw W.sees r.states watch.old watch.new) }
 {
     explainable_has_a_run();

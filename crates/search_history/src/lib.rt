@@ -20,7 +20,7 @@ mod shortest;
 mod thinning;
 mod within;
 
-pub use search_run::{Bounds, Spot, Unwatched, Watch};
+pub use search_run::{Bound, Bounds, Spot, Unwatched, Watch};
 pub use searching::{Sought, search, search_watched};
 pub use shortest::{Before, explained_before, is_explained};
 pub use thinning::{contradict, contradiction};

@@ -1,5 +1,5 @@
 //! Whether a history explains a log.
-ghost use Rattle.std.specs.Prelude.{ℕ, ◌≡◌, ◌⊎◌, ◌<◌, ◌≤◌, ◌+◌, IfOk, length, take};
+ghost use Rattle.std.specs.Prelude.{ℕ, ◌≡◌, ◌<◌, ◌≤◌, ◌+◌, IfOk, length, take};
 ghost use Rattle.log_events.specs.Formed.{MisformedAt};
 ghost use Rattle.log_events.specs.Joined.{ArePartners};
 ghost use Rattle.log_runs.specs.Explainable.{SeenAlike, prefix};
@@ -16,7 +16,7 @@ use history_check::Trace;
 use log_events::form_of;
 use log_runs::Step;
 use log_runs::laws::{explainable_is_well_formed, prefix_is_explainable};
-use search_run::{Bounds, Outcome, Unwatched, Watch};
+use search_run::{Bound, Bounds, Outcome, Unwatched, Watch};
 use seq_memory::Entry;
 use std::alloc::{AllocError, Global};
 
@@ -27,8 +27,8 @@ pub enum Sought {
     Found(Vec<Entry>),
     /// No history explains the log, nor its first `prefix` records.
     None { prefix: usize },
-    /// It wasn't found out.
-    Limit,
+    /// It wasn't found out within this bound.
+    Limit(Bound),
 }
 
 /// How many records there are up to that place, and with it.
@@ -50,8 +50,8 @@ enum Verdict {
     Run(Vec<Step>),
     /// No history explains the log, nor its first records up to that number.
     None(usize),
-    /// It wasn't found out.
-    Limit,
+    /// It wasn't found out within this bound.
+    Limit(Bound),
 }
 
 /// Looks for a run through the records, whose form is right.
@@ -64,7 +64,9 @@ fn well_formed<W: Watch>(
     requires { records.count ≤ length records.trace.now.records }
     ensures run { IfOk result (λ r. ArePartners records.entry.partners.now (take records.entry.count records.entry.trace.now.records) → IsWellFormed (take records.entry.count records.entry.trace.now.records) → IsVerdictOf (prefix records.entry.count records.entry.trace.now) r.0) }
     ensures none { IfOk result (λ r. (prefix : ℕ) → r.0 ≡ Verdict.None prefix → IsUnexplained records.entry.trace.now prefix) }
-    ensures limit { IfOk result (λ r. r.0 ≡ Verdict.Limit → (r.1 ≡ bounds.choices) ⊎ (bounds.work < 18446744073709551615)) }
+    ensures limit { IfOk result (λ r. r.0 ≡ Verdict.Limit Bound.Choices → r.1 ≡ bounds.choices) }
+    ensures work { IfOk result (λ r. r.0 ≡ Verdict.Limit Bound.Work → bounds.work < 18446744073709551615) }
+    ensures less { IfOk result (λ r. r.0 ≡ Verdict.Limit Bound.Work → r.1 < bounds.choices) }
     ensures states { IfOk result (λ r. r.1 ≤ bounds.choices) }
     ensures saw { IfOk result (λ r. Saw W.sees r.1 watch.old watch.new) }
 {
@@ -80,7 +82,7 @@ fn well_formed<W: Watch>(
             let prefix = shortened(alloc, records, clue, bounds.choices)?;
             Ok((Verdict::None(prefix), states))
         }
-        Outcome::Limit(_) => Ok((Verdict::Limit, states)),
+        Outcome::Limit(bound) => Ok((Verdict::Limit(bound), states)),
     }
 }
 
@@ -114,7 +116,9 @@ fn searched<W: Watch>(
 ) -> Result<(Verdict, u64), AllocError>
     ensures run { IfOk result (λ r. IsVerdictOf trace.now r.0) }
     ensures none { IfOk result (λ r. (prefix : ℕ) → r.0 ≡ Verdict.None prefix → IsUnexplained trace.now prefix) }
-    ensures limit { IfOk result (λ r. r.0 ≡ Verdict.Limit → (r.1 ≡ bounds.choices) ⊎ (bounds.work < 18446744073709551615)) }
+    ensures limit { IfOk result (λ r. r.0 ≡ Verdict.Limit Bound.Choices → r.1 ≡ bounds.choices) }
+    ensures work { IfOk result (λ r. r.0 ≡ Verdict.Limit Bound.Work → bounds.work < 18446744073709551615) }
+    ensures less { IfOk result (λ r. r.0 ≡ Verdict.Limit Bound.Work → r.1 < bounds.choices) }
     ensures states { IfOk result (λ r. r.1 ≤ bounds.choices) }
     ensures saw { IfOk result (λ r. Saw W.sees r.1 watch.old watch.new) }
 {
@@ -149,14 +153,14 @@ fn answered(alloc: Global, trace: &mut Trace, verdict: Verdict) -> Result<Sought
             Ok(Sought::Found(history))
         }
         Verdict::None(prefix) => Ok(Sought::None { prefix }),
-        Verdict::Limit => Ok(Sought::Limit),
+        Verdict::Limit(bound) => Ok(Sought::Limit(bound)),
     }
 }
 
 /// Looks for a history that explains the log: what the trace's requesters submitted and were
 /// answered, in the order of its records, whatever its n's are. Keeps within the bounds: `watch` sees each choice, and
-/// the second number is how many it saw: as many as the bounds allow, where it isn't found out, unless the work ended
-/// first. The searches for a shorter prefix have bounds of their own and aren't counted or seen.
+/// the second number is how many it saw. Where it isn't found out, it saw as many as the bounds allow, or fewer, if the
+/// work ended it. The searches for a shorter prefix have bounds of their own and aren't counted or seen.
 ///
 /// Only n's of the trace change. Fails where memory can't be allocated; nothing is known then.
 pub fn search_watched<W: Watch>(
@@ -168,7 +172,9 @@ pub fn search_watched<W: Watch>(
     ensures alike { SeenAlike trace.old trace.new }
     ensures found { IfOk result (λ r. IsFound trace.new r.0) }
     ensures none { IfOk result (λ r. IsNone trace.old r.0) }
-    ensures limit { IfOk result (λ r. r.0 ≡ Sought.Limit → (r.1 ≡ bounds.choices) ⊎ (bounds.work < 18446744073709551615)) }
+    ensures limit { IfOk result (λ r. r.0 ≡ Sought.Limit Bound.Choices → r.1 ≡ bounds.choices) }
+    ensures work { IfOk result (λ r. r.0 ≡ Sought.Limit Bound.Work → bounds.work < 18446744073709551615) }
+    ensures less { IfOk result (λ r. r.0 ≡ Sought.Limit Bound.Work → r.1 < bounds.choices) }
     ensures states { IfOk result (λ r. r.1 ≤ bounds.choices) }
     ensures saw { IfOk result (λ r. Saw W.sees r.1 watch.old watch.new) }
 {
@@ -183,7 +189,8 @@ pub fn search(alloc: Global, trace: &mut Trace, limit: u64) -> Result<(Sought, u
     ensures alike { SeenAlike trace.old trace.new }
     ensures found { IfOk result (λ r. IsFound trace.new r.0) }
     ensures none { IfOk result (λ r. IsNone trace.old r.0) }
-    ensures limit { IfOk result (λ r. r.0 ≡ Sought.Limit → r.1 ≡ limit) }
+    ensures limit { IfOk result (λ r. r.0 ≡ Sought.Limit Bound.Choices → r.1 ≡ limit) }
+    ensures work { IfOk result (λ r. r.0 ≡ Sought.Limit Bound.Work → ⊥) }
     ensures states { IfOk result (λ r. r.1 ≤ limit) }
 {
     let bounds = Bounds {

@@ -72,14 +72,20 @@ fn put_given_up(
     }
 }
 
+/// A log of which the search was given up, and the farthest choice that it looked at.
+#[derive(Clone, Copy)]
+pub struct GivenUp<'a> {
+    pub case: Case<'a>,
+    pub spot: Spot,
+}
+
 /// Tells how far a search came that was given up: the line of the farthest record that it came to, how many requests were
 /// submitted there and hadn't acted, and which of the lines before have a history, as far as that is found out, which takes
 /// no more than `limit` choices. Nothing is written if memory can't be allocated.
-pub fn tell_limit<E: Write>(
+pub fn tell_given_up<E: Write>(
     alloc: Global,
     text: &[u8],
-    case: Case<'_>,
-    spot: Spot,
+    given_up: GivenUp<'_>,
     limit: u64,
     errors: &mut E,
 ) -> Result<(), EngineFault>
@@ -87,6 +93,7 @@ pub fn tell_limit<E: Write>(
     ensures memory { IfErr result (λ f. f ≡ EngineFault.Memory → Keeps (E.contents errors.old) (E.contents errors.new)) }
     ensures part { OnErr result ((lines : List ℕ) × Appends (E.contents errors.old) (E.contents errors.new) lines) }
 {
+    let GivenUp { case, spot } = given_up;
     let before = Prefix {
         trace: case.searched.trace,
         count: spot.event,

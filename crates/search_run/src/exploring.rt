@@ -117,6 +117,7 @@ fn choose<W: Watch>(
     ensures states { IfOk result (λ r. r.states ≤ course.entry.bounds.choices) }
     ensures limit { IfOk result (λ r. r.outcome ≡ Outcome.Limit Bound.Choices → r.states ≡ course.entry.bounds.choices) }
     ensures work { IfOk result (λ r. r.outcome ≡ Outcome.Limit Bound.Work → course.entry.bounds.work < 18446744073709551615) }
+    ensures less { IfOk result (λ r. r.outcome ≡ Outcome.Limit Bound.Work → r.states < course.entry.bounds.choices) }
     ensures saw { IfOk result (λ r. Saw W.sees r.states watch.old watch.new) }
 {
     let Course {
@@ -156,6 +157,7 @@ pub fn explore_watched<W: Watch>(
     ensures states { IfOk result (λ r. r.states ≤ bounds.choices) }
     ensures limit { IfOk result (λ r. r.outcome ≡ Outcome.Limit Bound.Choices → r.states ≡ bounds.choices) }
     ensures work { IfOk result (λ r. r.outcome ≡ Outcome.Limit Bound.Work → bounds.work < 18446744073709551615) }
+    ensures less { IfOk result (λ r. r.outcome ≡ Outcome.Limit Bound.Work → r.states < bounds.choices) }
     ensures saw { IfOk result (λ r. Saw W.sees r.states watch.old watch.new) }
 {
     let mut catalog = catalog_of(alloc, log, way)?;
@@ -183,6 +185,7 @@ pub fn explore(
     ensures states { IfOk result (λ r. r.states ≤ bounds.choices) }
     ensures limit { IfOk result (λ r. r.outcome ≡ Outcome.Limit Bound.Choices → r.states ≡ bounds.choices) }
     ensures work { IfOk result (λ r. r.outcome ≡ Outcome.Limit Bound.Work → bounds.work < 18446744073709551615) }
+    ensures less { IfOk result (λ r. r.outcome ≡ Outcome.Limit Bound.Work → r.states < bounds.choices) }
 {
     explore_watched(alloc, log, way, bounds, &mut Unwatched)
 }

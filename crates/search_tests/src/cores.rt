@@ -1,6 +1,6 @@
 //! The short log that `search` writes in place of `none`, if it is asked for.
 use log_pieces::Granularity;
-use search_engine::{NoClock, SearchDemand, SearchOptions, Stages, run_search_for};
+use search_engine::{NoClock, SearchDemand, SearchOptions, SearchTask, Stages, run_search_for};
 use std::alloc::Global;
 use std::test::Fail;
 
@@ -68,14 +68,11 @@ fn demand(granularity: Granularity, has_core: bool) -> SearchDemand {
 fn written(alloc: Global, log: &[u8], demand: SearchDemand) -> Result<Vec<u8>, Fail> {
     let mut reader = log;
     let mut out = Vec::new(alloc);
-    let _ = run_search_for(
-        alloc,
+    let task = SearchTask {
         demand,
-        &NoClock,
-        &mut reader,
-        &mut out,
-        &mut std::io::sink(),
-    );
+        clock: &NoClock,
+    };
+    let _ = run_search_for(alloc, task, &mut reader, &mut out, &mut std::io::sink());
     Ok(out)
 }
 

@@ -1,6 +1,8 @@
 //! How far a search came that was given up, on standard error.
 use log_pieces::Granularity;
-use search_engine::{SearchOptions, Stages, run_search_with};
+use search_engine::{
+    NoClock, SearchDemand, SearchOptions, SearchTask, Stages, run_search_for, run_search_with,
+};
 use std::alloc::Global;
 use std::test::Fail;
 
@@ -50,6 +52,48 @@ fn tells(alloc: Global, row: &Row) -> Result<bool, Fail> {
 fn it_is_told_how_far_a_search_came(rt: HostRuntime) -> Result<(), Fail> {
     for row in &ROWS {
         assert_eq!(rt; (row.0, tells(rt.alloc(), row)?), (row.0, true));
+    }
+    Ok(())
+}
+
+/// The most choices and the most work, and what is written.
+struct Bounded(u64, u64, &'static str);
+
+static BOUNDED: [Bounded; 4] = [
+    Bounded(3, u64::MAX, "limit 3\n"),
+    Bounded(3, 1_000_000, "limit 3\n"),
+    Bounded(1000, 1, "work 1\n"),
+    Bounded(0, 1, "limit 0\n"),
+];
+
+/// Whether the bound that ends the search is written, with status 3.
+fn names_its_bound(alloc: Global, row: &Bounded) -> Result<bool, Fail> {
+    let Bounded(limit, work, written) = row;
+    let text = format!(in alloc; "pciex-log 1\nmemory 0 4096 64\n{}end\n", TWO_CELLS)?;
+    let options = SearchOptions {
+        limit: *limit,
+        granularity: Granularity::Whole,
+        stages: Stages::Hidden,
+    };
+    let demand = SearchDemand {
+        options,
+        work: *work,
+        has_core: false,
+    };
+    let task = SearchTask {
+        demand,
+        clock: &NoClock,
+    };
+    let mut reader = text.as_bytes();
+    let mut out = Vec::new(alloc);
+    let status = run_search_for(alloc, task, &mut reader, &mut out, &mut std::io::sink());
+    Ok(status == Ok(3) && out.as_slice() == written.as_bytes())
+}
+
+#[test]
+fn the_bound_that_ends_a_search_is_written(rt: HostRuntime) -> Result<(), Fail> {
+    for row in &BOUNDED {
+        assert_eq!(rt; (row.2, names_its_bound(rt.alloc(), row)?), (row.2, true));
     }
     Ok(())
 }

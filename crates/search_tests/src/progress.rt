@@ -1,6 +1,6 @@
 //! How far a search is, as it is told on standard error.
 use log_pieces::Granularity;
-use search_engine::{SearchDemand, SearchOptions, Stages, run_search_for};
+use search_engine::{SearchDemand, SearchOptions, SearchTask, Stages, run_search_for};
 use std::alloc::Global;
 use std::io;
 use std::sync::atomic::{AtomicU64, Ordering};
@@ -118,7 +118,11 @@ fn tells(alloc: Global, row: &Row) -> bool {
     let mut reader = HARD.as_bytes();
     let mut out = Vec::new(alloc);
     let mut errors = Vec::new(alloc);
-    let status = run_search_for(alloc, demand, &clock, &mut reader, &mut out, &mut errors);
+    let task = SearchTask {
+        demand,
+        clock: &clock,
+    };
+    let status = run_search_for(alloc, task, &mut reader, &mut out, &mut errors);
     status == Ok(row.status) && errors.as_slice() == row.told.as_bytes()
 }
 

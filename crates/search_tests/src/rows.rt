@@ -133,7 +133,7 @@ fn told(alloc: Global, row: &Row) -> Result<bool, Fail> {
             };
             Ok(row.none == Some((prefix, explained)))
         }
-        (Sought::Limit, _) => Ok(false),
+        (Sought::Limit(_), _) => Ok(false),
     }
 }
 

@@ -151,7 +151,7 @@ def search(text: str, limit: int = 1000000) -> str:
 def search_with_reasons(text: str, granularity: int = 0, limit: int = 1000000) -> Tuple[str, List[str]]:
     """What `search` returns, for a memory whose reads and writes act in naturally aligned pieces of `granularity` bytes, 4,
     8, 16 or 64, or as a whole for 0; and the lines that `pciex search` prints on standard error: why there is no history,
-    or why the text can't be read. There are no lines for what is found or given up."""
+    or why the text can't be read; or how far it came, if it was given up. There are no lines for what is found."""
     words, limit, granularity = text.encode(), number_of("limit", limit, 64), number_of("granularity", granularity, 32)
     size, reasons_size = 8 * len(words) + LINE, 4096
     while True:

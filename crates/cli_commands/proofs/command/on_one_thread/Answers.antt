@@ -69,8 +69,8 @@ nothing-swept : (o : SweepAsked) (w : Option (List ℕ)) → IsPartOfSweep o w w
 nothing-swept o w = record { saids = []; said = tt; few = omega arith; done = []; begins = (whole_text none_said, refl); written = appends w }
 
 -- nothing was read, and nothing written
-nothing-searched : (core : Bool) (size : Granularity) (limit : ℕ) (u w : Option (List ℕ)) → IsPartOfSearch core size limit u u w w
-nothing-searched core size limit u w = record { read = []; consumed = consumes-nothing u; done = []; begins = inl refl; written = appends w }
+nothing-searched : (core : Bool) (size : Granularity) (limit work : ℕ) (u w : Option (List ℕ)) → IsPartOfSearch core size (record { choices = limit; work = work }) u u w w
+nothing-searched core size limit work u w = record { read = []; consumed = consumes-nothing u; done = []; begins = inl refl; written = appends w }
 
 -- nothing was done, and status 1 tells it
 undone : (r : Request) (input out : Option (List ℕ)) (exit : ℕ) → exit ≡ 1 → IsDone r input input out out exit
@@ -80,7 +80,7 @@ undone (Linked setup is_traced ours has_crc) input out exit e = inr (e, nothing-
 undone Decode input out exit e = inr (e, nothing-done _ input out)
 undone Encode input out exit e = inr (e, nothing-done _ input out)
 undone (Check is_clocked) input out exit e = inr (e, nothing-done _ input out)
-undone (Search limit work size has_core is_told) input out exit e = inr (e, nothing-searched has_core size limit input out)
+undone (Search limit work size has_core is_told) input out exit e = inr (e, nothing-searched has_core size limit work input out)
 undone Upgrade input out exit e = inr (e, nothing-done _ input out)
 undone (Draw from to) input out exit e = inr (e, nothing-done _ input out)
 undone (Step is_traced keeps_going echoes) input out exit e = inr (e, nothing-done _ input out)

@@ -12,9 +12,9 @@ use Rattle.search_engine.proofs.answering.outcome_of.Goals as goal
 pub returns-in-None-clause-ok : goal.returns-in-None-clause-ok
 returns-in-None-clause-ok c = by
   where
-    by : (size : Granularity) (r : Result TraceView ReadFault) → IsFinding size r c.args.finding.now → IsAnswerTo false size c.args.limit r c.none_text-line.result.bytes 1
+    by : (size : Granularity) (r : Result TraceView ReadFault) → IsFinding size c.args.bounds r c.args.finding.now → IsAnswerTo false size c.args.bounds r c.none_text-line.result.bytes 1
     by size (Ok t) h =
-        let is : AreFormed t.records (length t.records) × AreUnexplained size t c.in-None.prefix = subst (λ (f : Finding). IsFinding size (Ok t) f) c.in-None.is h in
+        let is : AreFormed t.records (length t.records) × AreUnexplained size t c.in-None.prefix = subst (λ (f : Finding). IsFinding size c.args.bounds (Ok t) f) c.in-None.is h in
         let some = some-records size t c.in-None.prefix is.1.unexplained in
         inr (
           is.0,
@@ -26,4 +26,4 @@ returns-in-None-clause-ok c = by
             tells = refl;
           })),
         )
-    by size (Err f) h = absurd (let is : ⊥ = subst (λ (g : Finding). IsFinding size (Err f) g) c.in-None.is h in is)
+    by size (Err f) h = absurd (let is : ⊥ = subst (λ (g : Finding). IsFinding size c.args.bounds (Err f) g) c.in-None.is h in is)

@@ -5,13 +5,14 @@ use Rattle.trace_text.specs.Tellable.{IsTellable}
 use Rattle.log_pieces.specs.declared.Granularity.TheVariants.{Whole}
 use Rattle.log_pieces.specs.InPieces.{in_pieces}
 use Rattle.log_text.specs.LogReaderView.{seen_of}
+use Rattle.search_engine.specs.Bounded.{by_choices}
 use Rattle.search_engine.specs.Search.{OutSearch}
 use Rattle.search_engine.proofs.SizeLemmas.{whole_is}
 use Rattle.search_engine.proofs.AnsweredLemmas.{Answered, answered}
 use Rattle.search_engine.proofs.laws.what_is_answered_is_ok.Goals as goal
 
 found : (limit : ℕ) (input text : List ℕ) → OutSearch limit input text 0 → Answered Whole (seen_of input) text
-found limit input text answer = answered false Whole limit (seen_of input) text answer
+found limit input text answer = answered false Whole (by_choices limit) (seen_of input) text answer
 
 told : (c : goal.After-what_is_found_is_ok) → (input text : List ℕ) (a : Answered Whole (seen_of input) text) → IsTellable (claim_of (in_pieces Whole a.log) [])
 told c input text a = subst (λ (t : TraceView). IsTellable (claim_of t [])) (sym (whole_is a.log)) (c.what_is_seen_can_be_told.ensures input a.log a.read)

@@ -10,7 +10,7 @@ use Rattle.search_history.proofs.laws.answered_first_acts_first.Goals as goal
 in_order : ((x : Claim) → Explains x → IsClocked x → KeepsRealTimeOrder x) → (t : TraceView) (s : Sought) → IsFound t s → IsInOrder t s
 in_order law t (answers.Found h) found = law (claim_of t h.items) found.0 found.1
 in_order law t (answers.None prefix) found = tt
-in_order law t answers.Limit found = tt
+in_order law t (answers.Limit bound) found = tt
 
 pub returns : goal.returns
 returns c = in_order c.answered_first_acts_first.ensures

@@ -1,0 +1,47 @@
+-- What is answered where a bound ended the search.
+use Rattle.std.specs.Prelude.{ℕ, ◌≡◌, ◌≢◌, ◌<◌, List, [], ◌∷◌, ◌++◌, codes, Option, Some, None}
+use Rattle.std.specs.Fmt.{decimal}
+use Rattle.search_run.specs.declared.exploring.Bound.{Bound}
+use Rattle.search_run.specs.declared.exploring.Bound.TheVariants as ends
+use Rattle.search_run.specs.declared.exploring.Bounds.{Bounds}
+use Rattle.search_engine.specs.declared.ending.Ending.{Ending}
+use Rattle.search_engine.specs.declared.options.SearchDemand.{SearchDemand}
+
+-- what a search may do
+abbrev pub bounds_of : SearchDemand → Bounds
+bounds_of demand = record { choices = demand.options.limit; work = demand.work }
+
+-- the same where only the choices are bounded
+abbrev pub by_choices : ℕ → Bounds
+by_choices limit = record { choices = limit; work = 18446744073709551615 }
+
+-- after so many choices that bound ended the search: as many were allowed, or it had a bound of work that came first
+abbrev pub IsEnded : Bounds → ℕ → Bound → Type 0
+IsEnded bounds choices ends.Choices = choices ≡ bounds.choices
+IsEnded bounds choices ends.Work = (choices < bounds.choices) × (bounds.work < 18446744073709551615)
+
+abbrev pub limit_line : ℕ → List ℕ
+limit_line limit = codes "limit " ++ decimal limit
+
+abbrev pub work_line : ℕ → List ℕ
+work_line work = codes "work " ++ decimal work
+
+abbrev pub bound_line : Bounds → Bound → List ℕ
+bound_line bounds ends.Choices = limit_line bounds.choices
+bound_line bounds ends.Work = work_line bounds.work
+
+-- the text is the bound that ended the search: nothing is known
+pub record IsEndedBy (bounds : Bounds) (ending : Ending) (text : List ℕ) (status : ℕ) : Type 0 where
+  pub ended : IsEnded bounds ending.choices ending.bound
+  pub says : text ≡ bound_line bounds ending.bound ++ 10 ∷ []
+  pub tells : status ≡ 3
+
+-- a bound ended the search
+pub record IsGivenUp (bounds : Bounds) (text : List ℕ) (status : ℕ) : Type 0 where
+  pub ending : Ending
+  pub by : IsEndedBy bounds ending text status
+
+-- where status 3 says that a bound ended the search, it is told which one did
+abbrev pub TellsEnding : Bounds → Option Ending → List ℕ → ℕ → Type 0
+TellsEnding bounds (Some ending) text status = IsEndedBy bounds ending text status
+TellsEnding bounds None text status = status ≢ 3

@@ -1,0 +1,10 @@
+//! By which bound a search was ended.
+use search_history::Bound;
+
+/// By which bound a search was ended, and after how many choices: as many as it may look at, or fewer, where the work ended
+/// it.
+#[derive(Clone, Copy, Debug, PartialEq, Eq)]
+pub struct Ending {
+    pub bound: Bound,
+    pub choices: u64,
+}
