@@ -18,7 +18,8 @@ use Rattle.history_check.specs.TraceView.{TraceView}
 use Rattle.history_check.specs.Claim.{claim_of}
 use Rattle.history_check.specs.Trace.{submissions, answers_to, is_request, Explains}
 use Rattle.worker_requester.specs.Following.{IsAnswered}
-use Rattle.workers.specs.Running.{AreBelow, AreDone}
+use Rattle.worker_report.specs.OneRun.{AreBelow}
+use Rattle.workers.specs.Running.{AreDone}
 use Rattle.run_engine.specs.Counting.{addition, script_of, scripts_of}
 use Rattle.run_engine.specs.Text.{is_answer, answers_in, first_word}
 use Rattle.run_engine.proofs.Countings.{none_some, same_some, both_true, count_all, count_once, count_pairs}

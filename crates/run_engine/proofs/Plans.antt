@@ -46,6 +46,6 @@ pub configured : (c : Counting) (p : RunPlan) (r : Result Report RunHalt) → Is
 configured c p (Ok x) is h = subst (HasConfig x.fabric) is.config h.1
 configured c p (Err e) is h = tt
 
-pub ended : (c : Counting) (p : RunPlan) (r : Result Report RunHalt) → IsPlanOf c p → IsPlan p → IfErr r (λ h. IsCause p h) → IfErr r (λ h. IsEndBy (config_of c.requesters) h)
-ended c p (Ok x) is plan h = tt
-ended c p (Err e) is plan h = ⊎_elim (λ (x : IsPlan p × IsEndBy p.config e). subst (λ d. IsEndBy d e) is.config x.1) (λ x. absurd (x.0 plan)) h
+pub ended : (p : RunPlan) (r : Result Report RunHalt) → IsPlan p → IfErr r (λ h. IsCause p h) → IfErr r (λ h. IsEndBy h)
+ended p (Ok x) plan h = tt
+ended p (Err e) plan h = ⊎_elim (λ (x : IsPlan p × IsEndBy e). x.1) (λ x. absurd (x.0 plan)) h

@@ -63,16 +63,16 @@ pub record IsReport (c : Counting) (text : List ℕ) : Type 0 where
   pub config : HasConfig fabric (config_of c.requesters)
   pub says : text ≡ report_text trace.records fabric
 
--- the text of a halt for its cause
-pub record IsHalt (c : Counting) (text : List ℕ) (status : ℕ) : Type 0 where
+-- the text of a halt for its cause: never of a flaw, nor of what is missing
+pub record IsHalt (text : List ℕ) (status : ℕ) : Type 0 where
   pub halt : RunHalt
-  pub cause : IsEndBy (config_of c.requesters) halt
+  pub cause : IsEndBy halt
   pub says : text ≡ halt_text halt
   pub tells : status ≡ halt_status halt
 
 -- the text and the exit status of a run
 abbrev pub IsOutput : Counting → List ℕ → ℕ → Type 0
-IsOutput c text status = (IsReport c text × (status ≡ 0)) ⊎ IsHalt c text status
+IsOutput c text status = (IsReport c text × (status ≡ 0)) ⊎ IsHalt text status
 
 -- the whole output was written
 pub record IsWhole (c : Counting) (out out' : Option (List ℕ)) (status : ℕ) : Type 0 where

@@ -116,7 +116,7 @@ fn run<R: Threads + Wait + Sync>(
     ensures done { IfOk result (λ r. AreDone r.trace.records 1 (scripts_of counting.now.requesters counting.now.each)) }
     ensures memory { IfOk result (λ r. IsOfMemory (config_of counting.now.requesters) r.trace) }
     ensures config { IfOk result (λ r. HasConfig r.fabric (config_of counting.now.requesters)) }
-    ensures halt { IfErr result (λ h. IsEndBy (config_of counting.now.requesters) h) }
+    ensures halt { IfErr result (λ h. IsEndBy h) }
 {
     match plan_of(alloc, counting, threads_of(rt, counting)) {
         Ok(plan) => run_workers_counting(rt, alloc, plan, &OpenGate, answered),

@@ -23,4 +23,5 @@ the_one_is_unused h xs ys (Some x) e new =
       number = ap (λ k. suc k.number) p.1 ∙ ap suc (alone xs ys x e new.number);
       made = ap (λ k. k.made) p.1;
       pending = ap (λ k. k.pending) p.1;
+      records = ap (λ k. k.records) p.1;
     }

@@ -1,5 +1,5 @@
 //! Runs by worker threads: additions, each counted once; the numbers and the rounds of workers; what a requester tries
-//! again; what ends a run, and what is left of it; mixed operations, checked as values and as text; what a run writes.
+//! again; what ends a run; mixed operations, checked as values and as text; what a run writes.
 //!
 //! What no clause says, and these rows show:
 //!
@@ -17,17 +17,14 @@
 //!   back until all 256 tags are open and the requester was refused a thousand times; it still ends in a report. That
 //!   a full window is tried again, and that used-up numbers end the run, is a clause of `worker_requester::stop_of`
 //!   and a row: no run reaches either.
-//! - What requesters leave has its halt: a part that is still held (of two, that in the first slot), a flaw, something
-//!   missing, in this order. A gate, turns that are used up, and each faulty plan have theirs. Where a worker has used
-//!   up its turns, its last call was at the last of them.
+//! - A gate, turns that are used up, and each faulty plan have their halts. Where a worker has used up its turns, its
+//!   last call was at the last of them.
 //! - In ten runs of mixed operations by seven requesters, with aborted and unsupported ones, each trace is explained,
 //!   and `check` says `ok` to its text.
 #![tactic(auto)]
 
 #[cfg(test)]
 mod additions;
-#[cfg(test)]
-mod halts;
 #[cfg(test)]
 mod mixed;
 #[cfg(test)]

@@ -5,10 +5,10 @@ ghost use Rattle.hall_core.specs.Views.{IsSeatOf, AreNewSeats};
 ghost use Rattle.worker_requester.specs.Following.{IsUnusedSeat};
 
 use crate::additions::{add, halt_of, plan_with};
-use crate::halts::keep;
 use crate::rounds::{counted, no_calls};
 use dllp_core::Class;
 use fabric_core::{Fabric, LaneName, Refusal};
+use hall_core::laws::take;
 use hall_core::{Hall, HallRefusal, Part, ReqSeat, WorkSeat};
 use hall_driving::drive::{read, small, write};
 use history_check::Record;
@@ -210,6 +210,21 @@ fn script_of(asked: Asked, many: u32, alloc: Global) -> Result<Vec<Op>, AllocErr
     Ok(script)
 }
 
+/// What is taken by the seat is not put back.
+fn keep(hall: &Hall, holder: WorkSeat, part: Option<Part>)
+    requires { IsSeatOf hall.now holder × (hall.now.config.requesters ≡ 1) }
+{
+    let Some(part) = part else {
+        return;
+    };
+    let slot = part.slot();
+    let number = holder.number() as u64;
+    let mut place = holder.into_place();
+    if slot < 18 {
+        let _ = take(hall.steps(), &mut place, slot, number);
+    }
+}
+
 /// Whether the requester ends so.
 fn ends_so(
     hall: &Hall,
@@ -226,7 +241,9 @@ fn ends_so(
     let shared = Shared::new();
     let mut turns = Turns::new(1, row.turns, &calls, &shared);
     let ended = Requester::new(hall, recorder, script, 1, seat, pusher).run(&mut turns);
-    !ended.whole && shared.stopped() == Some(row.stop) && counted(&calls) == row.calls
+    ended.stop == Some(row.stop)
+        && shared.stopped() == Some(row.stop)
+        && counted(&calls) == row.calls
 }
 
 /// Requester 2 pushes so many records as the recorder has room for.

@@ -1,11 +1,9 @@
 -- The records of one run have no flaw.
-use Rattle.std.proofs.Common.{◌≡◌, ℕ, List, sym, ap, ◌∙◌, subst, refl}
+use Rattle.std.proofs.Common.{◌≡◌, ℕ, List, sym, ◌∙◌, subst, refl}
 use Rattle.std.specs.Prelude.{Some, slice_get}
-use Rattle.seq_memory.specs.declared.Entry.{Entry}
-use Rattle.seq_memory.specs.History.{MemoryView}
 use Rattle.history_check.specs.declared.Record.{Record}
 use Rattle.history_check.specs.TraceView.{TraceView}
-use Rattle.history_check.specs.Claim.{Claim, claim_of}
+use Rattle.history_check.specs.Claim.{claim_of}
 use Rattle.history_check.specs.Lookup.{requester_of}
 use Rattle.history_check.specs.Trace.{Explains}
 use Rattle.fabric_laws.specs.Whole.{Whole, memory_of}

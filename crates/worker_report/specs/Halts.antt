@@ -1,9 +1,6 @@
 -- Why a run ends without a report: numbers, names and causes.
 use Rattle.std.specs.Prelude.{◌≡◌, ◌≢◌, ◌⊎◌, ℕ, ◌<◌, List, codes, length, Option, Some}
-use Rattle.seq_memory.specs.declared.Entry.{Entry}
 use Rattle.history_check.specs.TraceView.{TraceView}
-use Rattle.history_check.specs.Claim.{claim_of}
-use Rattle.history_check.specs.Flaws.{first_flaw}
 use Rattle.history_check.specs.declared.flaws.FlawKind.{FlawKind}
 use Rattle.fabric_core.specs.declared.config.Config.{Config}
 use Rattle.fabric_core.specs.Config.{IsConfig}
@@ -53,18 +50,18 @@ IsFlaw first _ = ⊥
 abbrev pub IsOfMemory : Config → TraceView → Type 0
 IsOfMemory c trace = (trace.base ≡ c.base) × (trace.size ≡ c.size) × (trace.block ≡ c.block)
 
--- what the halt of a run that began shows: a flaw is the first of a trace of the memory and a history; a part that was
--- held has a word
-abbrev pub IsEndBy : Config → RunHalt → Type 0
-IsEndBy c halts.Plan = ⊥
-IsEndBy c (halts.Flaw f) = (trace : TraceView) × (history : List Entry) × IsOfMemory c trace × (first_flaw (claim_of trace history) ≡ Some (f.kind, f.place))
-IsEndBy c (halts.Held h) = h.word ≢ 0
-IsEndBy c halts.Turns = Unit {0}
-IsEndBy c halts.Gated = Unit {0}
-IsEndBy c halts.Memory = Unit {0}
-IsEndBy c (halts.Core r) = Unit {0}
-IsEndBy c halts.Missing = Unit {0}
+-- what the halt of a run that began shows: it isn't that of the plan; no flaw is found, and nothing is missing; a part that
+-- was held has a word
+abbrev pub IsEndBy : RunHalt → Type 0
+IsEndBy halts.Plan = ⊥
+IsEndBy (halts.Flaw f) = ⊥
+IsEndBy (halts.Held h) = h.word ≢ 0
+IsEndBy halts.Turns = Unit {0}
+IsEndBy halts.Gated = Unit {0}
+IsEndBy halts.Memory = Unit {0}
+IsEndBy (halts.Core r) = Unit {0}
+IsEndBy halts.Missing = ⊥
 
 -- no run begins by another plan, which is told by Plan alone
 abbrev pub IsCause : RunPlan → RunHalt → Type 0
-IsCause p h = (IsPlan p × IsEndBy p.config h) ⊎ ((¬ IsPlan p) × (h ≡ halts.Plan))
+IsCause p h = (IsPlan p × IsEndBy h) ⊎ ((¬ IsPlan p) × (h ≡ halts.Plan))

@@ -17,7 +17,7 @@ pub enum RunHalt {
     Turns,
     /// The gate let a worker not pass.
     Gated,
-    /// The check found this flaw.
+    /// The check found this flaw. No run ends so.
     Flaw(Flaw),
     /// A growth was refused, or a thread.
     Memory,
@@ -25,7 +25,7 @@ pub enum RunHalt {
     Held(StillHeld),
     /// The core's answer to a worker that can't try again.
     Core(Refusal),
-    /// A script wasn't submitted whole, or an operation that isn't posted has no answer.
+    /// A script wasn't submitted whole, or an operation that isn't posted has no answer. No run ends so.
     Missing,
 }
 

@@ -9,4 +9,4 @@ mod report;
 
 pub use halt::RunHalt;
 pub use plan::{RunPlan, fabric_of};
-pub use report::{Report, report_of};
+pub use report::{Gathered, Report, report_of};

@@ -1,19 +1,26 @@
 //! What a run did, and the check of it.
-ghost use Rattle.std.specs.Prelude.{◌≡◌, IfOk, IfErr, OnOk, IsTrue};
-ghost use Rattle.fabric_core.specs.Config.{IsConfig};
+ghost use Rattle.std.specs.Prelude.{IfOk, IfErr, OnOk, ◌≡◌};
 ghost use Rattle.history_check.specs.Flaws.{first_flaw};
 ghost use Rattle.history_check.specs.Claim.{claim_of};
 ghost use Rattle.history_check.specs.Trace.{Explains};
 ghost use Rattle.hall_laws.specs.Rule.{HasConfig};
-ghost use Rattle.hall_core.specs.Views.{IsSeatOf};
 ghost use Rattle.worker_report.specs.Halts.{IsOfMemory, IsFlaw, IsEndBy};
+ghost use Rattle.worker_report.specs.OneRun.{IsOfOneRun, IsGathered};
 
 use crate::halt::RunHalt;
-use fabric_core::{Config, Fabric};
-use hall_core::{Hall, ReqSeat};
+use crate::laws::{the_records_of_one_run_are_explained, what_seats_recorded_is_one_run};
+use fabric_core::Fabric;
+use hall_core::{Hall, ReqSeat, WorkSeat};
 use history_check::{FlawKind, Record, Trace, check};
-use seq_memory::Extent;
 use std::alloc::Global;
+
+/// What the threads of a run leave: all seats of its hall, and what the requesters recorded.
+#[derive(Drop)]
+pub struct Gathered {
+    pub requesters: Vec<ReqSeat>,
+    pub work: Vec<WorkSeat>,
+    pub records: Vec<Record>,
+}
 
 /// What a run did.
 #[derive(Drop)]
@@ -36,33 +43,31 @@ fn explained(alloc: Global, trace: &Trace, fabric: &Fabric) -> Result<(), RunHal
     }
 }
 
-/// The report of a run, where its history explains its trace and all is answered. The hall is closed by one
-/// of its requesters' seats. The halts are `Held`, then `Flaw` or `Memory`, then `Missing`.
-pub fn report_of(
-    alloc: Global,
-    config: Config,
-    hall: Hall,
-    seat: ReqSeat,
-    records: Vec<Record>,
-    whole: bool,
-) -> Result<Report, RunHalt>
-    requires seat { IsSeatOf hall seat }
-    requires config { IsConfig config }
+/// The report of a run, whose hall all its seats close. The records are those of one run of the fabric that the hall was
+/// made of, so the check finds no flaw. The halts are `Held`, then `Memory`.
+pub fn report_of(alloc: Global, hall: Hall, gathered: Gathered) -> Result<Report, RunHalt>
+    requires { IsGathered hall gathered }
+    ensures ran { IfOk result (λ r. IsOfOneRun hall.opened r.trace.records r.fabric) }
     ensures checked { IfOk result (λ r. Explains (claim_of r.trace r.fabric.memory.entries)) }
-    ensures records { IfOk result (λ r. IsTrue whole × (r.trace.records ≡ records.items)) }
-    ensures memory { IfOk result (λ r. IsOfMemory config r.trace) }
+    ensures records { IfOk result (λ r. r.trace.records ≡ gathered.records.items) }
+    ensures memory { IfOk result (λ r. IsOfMemory hall.config r.trace) }
     ensures config { IfOk result (λ r. HasConfig r.fabric hall.config) }
-    ensures halt { IfErr result (λ h. IsEndBy config h) }
+    ensures halt { IfErr result (λ h. IsEndBy h) }
 {
-    let fabric = match hall.close(seat) {
+    what_seats_recorded_is_one_run();
+    the_records_of_one_run_are_explained();
+    let Gathered {
+        requesters,
+        work,
+        records,
+    } = gathered;
+    let fabric = match hall.close_all(requesters, work) {
         Ok(fabric) => fabric,
         Err(held) => return Err(RunHalt::Held(held)),
     };
-    let extent = Extent::new(config.base, config.size, config.block).unwrap();
-    let trace = Trace { extent, records };
+    let trace = fabric.trace_of(records);
     match explained(alloc, &trace, &fabric) {
-        Ok(()) if whole => Ok(Report { trace, fabric }),
-        Ok(()) => Err(RunHalt::Missing),
+        Ok(()) => Ok(Report { trace, fabric }),
         Err(halt) => Err(halt),
     }
 }

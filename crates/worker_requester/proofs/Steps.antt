@@ -1,5 +1,5 @@
 -- A submission and an answer keep what a requester's records say.
-use Rattle.std.proofs.Common.{◌≡◌, ◌≢◌, ℕ, zero, suc, ◌+◌, ◌-◌, ◌<◌, ◌≤◌, ◌⊎◌, ◌||◌, ◌&&◌, Bool, true, false, true≢false, cond, eqb, eq-eqb, List, [], ◌∷◌, ◌++◌, length, take, take_all, inl, inr, ⊎_elim, refl, sym, ap, ◌∙◌, subst, add-one, append-nil, arith}
+use Rattle.std.proofs.Common.{◌≡◌, ℕ, zero, suc, ◌+◌, ◌-◌, ◌<◌, ◌≤◌, ◌⊎◌, ◌||◌, ◌&&◌, Bool, true, false, true≢false, cond, eqb, eq-eqb, List, [], ◌∷◌, ◌++◌, length, take, take_all, inl, inr, ⊎_elim, refl, sym, ap, ◌∙◌, subst, add-one, append-nil, arith}
 use native.Mathlib.Decide.{ℕ_discrete}
 use Rattle.std.specs.Prelude.{Option, Some, None, slice_get, filter_map}
 use Rattle.std.specs.List.{list_any, AllByRecursion as Each}
@@ -34,18 +34,20 @@ record Submits (v : Knowledge) (op : Op) (number n : ℕ) (w : Knowledge) : Type
   pub numbered : number ≡ length v.made
   pub made : w.made ≡ v.made ++ op ∷ []
   pub pending : w.pending ≡ cond (is_posted op) v.pending (v.pending ++ (number, n) ∷ [])
+  pub told : w.records ≡ v.records ++ records.Sub (suc v.number) number op n ∷ []
 
 submits_of : (v w : Knowledge) (op : Op) (number n : ℕ) → SubmitTells v number op n w → Submits v op number n w
-submits_of v w op number n s = record { numbered = s.number; made = ap (λ (x : Knowledge). x.made) s.knows; pending = ap (λ (x : Knowledge). x.pending) s.knows }
+submits_of v w op number n s = record { numbered = s.number; made = ap (λ (x : Knowledge). x.made) s.knows; pending = ap (λ (x : Knowledge). x.pending) s.knows; told = ap (λ (x : Knowledge). x.records) s.knows }
 
-record Collects (v : Knowledge) (number : ℕ) (w : Knowledge) : Type 0 where
+record Collects (v : Knowledge) (number : ℕ) (reply : Reply) (n : ℕ) (w : Knowledge) : Type 0 where
   pub since : ℕ
   pub waited : Has (number, since) v.pending
   pub made : w.made ≡ v.made
   pub pending : w.pending ≡ without number v.pending
+  pub told : w.records ≡ v.records ++ records.Ans (suc v.number) number reply n ∷ []
 
-collects_of : (v w : Knowledge) (number : ℕ) (reply : Reply) (n : ℕ) → CollectTells v number reply n w → Collects v number w
-collects_of v w number reply n c = record { since = c.since; waited = c.waited; made = ap (λ (x : Knowledge). x.made) c.knows; pending = ap (λ (x : Knowledge). x.pending) c.knows }
+collects_of : (v w : Knowledge) (number : ℕ) (reply : Reply) (n : ℕ) → CollectTells v number reply n w → Collects v number reply n w
+collects_of v w number reply n c = record { since = c.since; waited = c.waited; made = ap (λ (x : Knowledge). x.made) c.knows; pending = ap (λ (x : Knowledge). x.pending) c.knows; told = ap (λ (x : Knowledge). x.records) c.knows }
 
 -- ---- a submission
 
@@ -91,7 +93,7 @@ asks i script v w rs next due due' op number n keeps more at s waits few =
 
 -- ---- an answer
 
-hears : (i : ℕ) (script : List Op) (v w : Knowledge) (rs : List Record) (next due : ℕ) (number : ℕ) (reply : Reply) (n : ℕ) → Keeps i script v.made v.pending rs next due → Collects v number w
+hears : (i : ℕ) (script : List Op) (v w : Knowledge) (rs : List Record) (next due : ℕ) (number : ℕ) (reply : Reply) (n : ℕ) → Keeps i script v.made v.pending rs next due → Collects v number reply n w
     → Keeps i script w.made w.pending (rs ++ records.Ans i number reply n ∷ []) next (due - 1)
 hears i script v w rs next due number reply n keeps a =
     let count : suc (length (without number v.pending)) ≡ length v.pending = without_count number a.since v.pending a.waited keeps.apart in
@@ -119,6 +121,10 @@ hears i script v w rs next due number reply n keeps a =
 recorded_so_far : (q : Requester) → Follows q → q.waiting ≡ None → Keeps q.number q.script.now q.seat.knows.made q.seat.knows.pending q.pusher.pushed.records q.next q.due
 recorded_so_far q f none = subst (λ l. Keeps q.number q.script.now q.seat.knows.made q.seat.knows.pending l q.next q.due) (ap (λ w. q.pusher.pushed.records ++ waiting_of w) none ∙ append-nil q.pusher.pushed.records) f.keeps
 
+-- the records so far are those of the seat
+pub recorded_as : (q : Requester) → Follows q → q.waiting ≡ None → q.pusher.pushed.records ≡ q.seat.knows.records
+recorded_as q f none = sym (ap (λ w. q.pusher.pushed.records ++ waiting_of w) none ∙ append-nil q.pusher.pushed.records) ∙ f.recorded
+
 due_more : (v w : Knowledge) (op : Op) (number n due : ℕ) → Submits v op number n w → due ≡ length v.pending → is_posted op ≡ false → due + 1 ≡ length w.pending
 due_more v w op number n due s e np =
     let last : length w.pending ≡ length (v.pending ++ (number, n) ∷ []) = ap length s.pending ∙ ap (λ b. length (cond b v.pending (v.pending ++ (number, n) ∷ []))) np in
@@ -142,6 +148,7 @@ follows_asked q w op number n due f none more at s here waits few = record {
   pusher = f.pusher;
   own = λ r e. let same : records.Sub q.number number op n ≡ r = cc in sym (ap requester_of same);
   keeps = asks q.number q.script.now q.seat.knows w.knows q.pusher.pushed.records q.next q.due due op number n (recorded_so_far q f none) more at (submits_of q.seat.knows w.knows op number n s) waits few;
+  recorded = (λ j. recorded_as q f none j ++ records.Sub (sym f.seat j) number op n ∷ []) ∙ sym (submits_of q.seat.knows w.knows op number n s).told;
 }
 
 pub follows_open : (q : Requester) (w : SeatView) (op : Op) (number n : ℕ) → Follows q → q.waiting ≡ None → q.next < length q.script.now → slice_get q.script.now q.next ≡ Some op
@@ -163,6 +170,7 @@ follows_heard q w number reply n f none c here = record {
   pusher = f.pusher;
   own = λ r e. let same : records.Ans q.number number reply n ≡ r = cc in sym (ap requester_of same);
   keeps = hears q.number q.script.now q.seat.knows w.knows q.pusher.pushed.records q.next q.due number reply n (recorded_so_far q f none) (collects_of q.seat.knows w.knows number reply n c);
+  recorded = (λ j. recorded_as q f none j ++ records.Ans (sym f.seat j) number reply n ∷ []) ∙ sym (collects_of q.seat.knows w.knows number reply n c).told;
 }
 
 -- where nothing had arrived
@@ -174,6 +182,7 @@ follows_seen q w f s here = record {
   pusher = f.pusher;
   own = f.own;
   keeps = subst (λ (x : Knowledge). Keeps q.number q.script.now x.made x.pending (q.pusher.pushed.records ++ waiting_of q.waiting) q.next q.due) (sym s.knows) f.keeps;
+  recorded = f.recorded ∙ sym (ap (λ (x : Knowledge). x.records) s.knows);
 }
 
 -- at the end all is recorded

@@ -10,12 +10,13 @@ use Rattle.recorder.specs.declared.laws.Pushed.{Pushed}
 use Rattle.hall_core.specs.Views.{SeatView, HallView, IsSeatOf}
 use Rattle.worker_requester.specs.declared.requester.Requester.{Requester}
 
--- the seat of requester i, by which nothing was submitted
+-- the seat of requester i, by which nothing was submitted or collected
 pub record IsUnusedSeat (hall : HallView) (i : ℕ) (s : SeatView) : Type 0 where
   pub seat : IsSeatOf hall s
   pub number : suc s.knows.number ≡ i
   pub made : s.knows.made ≡ []
   pub pending : s.knows.pending ≡ []
+  pub records : s.knows.records ≡ []
 
 abbrev pub is_number : ℕ → ℕ × ℕ → Bool
 is_number k w = k == w.0
@@ -57,6 +58,8 @@ pub record Follows (q : Requester) : Type 0 where
   pub pusher : q.pusher.pushed.requester ≡ q.number
   pub own : (r : Record) → q.waiting ≡ Some r → requester_of r ≡ q.number
   pub keeps : Keeps q.number q.script.now q.seat.knows.made q.seat.knows.pending (q.pusher.pushed.records ++ waiting_of q.waiting) q.next q.due
+  -- they are the records of its seat's calls
+  pub recorded : q.pusher.pushed.records ++ waiting_of q.waiting ≡ q.seat.knows.records
 
 -- the requester is the same
 pub record IsSame (p q : Requester) : Type 0 where

@@ -1,5 +1,5 @@
 //! The loop of a requester: it submits its script, collects the answers, and records both.
-ghost use Rattle.std.specs.Prelude.{◌≡◌, ◌+◌, ◌<◌, ◌≤◌, IsTrue, None, Some, length, []};
+ghost use Rattle.std.specs.Prelude.{◌≡◌, suc, ◌+◌, ◌<◌, ◌≤◌, OnOk, IfOk, IfNone, None, Some, length, []};
 ghost use Rattle.hall_core.specs.Views.{IsSeatOf};
 ghost use Rattle.worker_requester.specs.Following.{IsUnusedSeat, Follows, IsSame, Finishes};
 
@@ -9,7 +9,7 @@ use history_check::Record;
 use recorder::{Pusher, Recorder};
 use std::thread;
 use tlp_core::{Op, copy_of};
-use worker_turns::{Gate, Turns};
+use worker_turns::{Gate, Stop, Turns};
 
 /// A requester at work.
 #[derive(Drop)]
@@ -34,19 +34,18 @@ pub enum Round {
     Done,
     Nothing,
     Ended,
-    Stopped,
 }
 
 /// A refused call is tried again, or ends the run.
-fn go_on<G: Gate>(refusal: HallRefusal, turns: &Turns<'_, G>) -> Round
-    ensures { (¬ (result ≡ Round.Done)) × (¬ (result ≡ Round.Ended)) }
+fn go_on<G: Gate>(refusal: HallRefusal, turns: &Turns<'_, G>) -> Result<Round, Stop>
+    ensures { IfOk result (λ round. round ≡ Round.Nothing) }
 {
     match stop_of(refusal) {
         Some(stop) => {
             turns.stop(stop);
-            Round::Stopped
+            Err(stop)
         }
-        None => Round::Nothing,
+        None => Ok(Round::Nothing),
     }
 }
 
@@ -79,43 +78,41 @@ impl<'a> Requester<'a> {
     }
 
     /// Pushes the record that waits.
-    fn tell<G: Gate>(&mut self, recorded: Record, turns: &mut Turns<'_, G>) -> Round
+    fn tell<G: Gate>(&mut self, recorded: Record, turns: &mut Turns<'_, G>) -> Result<Round, Stop>
         requires follows { Follows (record self.old { waiting = Some recorded }) }
         requires none { self.old.waiting ≡ None }
         ensures follows { Follows self.new }
         ensures same { IsSame self.old self.new }
         ensures limit { turns.new.limit ≡ turns.old.limit }
-        ensures turn { ¬ (result ≡ Round.Stopped) → (turns.new.done ≡ turns.old.done + 1) × (turns.new.done ≤ turns.new.limit) }
-        ensures on { ¬ (result ≡ Round.Ended) }
+        ensures turn { OnOk result ((turns.new.done ≡ turns.old.done + 1) × (turns.new.done ≤ turns.new.limit)) }
+        ensures on { IfOk result (λ round. ¬ (round ≡ Round.Ended)) }
     {
-        if !turns.push() {
+        if let Err(stop) = turns.push() {
             self.waiting = Some(recorded);
-            return Round::Stopped;
+            return Err(stop);
         }
         match self.recorder.push(&mut self.pusher, recorded) {
-            Ok(()) => Round::Done,
+            Ok(()) => Ok(Round::Done),
             Err(back) => {
                 self.waiting = Some(back);
-                Round::Nothing
+                Ok(Round::Nothing)
             }
         }
     }
 
     /// Submits the next operation of the script.
-    fn ask<G: Gate>(&mut self, turns: &mut Turns<'_, G>) -> Round
+    fn ask<G: Gate>(&mut self, turns: &mut Turns<'_, G>) -> Result<Round, Stop>
         requires next { self.old.next < length self.old.script.now }
         requires follows { Follows self.old }
         requires none { self.old.waiting ≡ None }
         ensures follows { Follows self.new }
-        ensures none { ¬ (result ≡ Round.Done) → self.new.waiting ≡ None }
+        ensures none { IfOk result (λ round. ¬ (round ≡ Round.Done) → self.new.waiting ≡ None) }
         ensures same { IsSame self.old self.new }
         ensures limit { turns.new.limit ≡ turns.old.limit }
-        ensures turn { ¬ (result ≡ Round.Stopped) → (turns.new.done ≡ turns.old.done + 1) × (turns.new.done ≤ turns.new.limit) }
-        ensures on { ¬ (result ≡ Round.Ended) }
+        ensures turn { OnOk result ((turns.new.done ≡ turns.old.done + 1) × (turns.new.done ≤ turns.new.limit)) }
+        ensures on { IfOk result (λ round. ¬ (round ≡ Round.Ended)) }
     {
-        if !turns.call() {
-            return Round::Stopped;
-        }
+        turns.call()?;
         let op = &self.script[self.next];
         match self.hall.submit(&mut self.seat, copy_of(op)) {
             Ok(submitted) => {
@@ -129,25 +126,23 @@ impl<'a> Requester<'a> {
                 if !op.is_posted() {
                     self.due += 1;
                 }
-                Round::Done
+                Ok(Round::Done)
             }
             Err(refusal) => go_on(refusal, turns),
         }
     }
 
     /// Collects an answer.
-    fn hear<G: Gate>(&mut self, turns: &mut Turns<'_, G>) -> Round
+    fn hear<G: Gate>(&mut self, turns: &mut Turns<'_, G>) -> Result<Round, Stop>
         requires follows { Follows self.old }
         requires none { self.old.waiting ≡ None }
         ensures follows { Follows self.new }
         ensures same { IsSame self.old self.new }
         ensures limit { turns.new.limit ≡ turns.old.limit }
-        ensures turn { ¬ (result ≡ Round.Stopped) → (turns.new.done ≡ turns.old.done + 1) × (turns.new.done ≤ turns.new.limit) }
-        ensures on { ¬ (result ≡ Round.Ended) }
+        ensures turn { OnOk result ((turns.new.done ≡ turns.old.done + 1) × (turns.new.done ≤ turns.new.limit)) }
+        ensures on { IfOk result (λ round. ¬ (round ≡ Round.Ended)) }
     {
-        if !turns.call() {
-            return Round::Stopped;
-        }
+        turns.call()?;
         match self.hall.collect(&mut self.seat) {
             Ok(Some(answered)) => {
                 self.waiting = Some(Record::Ans {
@@ -157,9 +152,9 @@ impl<'a> Requester<'a> {
                     n: answered.n,
                 });
                 self.due -= 1;
-                Round::Done
+                Ok(Round::Done)
             }
-            Ok(None) => Round::Nothing,
+            Ok(None) => Ok(Round::Nothing),
             Err(refusal) => go_on(refusal, turns),
         }
     }
@@ -170,55 +165,53 @@ impl<'a> Requester<'a> {
 pub struct Ended {
     pub seat: ReqSeat,
     pub pusher: Pusher,
-    /// Whether the whole script was submitted, answered and recorded.
-    pub whole: bool,
+    /// Why the run ended before the whole script was submitted, answered and recorded.
+    pub stop: Option<Stop>,
 }
 
 impl<'a> Requester<'a> {
     /// One round.
-    fn round<G: Gate>(&mut self, turns: &mut Turns<'_, G>) -> Round
+    fn round<G: Gate>(&mut self, turns: &mut Turns<'_, G>) -> Result<Round, Stop>
         requires { Follows self.old }
         ensures follows { Follows self.new }
         ensures same { IsSame self.old self.new }
         ensures limit { turns.new.limit ≡ turns.old.limit }
-        ensures turn { ¬ (result ≡ Round.Stopped) → ¬ (result ≡ Round.Ended) → (turns.old.done < turns.new.done) × (turns.new.done ≤ turns.new.limit) }
-        ensures ended { result ≡ Round.Ended → Finishes self.new.script.now self.new.pusher.pushed }
+        ensures turn { IfOk result (λ round. ¬ (round ≡ Round.Ended) → (turns.old.done < turns.new.done) × (turns.new.done ≤ turns.new.limit)) }
+        ensures ended { IfOk result (λ round. round ≡ Round.Ended → Finishes self.new.script.now self.new.pusher.pushed × (self.new.pusher.pushed.records ≡ self.new.seat.knows.records)) }
     {
         if let Some(recorded) = self.waiting.take() {
             return self.tell(recorded, turns);
         }
         if self.next < self.script.len() {
-            let asked = self.ask(turns);
+            let asked = self.ask(turns)?;
             if asked != Round::Nothing || self.due == 0 {
-                return asked;
+                return Ok(asked);
             }
         } else if self.due == 0 {
-            return Round::Ended;
+            return Ok(Round::Ended);
         }
         self.hear(turns)
     }
 
-    /// Submits the script, collects the answers and records both.
+    /// Submits the script, collects the answers and records both. If nothing ended the run before, what was recorded are
+    /// the records of the seat's calls.
     pub fn run<G: Gate>(self, turns: &mut Turns<'_, G>) -> Ended
         requires { Follows self }
-        ensures seat { IsSeatOf self.entry.hall.now result.seat }
+        ensures seat { IsSeatOf self.entry.hall.now result.seat × (suc result.seat.knows.number ≡ self.entry.number) }
         ensures pusher { (result.pusher.queue ≡ self.entry.recorder.now) × (result.pusher.pushed.requester ≡ self.entry.number) }
-        ensures whole { IsTrue result.whole → Finishes self.entry.script.now result.pusher.pushed }
+        ensures whole { IfNone result.stop (Finishes self.entry.script.now result.pusher.pushed) }
+        ensures recorded { IfNone result.stop (result.pusher.pushed.records ≡ result.seat.knows.records) }
     {
         let mut at = self;
-        let whole = loop {
+        let stop = loop {
             match at.round(turns) {
-                Round::Done => {}
-                Round::Nothing => thread::yield_now(),
-                Round::Ended => break true,
-                Round::Stopped => break false,
+                Ok(Round::Done) => {}
+                Ok(Round::Nothing) => thread::yield_now(),
+                Ok(Round::Ended) => break None,
+                Err(stop) => break Some(stop),
             }
         };
         let Requester { seat, pusher, .. } = at;
-        Ended {
-            seat,
-            pusher,
-            whole,
-        }
+        Ended { seat, pusher, stop }
     }
 }

@@ -1,5 +1,5 @@
 //! Turns of a worker, and how a run ends.
-ghost use Rattle.std.specs.Prelude.{◌≡◌, ◌+◌, ◌≤◌, true, false};
+ghost use Rattle.std.specs.Prelude.{◌≡◌, ◌+◌, ◌≤◌, OnOk, OnErr};
 
 use crate::gate::Gate;
 use crate::stop::Stop;
@@ -84,37 +84,40 @@ impl<'a, G: Gate> Turns<'a, G> {
         }
     }
 
-    /// Before a record is pushed. `false` ends the worker.
-    pub fn push(&mut self) -> bool
+    /// Whether the run is over. Then the workers beside the requesters end.
+    pub fn is_over(&self) -> bool {
+        self.shared.is_over()
+    }
+
+    /// Before a record is pushed. The error, why the run ends, ends the worker.
+    pub fn push(&mut self) -> Result<(), Stop>
         ensures limit { self.new.limit ≡ self.old.limit }
-        ensures turn { result ≡ true → (self.new.done ≡ self.old.done + 1) × (self.new.done ≤ self.new.limit) }
-        ensures ended { result ≡ false → self.new.done ≡ self.old.done }
+        ensures turn { OnOk result ((self.new.done ≡ self.old.done + 1) × (self.new.done ≤ self.new.limit)) }
+        ensures ended { OnErr result (self.new.done ≡ self.old.done) }
     {
-        if self.shared.is_over() {
-            return false;
+        if let Some(stop) = self.shared.stopped() {
+            return Err(stop);
         }
         if self.done >= self.limit {
             self.shared.stop(Stop::Turns);
-            return false;
+            return Err(Stop::Turns);
         }
         self.done += 1;
-        true
+        Ok(())
     }
 
-    /// Before a call of the hall. `false` ends the worker.
-    pub fn call(&mut self) -> bool
+    /// Before a call of the hall. The error, why the run ends, ends the worker.
+    pub fn call(&mut self) -> Result<(), Stop>
         ensures limit { self.new.limit ≡ self.old.limit }
-        ensures turn { result ≡ true → (self.new.done ≡ self.old.done + 1) × (self.new.done ≤ self.new.limit) }
-        ensures ended { result ≡ false → (self.old.done ≤ self.new.done) × (self.new.done ≤ self.old.done + 1) }
+        ensures turn { OnOk result ((self.new.done ≡ self.old.done + 1) × (self.new.done ≤ self.new.limit)) }
+        ensures ended { OnErr result ((self.old.done ≤ self.new.done) × (self.new.done ≤ self.old.done + 1)) }
     {
-        if !self.push() {
-            return false;
-        }
+        self.push()?;
         if !self.gate.pass(self.worker, self.done) {
             self.shared.stop(Stop::Gated);
-            return false;
+            return Err(Stop::Gated);
         }
-        true
+        Ok(())
     }
 
     /// The run ends.

@@ -1,5 +1,5 @@
 -- How a run begins, and why it ends.
-use Rattle.std.proofs.Common.{◌≡◌, ℕ, List, get_or, inl, sym, ap, subst, Bool, true, ◌∙◌}
+use Rattle.std.proofs.Common.{◌≡◌, ℕ, List, get_or, inl, sym, ap, subst, ◌∙◌}
 use Rattle.std.specs.Prelude.{Result, Ok, Err, IfOk, IfErr}
 use Rattle.std.proofs.lemmas.Option.{slice_get-get_or}
 use Rattle.seq_memory.specs.History.{MemoryView}
@@ -13,7 +13,8 @@ use Rattle.worker_report.specs.declared.plan.RunPlan.{RunPlan}
 use Rattle.worker_report.specs.declared.report.Report.{Report}
 use Rattle.tlp_core.specs.declared.operation.Op.{Op}
 use Rattle.history_check.specs.declared.Record.{Record}
-use Rattle.worker_report.specs.Halts.{IsPlan, IsEndBy, IsCause, halt_of}
+use Rattle.worker_report.specs.Halts.{IsPlan, IsOfMemory, IsEndBy, IsCause, halt_of}
+use Rattle.worker_report.specs.OneRun.{IsOfOneRun, IsRunOf}
 use Rattle.worker_turns.specs.declared.stop.Stop.{Stop}
 use Rattle.worker_turns.specs.declared.stop.Stop.TheVariants as stops
 use Rattle.workers.specs.Running.{AreUnusedSeats, AreWorkSeats, AreDone}
@@ -38,20 +39,32 @@ same_config c d f g n h k = record {
 -- ---- the end
 
 -- the plan of a run that a worker ended is one that can be run
-pub stopped : (p : RunPlan) (s : Stop) → IsPlan p → IsCause p (halt_of s)
-stopped p stops.Turns plan = inl (plan, tt)
-stopped p stops.Gated plan = inl (plan, tt)
-stopped p stops.Memory plan = inl (plan, tt)
-stopped p (stops.Core r) plan = inl (plan, tt)
+pub stopped : (p : RunPlan) (s : Stop) (h : RunHalt) → IsPlan p → h ≡ halt_of s → IsCause p h
+stopped p s h plan is = subst (IsCause p) (sym is) (caused s)
+  where
+    caused : (s : Stop) → IsCause p (halt_of s)
+    caused stops.Turns = inl (plan, tt)
+    caused stops.Gated = inl (plan, tt)
+    caused stops.Memory = inl (plan, tt)
+    caused (stops.Core r) = inl (plan, tt)
 
-pub ends : (p : RunPlan) (r : Result Report RunHalt) → IsPlan p → IfErr r (λ h. IsEndBy p.config h) → IfErr r (λ h. IsCause p h)
+pub ends : (p : RunPlan) (r : Result Report RunHalt) → IsPlan p → IfErr r (λ h. IsEndBy h) → IfErr r (λ h. IsCause p h)
 ends p (Ok x) plan e = tt
 ends p (Err h) plan e = inl (plan, e)
+
+pub ran : (p : RunPlan) (opened f : Fabric) (r : Result Report RunHalt) → IsNewWith p.config f → opened ≡ f → IfOk r (λ x. IsOfOneRun opened x.trace.records x.fabric) → IfOk r (λ x. IsRunOf p.config x.trace.records x.fabric)
+ran p opened f (Ok x) new is e = (opened, subst (IsNewWith p.config) (sym is) new, e)
+ran p opened f (Err h) new is e = tt
+
+pub remembered : (p : RunPlan) (d : Config) (f : Fabric) (r : Result Report RunHalt) → IsNewWith p.config f → HasConfig f d → IfOk r (λ x. IsOfMemory d x.trace) → IfOk r (λ x. IsOfMemory p.config x.trace)
+remembered p d f (Ok x) new has e =
+    (e.0 ∙ sym has.base ∙ ap (λ (m : MemoryView). m.base) new.memory, e.1 ∙ sym has.size ∙ ap (λ (m : MemoryView). m.size) new.memory, e.2 ∙ sym has.block ∙ ap (λ (m : MemoryView). m.block) new.memory)
+remembered p d f (Err h) new has e = tt
 
 pub configured : (p : RunPlan) (d : Config) (f : Fabric) (r : Result Report RunHalt) → IsPlan p → IsNewWith p.config f → HasConfig f d → IfOk r (λ x. HasConfig x.fabric d) → IfOk r (λ x. IsPlan p × HasConfig x.fabric p.config)
 configured p d f (Ok x) plan new has e = (plan, same_config p.config d f x.fabric new has e)
 configured p d f (Err h) plan new has e = tt
 
-pub all_done : (ss : List (List Op)) (whole : Bool) (rs : List Record) (r : Result Report RunHalt) → (whole ≡ true → AreDone rs 1 ss) → IfOk r (λ x. (whole ≡ true) × (x.trace.records ≡ rs)) → IfOk r (λ x. AreDone x.trace.records 1 ss)
-all_done ss whole rs (Ok x) h e = subst (λ l. AreDone l 1 ss) (sym e.1) (h e.0)
-all_done ss whole rs (Err h') h e = tt
+pub all_done : (ss : List (List Op)) (rs : List Record) (r : Result Report RunHalt) → AreDone rs 1 ss → IfOk r (λ x. x.trace.records ≡ rs) → IfOk r (λ x. AreDone x.trace.records 1 ss)
+all_done ss rs (Ok x) h e = subst (λ l. AreDone l 1 ss) (sym e) h
+all_done ss rs (Err h') h e = tt

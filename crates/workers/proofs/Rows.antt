@@ -2,7 +2,7 @@
 use Rattle.std.proofs.Math.Seq.{take-suc, drop-cons}
 use Rattle.std.proofs.lemmas.List.{map-append, length-append, length-map, length-take-le}
 use Rattle.std.proofs.Common.{◌≡◌, ◌≢◌, ℕ, zero, suc, ◌+◌, ◌-◌, ◌*◌, ◌<◌, add-zero, true≢false, eq-eqb, Vec, Global, Bool, true, false, cond, eqb, ◌&&◌, ◌||◌, List, [], ◌∷◌, ◌++◌, length, map, take, drop, get_or, refl, add-one, subst, ◌∙◌, sym, ap, arith}
-use Rattle.std.specs.Prelude.{remove, Some, None, slice_get}
+use Rattle.std.specs.Prelude.{remove, Option, Some, None, IfNone, slice_get}
 use Rattle.std.specs.declared.thread.PromisedHandle.{PromisedHandle}
 use Rattle.std.specs.List.{AllByRecursion as Each, list_any, cons_option}
 use Rattle.atomic_table.specs.Seated.{TableId}
@@ -12,7 +12,7 @@ use Rattle.history_check.specs.declared.Record.TheVariants as records
 use Rattle.history_check.specs.Lookup.{requester_of}
 use Rattle.history_check.specs.Trace.{submission, submissions, answers_to}
 use Rattle.hall_laws.specs.Rule.{newcomer}
-use Rattle.hall_core.specs.Views.{SeatView, HallView, IsSeatOf}
+use Rattle.hall_core.specs.Views.{SeatView, HallView, IsSeatOf, AreSeatsOf}
 use Rattle.recorder.specs.declared.laws.Pushed.{Pushed}
 use Rattle.recorder.specs.declared.laws.Taken.{Taken}
 use Rattle.recorder.specs.Rule.{records_by, unbegun, IsWhole}
@@ -22,7 +22,12 @@ use Rattle.worker_requester.specs.Following.{IsUnusedSeat, Finishes}
 use Rattle.fabric_events.specs.declared.event.LaneName.TheVariants as lanes
 use Rattle.workers.specs.declared.jobs.Job.TheVariants as jobs
 use Rattle.workers.specs.Jobs.{lane_jobs, port_jobs, jobs_of}
-use Rattle.workers.specs.Running.{AreUnusedSeats, AreSeats, AreHandles, AreFinished, AreBelow, AreDone}
+use Rattle.worker_report.specs.OneRun.{AreBelow, AreOfSeats}
+use Rattle.workers.specs.Running.{AreUnusedSeats, AreSeats, AreHandles, AreFinished, AreRecorded, AreDone}
+
+pub if_none : {X : Type 0} (o : Option X) (P : Type 0) → ((x : X) → o ≡ Some x → ⊥) → IfNone o P → P
+if_none None P none h = h
+if_none (Some x) P none h = absurd (none x refl)
 
 pub seats_next : (hall : HallView) (i : ℕ) (ss : List SeatView) → AreUnusedSeats hall i ss → 0 < length ss → AreUnusedSeats hall (i + 1) (remove ss 0)
 seats_next hall i [] h some = absurd (omega arith)
@@ -32,10 +37,10 @@ pub seats_first : (hall : HallView) (i : ℕ) (ss : List SeatView) (s : SeatView
 seats_first hall i [] s h some is = absurd (omega arith)
 seats_first hall i (t ∷ ts) s h some is = subst (IsUnusedSeat hall i) (sym is) h.0
 
--- the first of some
-pub seat_first : (hall : HallView) (ss : List SeatView) (s : SeatView) → AreSeats hall ss → 0 < length ss → s ≡ get_or ss 0 s → IsSeatOf hall s
-seat_first hall [] s h some is = absurd (omega arith)
-seat_first hall (t ∷ ts) s h some is = subst (IsSeatOf hall) (sym is) h.0
+pub seats_of : (hall : HallView) (ss : List SeatView) → AreSeats hall ss → AreSeatsOf hall ss
+seats_of hall [] h i s at = let no : ⊥ = cc in absurd no
+seats_of hall (t ∷ ts) h zero s at = let same : t ≡ s = cc in subst (IsSeatOf hall) same h.0
+seats_of hall (t ∷ ts) h (suc i) s at = seats_of hall ts h.1 i s at
 
 -- the seats of a new hall
 pub new_seats : (hall : HallView) (n : ℕ) (ss : List SeatView) → ((i : ℕ) (s : SeatView) → slice_get ss i ≡ Some s → (s.table_id ≡ hall.table_id) × (s.knows ≡ (newcomer hall.config hall.opened hall.seats (n + i)).knows)) → AreUnusedSeats hall (suc n) ss
@@ -43,7 +48,7 @@ new_seats hall n [] each = tt
 new_seats hall n (s ∷ ss) each =
     let mine = each 0 s refl in
     let is : s.knows ≡ (newcomer hall.config hall.opened hall.seats n).knows = mine.1 ∙ ap (λ m. (newcomer hall.config hall.opened hall.seats m).knows) (omega arith) in (
-      record { seat = (mine.0, ap (λ k. k.config) is, ap (λ k. k.opened) is, ap (λ k. k.seats) is); number = ap (λ k. suc k.number) is; made = ap (λ k. k.made) is; pending = ap (λ k. k.pending) is },
+      record { seat = (mine.0, ap (λ k. k.config) is, ap (λ k. k.opened) is, ap (λ k. k.seats) is); number = ap (λ k. suc k.number) is; made = ap (λ k. k.made) is; pending = ap (λ k. k.pending) is; records = ap (λ k. k.records) is },
       subst (λ m. AreUnusedSeats hall m ss) (omega arith) (new_seats hall (suc n) ss (λ i t at. let one = each (suc i) t at in (one.0, one.1 ∙ ap (λ m. (newcomer hall.config hall.opened hall.seats m).knows) (omega arith)))),
     )
 
@@ -102,6 +107,13 @@ finished_step xs i v ps p old below is e f =
     let shown : map items_of (take (i + 1) xs) ≡ map items_of (take i xs) ++ v.items ∷ [] = ap (map items_of) more ∙ map-append items_of (take i xs) (v ∷ []) in
     let count : length (map items_of (take i xs)) ≡ i = length-map (take i xs) items_of ∙ length-take-le i xs (omega arith) in
     subst (λ l. AreFinished 1 l (ps ++ p ∷ [])) (sym shown) (finished_more 1 (map items_of (take i xs)) ps v.items p old (omega arith) f)
+
+pub recorded_more : (i : ℕ) (vs : List SeatView) (ps : List Pushed) (v : SeatView) (p : Pushed) → AreRecorded i vs ps → p.requester ≡ i + length vs → suc v.knows.number ≡ i + length vs → p.records ≡ v.knows.records
+    → AreRecorded i (vs ++ v ∷ []) (ps ++ p ∷ [])
+recorded_more i [] [] v p old e n r = ((omega arith), (omega arith), r, tt)
+recorded_more i [] (q ∷ qs) v p old e n r = absurd old
+recorded_more i (u ∷ us) [] v p old e n r = absurd old
+recorded_more i (u ∷ us) (q ∷ qs) v p old e n r = (old.0, old.1, old.2, recorded_more (i + 1) us qs v p old.3 (omega arith) (omega arith) r)
 
 pub handles_length : (hall : HallView) (queue : TableId) (i : ℕ) (ss : List (List Op)) (hs : List (PromisedHandle Ended Keeps)) → AreHandles hall queue i ss hs → length hs ≡ length ss
 handles_length hall queue i [] [] old = refl
@@ -180,15 +192,35 @@ each_before : {A : Type 0} (P : A → Type 0) (xs ys : List A) → Each P (xs ++
 each_before P [] ys h = tt
 each_before P (x ∷ xs) ys h = (h.0, each_before P xs ys h.1)
 
-pub done : (t : Taken) (rs : List Record) (ss : List (List Op)) (before pushed : List Pushed) → IsWhole t → t.records ≡ rs → t.known ≡ before ++ pushed → before ≡ unbegun (7 - length ss) (length ss + 1) → length ss < 8 → AreFinished 1 ss pushed → AreDone rs 1 ss
-done t rs ss before pushed whole is known unbegun_is few f =
+of_seats : (rs : List Record) (i : ℕ) (vs : List SeatView) (ps : List Pushed) → AreRecorded i vs ps → Each (λ p. records_by p.requester rs ≡ p.records) ps → AreBelow (i + length vs) rs → AreOfSeats rs i vs
+of_seats rs i [] [] r h below = subst (λ k. AreBelow k rs) (add-zero i) below
+of_seats rs i [] (p ∷ ps) r h below = absurd r
+of_seats rs i (v ∷ vs) [] r h below = absurd r
+of_seats rs i (v ∷ vs) (p ∷ ps) r h below =
+    (r.1, ap (λ k. records_by k rs) (sym r.0) ∙ h.0 ∙ r.2, of_seats rs (i + 1) vs ps r.3 h.1 (subst (λ k. AreBelow k rs) (omega arith) below))
+
+-- all that some requesters pushed was taken, and nothing of others
+record IsTaken (rs : List Record) (n : ℕ) (pushed : List Pushed) : Type 0 where
+  pub each : Each (λ p. records_by p.requester rs ≡ p.records) pushed
+  pub below : AreBelow (1 + n) rs
+
+is_taken : (t : Taken) (rs : List Record) (n : ℕ) (before pushed : List Pushed) → IsWhole t → t.records ≡ rs → t.known ≡ before ++ pushed → before ≡ unbegun (7 - n) (n + 1) → n < 8 → IsTaken rs n pushed
+is_taken t rs n before pushed whole is known unbegun_is few =
     let P : Pushed → Type 0 = λ p. records_by p.requester t.records ≡ p.records in
     let all : Each P (before ++ pushed) = subst (Each P) known whole.0 in
-    let n = length ss in
     let others : Each P (unbegun (7 - n) (n + 1)) = subst (Each P) unbegun_is (each_before P before pushed all) in
     let within : AreBelow (n + 1 + (7 - n)) t.records = subst (λ k. AreBelow k t.records) (omega arith) whole.1 in
     let below : AreBelow (1 + n) t.records = subst (λ k. AreBelow k t.records) (omega arith) (below_unbegun (7 - n) (n + 1) t.records others within) in
-    subst (λ l. AreDone l 1 ss) is (done_of t.records 1 ss pushed f (each_behind P before pushed all) below)
+    subst (λ l. IsTaken l n pushed) is (record { each = each_behind P before pushed all; below = below })
+
+pub done : (t : Taken) (rs : List Record) (ss : List (List Op)) (before pushed : List Pushed) → IsWhole t → t.records ≡ rs → t.known ≡ before ++ pushed → before ≡ unbegun (7 - length ss) (length ss + 1) → length ss < 8 → AreFinished 1 ss pushed → AreDone rs 1 ss
+done t rs ss before pushed whole is known unbegun_is few f =
+    let taken = is_taken t rs (length ss) before pushed whole is known unbegun_is few in done_of rs 1 ss pushed f taken.each taken.below
+
+pub recorded : (t : Taken) (rs : List Record) (vs : List SeatView) (before pushed : List Pushed) → IsWhole t → t.records ≡ rs → t.known ≡ before ++ pushed → before ≡ unbegun (7 - length vs) (length vs + 1) → length vs < 8 → AreRecorded 1 vs pushed
+    → AreOfSeats rs 1 vs
+recorded t rs vs before pushed whole is known unbegun_is few r =
+    let taken = is_taken t rs (length vs) before pushed whole is known unbegun_is few in of_seats rs 1 vs pushed r taken.each taken.below
 
 -- ---- the jobs
 

@@ -2,14 +2,14 @@
 use Rattle.std.proofs.Common.{◌≡◌, ◌≤◌, ◌<◌, ◌+◌, ◌-◌, ◌∙◌, ℕ, Option, Some, Vec, Global, List, [], ◌∷◌, ◌++◌, length, map, take, get_or, sym, ap, subst, add-one, arith}
 use Rattle.std.proofs.Math.Seq.{take-suc}
 use Rattle.std.specs.List.{flat_map}
-use Rattle.std.specs.declared.thread.PromisedHandle.{PromisedHandle}
 use Rattle.std.proofs.lemmas.List.{map-append, length-append}
 use Rattle.std.proofs.lemmas.List.Folds.{flat_map-map, length-flat_map-take}
 use Rattle.hall_core.specs.Views.{SeatView, HallView, IsSeatOf}
-use Rattle.workers.specs.Running.{AreWorkSeats}
+use Rattle.workers.specs.Tasks.{TaskView, kept_of}
+use Rattle.workers.specs.Running.{AreWorkSeats, AreOfHall}
 use Rattle.workers.specs.declared.jobs.Job.{Job}
-use Rattle.workers.specs.declared.threads.Share.{Share}
 use Rattle.workers.proofs.Dealing.{all_more}
+use Rattle.workers.proofs.Returning.{Handle}
 
 abbrev pub jobs_in : Vec Job Global → List Job
 jobs_in v = v.items
@@ -42,10 +42,17 @@ next_fits xs i v below is =
     omega (arith, fits, first, all, own)
 
 -- the jobs of the threads, of which one more was started
-pub promised_more : (hs : List (PromisedHandle (Unit {0}) Share)) (h : PromisedHandle (Unit {0}) Share) (ls : List (List Job)) (l : List Job) → map (λ t. t.promise.jobs.now) hs ≡ ls → h.promise.jobs.now ≡ l
-    → map (λ t. t.promise.jobs.now) (hs ++ h ∷ []) ≡ ls ++ l ∷ []
-promised_more hs h ls l old is = map-append (λ (t : PromisedHandle (Unit {0}) Share). t.promise.jobs.now) hs (h ∷ []) ∙ (λ j. old j ++ is j ∷ [])
+pub promised_more : (hs : List Handle) (h : Handle) (ls : List (List Job)) (l : List Job) → map (λ t. t.promise.jobs.now) hs ≡ ls → h.promise.jobs.now ≡ l → map (λ t. t.promise.jobs.now) (hs ++ h ∷ []) ≡ ls ++ l ∷ []
+promised_more hs h ls l old is = map-append (λ (t : Handle). t.promise.jobs.now) hs (h ∷ []) ∙ (λ j. old j ++ is j ∷ [])
 
--- the jobs of the tasks, of which one more was made
-pub tasks_more : {T : Type 0} (f : T → Job) (js : List Job) (i : ℕ) (ts : List T) (t : T) → map f ts ≡ take i js → i < length js → f t ≡ get_or js i (f t) → map f (ts ++ t ∷ []) ≡ take (i + 1) js
-tasks_more f js i ts t old below here = map-append f ts (t ∷ []) ∙ (λ j. old j ++ here j ∷ []) ∙ sym (ap (λ k. take k js) (add-one i) ∙ take-suc js i (f t) below)
+pub of_hall_more : (hall : HallView) (hs : List Handle) (h : Handle) → AreOfHall hall hs → h.promise.hall.now ≡ hall → AreOfHall hall (hs ++ h ∷ [])
+of_hall_more hall [] h old is = (is, tt)
+of_hall_more hall (k ∷ ks) h old is = (old.0, of_hall_more hall ks h old.1 is)
+
+-- the tasks, of which one more was made
+pub tasks_more : (hall : HallView) (js : List Job) (i : ℕ) (ts : List TaskView) (t : TaskView) → map kept_of ts ≡ map (λ j. (j, hall)) (take i js) → i < length js → t.job ≡ get_or js i t.job → t.hall ≡ hall
+    → map kept_of (ts ++ t ∷ []) ≡ map (λ j. (j, hall)) (take (i + 1) js)
+tasks_more hall js i ts t old below here of =
+    let one : Job → Job × HallView = λ j. (j, hall) in
+    let more : take (i + 1) js ≡ take i js ++ get_or js i t.job ∷ [] = ap (λ k. take k js) (add-one i) ∙ take-suc js i t.job below in
+    map-append kept_of ts (t ∷ []) ∙ (λ x. old x ++ (here x, of x) ∷ []) ∙ sym (ap (map one) more ∙ map-append one (take i js) (get_or js i t.job ∷ []))

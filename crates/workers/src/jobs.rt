@@ -136,14 +136,22 @@ impl<'a> Worker<'a> {
         }
     }
 
+    /// The seat of the worker.
+    pub(crate) fn into_seat(self) -> WorkSeat
+        ensures { result ≡ self.entry.seat }
+    {
+        self.seat
+    }
+
     /// One turn. None where the run is over.
     fn attempt<G: Gate>(&mut self, event: WorkEvent, turns: &mut Turns<'_, G>) -> Option<Tried>
         requires { IsSeatOf self.old.hall.now self.old.seat }
         ensures seat { IsSeatOf self.new.hall.now self.new.seat }
+        ensures hall { self.new.hall.now ≡ self.old.hall.now }
         ensures limit { turns.new.limit ≡ turns.old.limit }
         ensures turn { IfSome result (λ _. (turns.old.done < turns.new.done) × (turns.new.done ≤ turns.new.limit)) }
     {
-        if !turns.call() {
+        if turns.is_over() || turns.call().is_err() {
             return None;
         }
         match self.hall.pump(&mut self.seat, event) {
@@ -162,6 +170,7 @@ impl<'a> Worker<'a> {
     fn deliver_dllp<G: Gate>(&mut self, name: LaneName, turns: &mut Turns<'_, G>) -> Option<()>
         requires { IsSeatOf self.old.hall.now self.old.seat }
         ensures seat { IsSeatOf self.new.hall.now self.new.seat }
+        ensures hall { self.new.hall.now ≡ self.old.hall.now }
         ensures limit { turns.new.limit ≡ turns.old.limit }
         ensures turn { IfSome result (λ _. (turns.old.done < turns.new.done) × (turns.new.done ≤ turns.new.limit)) }
     {
@@ -178,6 +187,7 @@ impl<'a> Worker<'a> {
     fn send<G: Gate>(&mut self, name: LaneName, turns: &mut Turns<'_, G>) -> Option<bool>
         requires { IsSeatOf self.old.hall.now self.old.seat }
         ensures seat { IsSeatOf self.new.hall.now self.new.seat }
+        ensures hall { self.new.hall.now ≡ self.old.hall.now }
         ensures limit { turns.new.limit ≡ turns.old.limit }
         ensures turn { IfSome result (λ _. (turns.old.done < turns.new.done) × (turns.new.done ≤ turns.new.limit)) }
     {
@@ -194,6 +204,7 @@ impl<'a> Worker<'a> {
     fn receive<G: Gate>(&mut self, name: LaneName, turns: &mut Turns<'_, G>) -> Option<Went>
         requires { IsSeatOf self.old.hall.now self.old.seat }
         ensures seat { IsSeatOf self.new.hall.now self.new.seat }
+        ensures hall { self.new.hall.now ≡ self.old.hall.now }
         ensures limit { turns.new.limit ≡ turns.old.limit }
         ensures turn { IfSome result (λ _. (turns.old.done < turns.new.done) × (turns.new.done ≤ turns.new.limit)) }
     {
@@ -226,6 +237,7 @@ impl<'a> Worker<'a> {
     fn forward<G: Gate>(&mut self, name: LaneName, turns: &mut Turns<'_, G>) -> Option<bool>
         requires { IsSeatOf self.old.hall.now self.old.seat }
         ensures seat { IsSeatOf self.new.hall.now self.new.seat }
+        ensures hall { self.new.hall.now ≡ self.old.hall.now }
         ensures limit { turns.new.limit ≡ turns.old.limit }
         ensures turn { IfSome result (λ _. (turns.old.done < turns.new.done) × (turns.new.done ≤ turns.new.limit)) }
     {
@@ -240,6 +252,7 @@ impl<'a> Worker<'a> {
     fn switch<G: Gate>(&mut self, turns: &mut Turns<'_, G>) -> Option<bool>
         requires { IsSeatOf self.old.hall.now self.old.seat }
         ensures seat { IsSeatOf self.new.hall.now self.new.seat }
+        ensures hall { self.new.hall.now ≡ self.old.hall.now }
         ensures limit { turns.new.limit ≡ turns.old.limit }
         ensures turn { IfSome result (λ _. (turns.old.done < turns.new.done) × (turns.new.done ≤ turns.new.limit)) }
     {
@@ -255,6 +268,7 @@ impl<'a> Worker<'a> {
     fn complete<G: Gate>(&mut self, turns: &mut Turns<'_, G>) -> Option<bool>
         requires { IsSeatOf self.old.hall.now self.old.seat }
         ensures seat { IsSeatOf self.new.hall.now self.new.seat }
+        ensures hall { self.new.hall.now ≡ self.old.hall.now }
         ensures limit { turns.new.limit ≡ turns.old.limit }
         ensures turn { IfSome result (λ _. (turns.old.done < turns.new.done) × (turns.new.done ≤ turns.new.limit)) }
     {
@@ -269,6 +283,7 @@ impl<'a> Worker<'a> {
     pub(crate) fn round<G: Gate>(&mut self, job: Job, turns: &mut Turns<'_, G>) -> Option<Went>
         requires { IsSeatOf self.old.hall.now self.old.seat }
         ensures seat { IsSeatOf self.new.hall.now self.new.seat }
+        ensures hall { self.new.hall.now ≡ self.old.hall.now }
         ensures limit { turns.new.limit ≡ turns.old.limit }
         ensures turn { IfSome result (λ _. (turns.old.done < turns.new.done) × (turns.new.done ≤ turns.new.limit)) }
     {

@@ -1,25 +1,26 @@
 //! A run from its plan to its report.
-ghost use Rattle.std.specs.Prelude.{◌≡◌, ◌+◌, ◌<◌, [], IfOk, IfErr, IsTrue, vec_len, length, map};
+ghost use Rattle.std.specs.Prelude.{◌≡◌, ◌+◌, ◌<◌, [], IfOk, IfErr, length, map};
 ghost use Rattle.history_check.specs.Claim.{claim_of};
 ghost use Rattle.history_check.specs.Trace.{Explains};
 ghost use Rattle.hall_laws.specs.Rule.{HasConfig};
 ghost use Rattle.worker_report.specs.Halts.{IsPlan, IsOfMemory, IsCause};
+ghost use Rattle.worker_report.specs.OneRun.{IsGathered, IsRunOf};
 ghost use Rattle.workers.specs.Jobs.{jobs_of};
-ghost use Rattle.workers.specs.Running.{AreSeats, AreDone};
+ghost use Rattle.workers.specs.Running.{AreDone};
 ghost use Rattle.workers.specs.Crews.{IsCrewOf};
 
 use crate::context::{Crew, RunContext};
 use crate::shares::shares_of;
-use crate::threads::{Gathered, drive};
+use crate::threads::drive;
 use hall_core::Hall;
 use recorder::Recorder;
-use std::alloc::{AllocError, Global};
+use std::alloc::Global;
 use std::sync::Wait;
 use std::sync::atomic::AtomicU64;
 use std::thread;
 use std::thread::Threads;
-use worker_report::{Report, RunHalt, RunPlan, fabric_of, report_of};
-use worker_turns::{Gate, Shared};
+use worker_report::{Gathered, Report, RunHalt, RunPlan, fabric_of, report_of};
+use worker_turns::{Gate, Shared, Stop};
 
 /// Runs all threads, each joined at the return.
 fn run_threads<R: Threads + Wait + Sync, G: Gate + Sync>(
@@ -28,18 +29,18 @@ fn run_threads<R: Threads + Wait + Sync, G: Gate + Sync>(
     gate: &G,
     answered: &AtomicU64,
     crew: Crew,
-) -> Result<Gathered, AllocError>
+) -> Result<Gathered, Stop>
     requires crew { IsCrewOf run.now crew }
-    ensures seats { IfOk result (λ g. (vec_len g.seats ≡ length run.now.plan.scripts.items) × AreSeats run.now.hall g.seats.items) }
-    ensures done { IfOk result (λ g. IsTrue g.whole → AreDone g.records.items 1 (map (λ s. s.items) run.now.plan.scripts.items)) }
+    ensures gathered { IfOk result (λ g. IsGathered run.now.hall g) }
+    ensures done { IfOk result (λ g. AreDone g.records.items 1 (map (λ s. s.items) run.now.plan.scripts.items)) }
 {
     thread::scope(
         thread::scope_env(),
         rt,
-        |scope| -> Result<Gathered, AllocError>
+        |scope| -> Result<Gathered, Stop>
             requires { IsCrewOf run.now crew }
-            ensures seats { IfOk result (λ g. (vec_len g.seats ≡ length run.entry.now.plan.scripts.items) × AreSeats run.entry.now.hall g.seats.items) }
-            ensures done { IfOk result (λ g. IsTrue g.whole → AreDone g.records.items 1 (map (λ s. s.items) run.entry.now.plan.scripts.items)) }
+            ensures gathered { IfOk result (λ g. IsGathered run.entry.now.hall g) }
+            ensures done { IfOk result (λ g. AreDone g.records.items 1 (map (λ s. s.items) run.entry.now.plan.scripts.items)) }
         { drive(scope, rt, run, gate, answered, crew) },
     )
 }
@@ -59,6 +60,7 @@ pub fn run_workers_counting<R: Threads + Wait + Sync, G: Gate + Sync>(
     gate: &G,
     answered: &AtomicU64,
 ) -> Result<Report, RunHalt>
+    ensures ran { IfOk result (λ r. IsRunOf plan.config r.trace.records r.fabric) }
     ensures checked { IfOk result (λ r. Explains (claim_of r.trace r.fabric.memory.entries)) }
     ensures done { IfOk result (λ r. AreDone r.trace.records 1 (map (λ s. s.items) plan.scripts.items)) }
     ensures memory { IfOk result (λ r. IsOfMemory plan.config r.trace) }
@@ -93,27 +95,23 @@ pub fn run_workers_counting<R: Threads + Wait + Sync, G: Gate + Sync>(
     if let Some(stop) = run.shared.stopped() {
         return Err(RunHalt::of(stop));
     }
-    let Ok(
-        Gathered {
-            mut seats,
-            records,
-            whole,
-        },
-    ) = gathered
-    else {
-        return Err(RunHalt::Memory);
-    };
-    report_of(alloc, config, run.hall, seats.remove(0), records, whole)
+    match gathered {
+        Ok(gathered) => report_of(alloc, run.hall, gathered),
+        Err(stop) => Err(RunHalt::of(stop)),
+    }
 }
 
-/// Runs the plan. A report's history explains its trace, the submissions of each requester in the trace
-/// are its script, each operation that isn't posted is answered, and no record is of anyone else.
+/// Runs the plan. A report's records are those of one run of the plan's fabric: one list of calls of the hall leads to the
+/// report's fabric, and has the records of each requester, each with the length that the history had. Its history explains
+/// its trace, the submissions of each requester in the trace are its script, each operation that isn't posted is answered,
+/// and no record is of anyone else. No halt is `Flaw` or `Missing`.
 pub fn run_workers<R: Threads + Wait + Sync, G: Gate + Sync>(
     rt: &R,
     alloc: Global,
     plan: RunPlan,
     gate: &G,
 ) -> Result<Report, RunHalt>
+    ensures ran { IfOk result (λ r. IsRunOf plan.config r.trace.records r.fabric) }
     ensures checked { IfOk result (λ r. Explains (claim_of r.trace r.fabric.memory.entries)) }
     ensures done { IfOk result (λ r. AreDone r.trace.records 1 (map (λ s. s.items) plan.scripts.items)) }
     ensures memory { IfOk result (λ r. IsOfMemory plan.config r.trace) }

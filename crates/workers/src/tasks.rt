@@ -1,9 +1,10 @@
 //! The work of a thread: the rounds of the workers that share it, one after the other.
-ghost use Rattle.std.specs.Prelude.{◌≡◌, ◌<◌, zero, IfSome, IfNone};
+ghost use Rattle.std.specs.Prelude.{◌≡◌, ◌<◌, zero, IfSome, IfNone, map};
 ghost use Rattle.hall_core.specs.Views.{IsSeatOf};
-ghost use Rattle.workers.specs.Tasks.{turns_left};
+ghost use Rattle.workers.specs.Tasks.{turns_left, kept_of};
 
 use crate::jobs::{Job, Went, Worker};
+use hall_core::WorkSeat;
 use std::marker::Model;
 use std::thread;
 use worker_turns::{Gate, Turns};
@@ -25,7 +26,7 @@ impl<'a, G> Model for Task<'a, G> {
 
     ghost Value = { TaskView };
 
-    ghost view = { λ t. record { job = t.job; left = cond t.is_over 0 (suc (t.turns.limit - t.turns.done)) } };
+    ghost view = { λ t. record { job = t.job; hall = t.worker.hall.now; left = cond t.is_over 0 (suc (t.turns.limit - t.turns.done)) } };
 
     ghost invariant = { λ t. IsSeatOf t.worker.hall.now t.worker.seat };
 }
@@ -34,7 +35,7 @@ impl<'a, G: Gate> Task<'a, G> {
     /// The worker has done nothing at its job yet.
     pub fn new(worker: Worker<'a>, job: Job, turns: Turns<'a, G>) -> Task<'a, G>
         requires { IsSeatOf worker.hall.now worker.seat }
-        ensures { result.job ≡ job }
+        ensures { (result.job ≡ job) × (result.hall ≡ worker.entry.hall.now) }
     {
         Task {
             worker,
@@ -44,9 +45,17 @@ impl<'a, G: Gate> Task<'a, G> {
         }
     }
 
+    /// The seat of the worker.
+    pub(crate) fn into_seat(self) -> WorkSeat
+        ensures { IsSeatOf self.entry.hall result }
+    {
+        self.worker.into_seat()
+    }
+
     /// A round: what became of it. None if it has ended, as it does with the run.
     fn round(&mut self) -> Option<Went>
         ensures job { self.new.job ≡ self.old.job }
+        ensures hall { self.new.hall ≡ self.old.hall }
         ensures turn { IfSome result (λ _. self.new.left < self.old.left) }
         ensures ended { IfNone result (self.new.left ≡ zero) }
     {
@@ -62,6 +71,7 @@ impl<'a, G: Gate> Task<'a, G> {
     /// lost the replay timer expires before the sender, if it shares the thread, sends the packets behind that one.
     fn rounds(&mut self) -> Option<bool>
         ensures job { self.new.job ≡ self.old.job }
+        ensures hall { self.new.hall ≡ self.old.hall }
         ensures turn { IfSome result (λ _. self.new.left < self.old.left) }
         ensures ended { IfNone result (self.new.left ≡ zero) }
     {
@@ -78,7 +88,8 @@ impl<'a, G: Gate> Task<'a, G> {
 
 /// A round of each, and those due at once: whether one got on. None if each has ended.
 fn all_round<G: Gate>(tasks: &mut [Task<'_, G>]) -> Option<bool>
-    ensures { IfSome result (λ _. turns_left tasks.new < turns_left tasks.old) }
+    ensures turns { IfSome result (λ _. turns_left tasks.new < turns_left tasks.old) }
+    ensures same { map kept_of tasks.new ≡ map kept_of tasks.old }
 {
     let mut went = None;
     for task in tasks.iter_mut() {
@@ -89,8 +100,10 @@ fn all_round<G: Gate>(tasks: &mut [Task<'_, G>]) -> Option<bool>
     went
 }
 
-/// Rounds of each until each has ended. Each call of the hall is one of its worker's turns. The seats are spent.
-pub fn work<G: Gate>(tasks: &mut [Task<'_, G>]) {
+/// Rounds of each until each has ended. Each call of the hall is one of its worker's turns.
+pub fn work<G: Gate>(tasks: &mut [Task<'_, G>])
+    ensures { map kept_of tasks.new ≡ map kept_of tasks.old }
+{
     while let Some(did) = all_round(tasks) {
         if !did {
             thread::yield_now();

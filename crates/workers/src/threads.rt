@@ -1,10 +1,12 @@
 //! The threads of a run: one for each requester, and one for each share of the other jobs. Each is joined at its end.
-ghost use Rattle.std.specs.Prelude.{◌≡◌, ⊤, ◌+◌, ◌-◌, ◌<◌, ◌≤◌, [], ◌++◌, IfOk, OnOk, IsTrue, vec_len, length, map};
+ghost use Rattle.std.specs.Prelude.{◌≡◌, ◌+◌, ◌-◌, ◌<◌, ◌≤◌, [], ◌++◌, suc, IfOk, OnOk, IfNone, vec_len, length, map};
 ghost use Rattle.recorder.specs.Rule.{unbegun, IsWhole};
 ghost use Rattle.hall_core.specs.Views.{IsSeatOf};
 ghost use Rattle.worker_requester.specs.Following.{IsUnusedSeat, Follows, Finishes};
 ghost use Rattle.workers.specs.Jobs.{jobs_of, AreShares};
-ghost use Rattle.workers.specs.Running.{AreUnusedSeats, AreSeats, AreHandles, AreFinished, AreDone, AreWorkSeats};
+ghost use Rattle.worker_report.specs.OneRun.{IsGathered};
+ghost use Rattle.workers.specs.Running.{AreUnusedSeats, AreSeats, AreHandles, AreFinished, AreRecorded, AreDone, AreWorkSeats, AreOfHall};
+ghost use Rattle.workers.specs.Tasks.{AreTasks, AreWorkersOf, kept_of};
 ghost use Rattle.workers.specs.Crews.{IsCrewOf};
 
 use crate::context::{Crew, RunContext};
@@ -19,6 +21,7 @@ use std::sync::atomic::{AtomicU64, Ordering};
 use std::thread;
 use std::thread::{Promise, PromisedHandle, Scope, Threads};
 use tlp_core::Op;
+use worker_report::Gathered;
 use worker_requester::{Ended, Requester};
 use worker_turns::{Gate, Shared, Stop, Turns};
 
@@ -33,9 +36,9 @@ pub struct Keeps<'a> {
 
 impl<'a> Promise<Ended> for Keeps<'a> {
     ghost use Rattle.worker_requester.specs.Following.{Finishes};
-    ghost use Rattle.std.specs.Prelude.{◌≡◌, IsTrue};
+    ghost use Rattle.std.specs.Prelude.{◌≡◌, suc, IfNone};
 
-    ghost kept_by = { λ p r. IsSeatOf p.hall.now r.seat × (r.pusher.queue ≡ p.recorder.now) × (r.pusher.pushed.requester ≡ p.requester) × (IsTrue r.whole → Finishes p.script.now r.pusher.pushed) };
+    ghost kept_by = { λ p r. IsSeatOf p.hall.now r.seat × (suc r.seat.knows.number ≡ p.requester) × (r.pusher.queue ≡ p.recorder.now) × (r.pusher.pushed.requester ≡ p.requester) × IfNone r.stop (Finishes p.script.now r.pusher.pushed × (r.pusher.pushed.records ≡ r.seat.knows.records)) };
 }
 
 /// What a requester's thread does.
@@ -46,9 +49,10 @@ fn one<G: Gate>(
     requesters: u8,
 ) -> Ended
     requires { Follows requester }
-    ensures seat { IsSeatOf requester.entry.hall.now result.seat }
+    ensures seat { IsSeatOf requester.entry.hall.now result.seat × (suc result.seat.knows.number ≡ requester.entry.number) }
     ensures pusher { (result.pusher.queue ≡ requester.entry.recorder.now) × (result.pusher.pushed.requester ≡ requester.entry.number) }
-    ensures whole { IsTrue result.whole → Finishes requester.entry.script.now result.pusher.pushed }
+    ensures whole { IfNone result.stop (Finishes requester.entry.script.now result.pusher.pushed) }
+    ensures recorded { IfNone result.stop (result.pusher.pushed.records ≡ result.seat.knows.records) }
 {
     let ended = requester.run(&mut turns);
     shared.end_one(requesters);
@@ -120,20 +124,26 @@ fn start_all<'s, E, G: Gate + Sync>(
     Ok(handles)
 }
 
-/// The jobs of a thread that is started.
+/// The jobs of a thread that is started, and the hall of its workers.
 #[derive(Clone, Copy)]
 pub struct Share<'a> {
+    hall: &'a Hall,
     jobs: &'a [Job],
 }
 
-impl<'a> Promise<()> for Share<'a> {
-    ghost kept_by = { λ _ _. ⊤ };
+impl<'a, G> Promise<Vec<Task<'a, G>>> for Share<'a> {
+    ghost use Rattle.workers.specs.Tasks.{AreTasks};
+
+    ghost kept_by = { λ p r. AreTasks p.hall.now p.jobs.now r.items };
 }
+
+/// The threads of the shares, which end with their workers.
+type Others<'s, G> = Vec<PromisedHandle<Vec<Task<'s, G>>, Share<'s>>>;
 
 /// The job as a task, with the seat.
 fn task_of<'s, G: Gate>(run: &'s RunContext, gate: &'s G, job: Job, seat: WorkSeat) -> Task<'s, G>
     requires { IsSeatOf run.now.hall seat }
-    ensures { result.job ≡ job }
+    ensures { (result.job ≡ job) × (result.hall ≡ run.now.hall) }
 {
     let worker = Worker::new(&run.hall, seat, run.plan.plan, run.plan.config.requesters);
     let turns = Turns::new(job.number(), run.plan.turns, gate, &run.shared);
@@ -148,7 +158,7 @@ fn tasks_of<'s, G: Gate>(
     seats: &mut Vec<WorkSeat>,
 ) -> Result<Vec<Task<'s, G>>, AllocError>
     requires { AreWorkSeats run.now.hall seats.old.items × (length jobs.now ≤ vec_len seats.old) }
-    ensures jobs { IfOk result (λ v. map (λ t. t.job) v.items ≡ jobs.now) }
+    ensures tasks { IfOk result (λ v. AreTasks run.now.hall jobs.now v.items) }
     ensures seats { OnOk result (AreWorkSeats run.now.hall seats.new.items × (vec_len seats.new + length jobs.now ≡ vec_len seats.old)) }
 {
     let mut tasks = Vec::with_capacity(run.alloc, jobs.len())?;
@@ -160,17 +170,20 @@ fn tasks_of<'s, G: Gate>(
 }
 
 /// What the thread of a share does.
-fn one_work<G: Gate>(mut tasks: Vec<Task<'_, G>>) {
+fn one_work<'s, G: Gate>(mut tasks: Vec<Task<'s, G>>) -> Vec<Task<'s, G>>
+    ensures { map kept_of result.items ≡ map kept_of tasks.entry.items }
+{
     work(tasks.as_mut_slice());
+    tasks
 }
 
-/// Starts the thread of a share. It is joined with the scope.
+/// Starts the thread of a share.
 fn start_work<'s, E, G: Gate + Sync>(
     scope: &Scope<'s, E>,
     share: Share<'s>,
     tasks: Vec<Task<'s, G>>,
-) -> Result<PromisedHandle<(), Share<'s>>, AllocError>
-    requires { map (λ t. t.job) tasks.items ≡ share.jobs.now }
+) -> Result<PromisedHandle<Vec<Task<'s, G>>, Share<'s>>, AllocError>
+    requires { AreTasks share.hall.now share.jobs.now tasks.items }
     ensures { IfOk result (λ h. h.promise ≡ share.entry) }
 {
     let handle = scope.spawn_with(share, move || one_work(tasks))?;
@@ -183,14 +196,16 @@ fn start_others<'s, E, G: Gate + Sync>(
     run: &'s RunContext,
     gate: &'s G,
     mut seats: Vec<WorkSeat>,
-) -> Result<Vec<PromisedHandle<(), Share<'s>>>, AllocError>
+) -> Result<Others<'s, G>, AllocError>
     requires shares { AreShares run.now.plan.config.requesters run.now.plan.threads (map (λ s. s.items) run.now.shares.items) }
     requires seats { (vec_len seats ≡ length (jobs_of run.now.plan.config.requesters)) × AreWorkSeats run.now.hall seats.items }
-    ensures { IfOk result (λ v. AreShares run.now.plan.config.requesters run.now.plan.threads (map (λ h. h.promise.jobs.now) v.items)) }
+    ensures shares { IfOk result (λ v. AreShares run.now.plan.config.requesters run.now.plan.threads (map (λ h. h.promise.jobs.now) v.items)) }
+    ensures hall { IfOk result (λ v. AreOfHall run.now.hall v.items) }
 {
     let mut handles = Vec::with_capacity(run.alloc, run.shares.len())?;
     for jobs in &run.shares {
         let share = Share {
+            hall: &run.hall,
             jobs: jobs.as_slice(),
         };
         let tasks = tasks_of(run, gate, share.jobs, &mut seats)?;
@@ -200,7 +215,7 @@ fn start_others<'s, E, G: Gate + Sync>(
     Ok(handles)
 }
 
-/// Starts all threads. Those of the requesters are joined by their handles, the others with the scope.
+/// Starts all threads: those of the requesters, and the others.
 fn start_crew<'s, E, G: Gate + Sync>(
     scope: &Scope<'s, E>,
     run: &'s RunContext,
@@ -208,7 +223,7 @@ fn start_crew<'s, E, G: Gate + Sync>(
     seats: Vec<ReqSeat>,
     workers: Vec<WorkSeat>,
     taker: &mut Taker,
-) -> Result<Vec<PromisedHandle<Ended, Keeps<'s>>>, AllocError>
+) -> Result<(Vec<PromisedHandle<Ended, Keeps<'s>>>, Others<'s, G>), AllocError>
     requires shares { AreShares run.now.plan.config.requesters run.now.plan.threads (map (λ s. s.items) run.now.shares.items) }
     requires seats { (vec_len seats ≡ length run.now.plan.scripts.items) × (length run.now.plan.scripts.items < 8) × AreUnusedSeats run.now.hall 1 seats.items }
     requires workers { (vec_len workers ≡ length (jobs_of run.now.plan.config.requesters)) × AreWorkSeats run.now.hall workers.items }
@@ -216,10 +231,12 @@ fn start_crew<'s, E, G: Gate + Sync>(
     ensures taker { taker.new.queue ≡ taker.old.queue }
     ensures records { taker.new.taken.records ≡ taker.old.taken.records }
     ensures known { OnOk result (taker.new.taken.known ≡ unbegun (7 - length run.now.plan.scripts.items) (length run.now.plan.scripts.items + 1)) }
-    ensures handles { IfOk result (λ v. AreHandles run.now.hall run.now.recorder 1 (map (λ s. s.items) run.now.plan.scripts.items) v.items) }
+    ensures handles { IfOk result (λ r. AreHandles run.now.hall run.now.recorder 1 (map (λ s. s.items) run.now.plan.scripts.items) r.0.items) }
+    ensures others { IfOk result (λ r. AreShares run.now.plan.config.requesters run.now.plan.threads (map (λ h. h.promise.jobs.now) r.1.items) × AreOfHall run.now.hall r.1.items) }
 {
-    drop(start_others(scope, run, gate, workers)?);
-    start_all(scope, run, gate, seats, taker)
+    let others = start_others(scope, run, gate, workers)?;
+    let handles = start_all(scope, run, gate, seats, taker)?;
+    Ok((handles, others))
 }
 
 /// How many of the records from that place on are answers.
@@ -265,46 +282,74 @@ fn take_all<R: Wait>(
     Ok(())
 }
 
-/// Joins the requesters. Their passes go to the checker.
+/// Joins the requesters, whose passes go to the checker. The error is why one of them ended before it was done.
 fn join_all<R: Threads>(
     rt: &R,
     run: &RunContext,
     taker: &mut Taker,
     mut handles: Vec<PromisedHandle<Ended, Keeps<'_>>>,
-) -> Result<(Vec<ReqSeat>, bool), AllocError>
+) -> Result<Vec<ReqSeat>, Stop>
     requires taker { taker.old.queue ≡ run.now.recorder }
     requires handles { AreHandles run.now.hall run.now.recorder 1 (map (λ s. s.items) run.now.plan.scripts.items) handles.items }
     ensures taker { taker.new.queue ≡ taker.old.queue }
     ensures records { taker.new.taken.records ≡ taker.old.taken.records }
-    ensures seats { IfOk result (λ r. (vec_len r.0 ≡ length run.now.plan.scripts.items) × AreSeats run.now.hall r.0.items) }
-    ensures known { IfOk result (λ r. IsTrue r.1 → (told : _) × (taker.new.taken.known ≡ taker.old.taken.known ++ told) × AreFinished 1 (map (λ s. s.items) run.now.plan.scripts.items) told) }
+    ensures seats { IfOk result (λ v. (vec_len v ≡ length run.now.plan.scripts.items) × AreSeats run.now.hall v.items) }
+    ensures known { IfOk result (λ v. (told : _) × (taker.new.taken.known ≡ taker.old.taken.known ++ told) × AreFinished 1 (map (λ s. s.items) run.now.plan.scripts.items) told × AreRecorded 1 v.items told) }
 {
-    let mut seats = Vec::with_capacity(run.alloc, run.plan.scripts.len())?;
-    let mut whole = true;
+    let Ok(mut seats) = Vec::with_capacity(run.alloc, run.plan.scripts.len()) else {
+        return Err(Stop::Memory);
+    };
     for _script in &run.plan.scripts {
         let handle = handles.remove(0);
-        let Ended {
-            seat,
-            pusher,
-            whole: all,
-        } = handle.join(rt);
+        let Ended { seat, pusher, stop } = handle.join(rt);
+        if let Some(stop) = stop {
+            return Err(stop);
+        }
         run.recorder.end(taker, pusher);
-        seats.push(seat)?;
-        whole = whole && all;
+        let Ok(()) = seats.push(seat) else {
+            return Err(Stop::Memory);
+        };
     }
-    Ok((seats, whole))
+    Ok(seats)
 }
 
-/// What the threads of a run leave.
-#[derive(Drop)]
-pub struct Gathered {
-    pub seats: Vec<ReqSeat>,
-    pub records: Vec<Record>,
-    /// Whether each requester did all of its script.
-    pub whole: bool,
+/// The seats of the workers join the others.
+fn give_back<G: Gate>(
+    mut tasks: Vec<Task<'_, G>>,
+    seats: &mut Vec<WorkSeat>,
+) -> Result<(), AllocError>
+    ensures count { OnOk result (vec_len seats.new ≡ vec_len seats.old + vec_len tasks.entry) }
+    ensures seats { OnOk result ((hall : _) → AreWorkersOf hall tasks.entry.items → AreSeats hall seats.old.items → AreSeats hall seats.new.items) }
+{
+    let count = tasks.len();
+    for _task in 0..count {
+        let task = tasks.remove(0);
+        seats.push(task.into_seat())?;
+    }
+    Ok(())
 }
 
-/// The checker's part of a run: it starts all others, takes their records, and joins them.
+/// Joins the threads of the shares, once the run is over: the seats of their workers.
+fn join_others<R: Threads, G: Gate>(
+    rt: &R,
+    run: &RunContext,
+    mut handles: Others<'_, G>,
+) -> Result<Vec<WorkSeat>, AllocError>
+    requires shares { AreShares run.now.plan.config.requesters run.now.plan.threads (map (λ h. h.promise.jobs.now) handles.items) }
+    requires hall { AreOfHall run.now.hall handles.items }
+    ensures { IfOk result (λ v. (vec_len v ≡ length (jobs_of run.now.plan.config.requesters)) × AreSeats run.now.hall v.items) }
+{
+    let mut seats = Vec::new(run.alloc);
+    let count = handles.len();
+    for _share in 0..count {
+        let handle = handles.remove(0);
+        give_back(handle.join(rt), &mut seats)?;
+    }
+    Ok(seats)
+}
+
+/// The checker's part of a run: it starts all others, takes their records, and joins them. The error is why the run ended
+/// before all was done.
 pub fn drive<'s, E, R: Threads + Wait, G: Gate + Sync>(
     scope: &Scope<'s, E>,
     rt: &R,
@@ -312,10 +357,10 @@ pub fn drive<'s, E, R: Threads + Wait, G: Gate + Sync>(
     gate: &'s G,
     answered: &AtomicU64,
     crew: Crew,
-) -> Result<Gathered, AllocError>
+) -> Result<Gathered, Stop>
     requires { IsCrewOf run.now crew }
-    ensures seats { IfOk result (λ g. (vec_len g.seats ≡ length run.now.plan.scripts.items) × AreSeats run.now.hall g.seats.items) }
-    ensures done { IfOk result (λ g. IsTrue g.whole → AreDone g.records.items 1 (map (λ s. s.items) run.now.plan.scripts.items)) }
+    ensures gathered { IfOk result (λ g. IsGathered run.now.hall g) }
+    ensures done { IfOk result (λ g. AreDone g.records.items 1 (map (λ s. s.items) run.now.plan.scripts.items)) }
 {
     let Crew {
         seats,
@@ -323,23 +368,25 @@ pub fn drive<'s, E, R: Threads + Wait, G: Gate + Sync>(
         mut taker,
     } = crew;
     let mut records = Vec::new(run.alloc);
-    let handles = match start_crew(scope, run, gate, seats, workers, &mut taker) {
-        Ok(handles) => handles,
-        Err(refused) => {
-            run.shared.stop(Stop::Memory);
-            return Err(refused);
-        }
+    let Ok((handles, others)) = start_crew(scope, run, gate, seats, workers, &mut taker) else {
+        run.shared.stop(Stop::Memory);
+        return Err(Stop::Memory);
     };
     let taken = take_all(rt, run, answered, &mut taker, &mut records);
     if taken.is_err() {
         run.shared.stop(Stop::Memory);
     }
-    let (seats, whole) = join_all(rt, run, &mut taker, handles)?;
+    let requesters = join_all(rt, run, &mut taker, handles)?;
     // What came in between the last look and the end of the requesters.
-    take_all(rt, run, answered, &mut taker, &mut records)?;
+    let Ok(()) = take_all(rt, run, answered, &mut taker, &mut records) else {
+        return Err(Stop::Memory);
+    };
+    let Ok(work) = join_others(rt, run, others) else {
+        return Err(Stop::Memory);
+    };
     Ok(Gathered {
-        seats,
+        requesters,
+        work,
         records,
-        whole,
     })
 }

@@ -1,5 +1,4 @@
-use Rattle.std.proofs.Common.{sym, subst, rules, arith}
-use Rattle.worker_report.specs.Halts.{IsCause}
+use Rattle.std.proofs.Common.{◌+◌, ◌∙◌, ap, rules, arith}
 use Rattle.workers.proofs.Beginning.{first_seats, work_seats, stopped}
 use Rattle.workers.proofs.running.run_workers_counting.Goals as goal
 
@@ -16,6 +15,9 @@ run_threads-gathered-requires-clause-crew g c κs within =
     record {
       count = omega (arith, c.in-Ok-new.seats.ok.0);
       few = omega arith;
+      requesters = omega arith;
+      some = let least = plan.0.requesters.0 in omega arith;
+      all = c.in-Ok-new.ensures.seats ∙ ap (λ n. c.in-Ok-new.hall.config.requesters + n) c.workers_of.ensures;
       seats = first_seats c.in-Ok-new.hall c.in-Ok-new.seats.items c.in-Ok-new.ensures.requesters;
       shares = c.in-Ok.ensures;
       others = omega (arith, c.in-Ok-new.workers.ok.0, c.in-Ok-new.ensures.work.number, c.workers_of.ensures);
@@ -26,4 +28,7 @@ run_threads-gathered-requires-clause-crew g c κs within =
     }
 
 pub returns-in-Some-clause-halt : goal.returns-in-Some-clause-halt
-returns-in-Some-clause-halt g c = subst (λ h. IsCause c.args.plan h) (sym c.of.ensures) (stopped c.args.plan c.in-Some.stop c.in_ok-fabric.ensures.ok.0)
+returns-in-Some-clause-halt g c = stopped c.args.plan c.in-Some.stop c.of.result c.in_ok-fabric.ensures.ok.0 c.of.ensures
+
+pub returns-in-Err-clause-halt : goal.returns-in-Err-clause-halt
+returns-in-Err-clause-halt g c = stopped c.args.plan c.in-Err.stop c.of-in-Err.result c.in_ok-fabric.ensures.ok.0 c.of-in-Err.ensures

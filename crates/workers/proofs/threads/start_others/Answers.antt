@@ -1,6 +1,7 @@
 use Rattle.std.proofs.Common.{◌≡◌, ◌<◌, ◌∙◌, List, length, get_or, map, take, sym, ap, subst, arith}
 use Rattle.workers.specs.declared.threads.Share.{Share}
-use Rattle.workers.proofs.Starting.{jobs_in, next_share, next_count, next_fits, promised_more}
+use Rattle.workers.specs.Running.{AreOfHall}
+use Rattle.workers.proofs.Starting.{jobs_in, next_share, next_count, next_fits, promised_more, of_hall_more}
 use Rattle.workers.proofs.threads.start_others.Goals as goal
 
 pub tasks_of-requires : goal.tasks_of-requires
@@ -30,4 +31,6 @@ loop-jobs-preserved g c =
       ap (map (λ h. h.promise.jobs.now)) c.in_ok-push.ensures.items
           ∙ promised_more c.loop-jobs.handles.items c.in_ok-handle.handle (map jobs_in (take i shares)) v.items was.2 here
           ∙ sym (next_share shares i v within found),
+      subst (AreOfHall c.args.run.now.hall) (sym c.in_ok-push.ensures.items)
+          (of_hall_more c.args.run.now.hall c.loop-jobs.handles.items c.in_ok-handle.handle was.3 (ap (λ (s : Share). s.hall.now) c.in_ok-handle.ensures)),
     )

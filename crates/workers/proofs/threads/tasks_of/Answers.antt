@@ -1,6 +1,7 @@
 use Rattle.std.proofs.Common.{◌-◌, ◌∙◌, map, ap, sym, subst, vec_len, rules, arith}
 use Rattle.std.proofs.lemmas.List.Elements.{All-take}
 use Rattle.hall_core.specs.Views.{IsSeatOf}
+use Rattle.workers.specs.Tasks.{kept_of}
 use Rattle.workers.specs.Running.{AreWorkSeats}
 use Rattle.workers.proofs.Starting.{last_seat, tasks_more}
 use Rattle.workers.proofs.threads.tasks_of.Goals as goal
@@ -14,6 +15,6 @@ pub loop-job-preserved : goal.loop-job-preserved
 loop-job-preserved g c = (
   subst (AreWorkSeats c.args.run.now.hall) (sym c.pop.ensures.rest) (All-take (IsSeatOf c.args.run.now.hall) (vec_len c.loop-job.seats - 1) c.loop-job.seats.items c.loop-job.invariant.0),
   search rules,
-  ap (map (λ t. t.job)) c.in_ok-push.ensures.items
-      ∙ tasks_more (λ t. t.job) c.args.jobs.now c.loop-job.job-index c.loop-job.tasks.items c.task_of.result c.loop-job.invariant.2 c.loop-job-test.true (search rules),
+  ap (map kept_of) c.in_ok-push.ensures.items
+      ∙ tasks_more c.args.run.now.hall c.args.jobs.now c.loop-job.job-index c.loop-job.tasks.items c.task_of.result c.loop-job.invariant.2 c.loop-job-test.true (search rules) c.task_of.ensures.1,
 )
