@@ -10,7 +10,7 @@ import sys
 HERE = os.path.dirname(os.path.abspath(__file__))
 EXAMPLES = os.path.join(HERE, "..", "examples")
 
-# Each example's name, its subcommand and its file.
+# Each example's name, its subcommand with options, and its file.
 FILES = [
     ("An Ack is lost", "step", "lost_ack.txt"),
     ("A first script", "step", "first_script.txt"),
@@ -26,6 +26,8 @@ FILES = [
     ("Requests to a device", "tlp", "packets.txt"),
     ("Packets in digits", "decode", "packets.txt"),
     ("Packets in words", "encode", "words.txt"),
+    ("A root complex brings a device up", "endpoint --trace", "endpoint.txt"),
+    ("A root complex behind a link brings a device up", "endpoint --link --trace", "linked.txt"),
 ]
 
 
@@ -35,12 +37,13 @@ def read(name):
 
 def examples():
     made = []
-    for name, kind, file in FILES:
+    for name, words, file in FILES:
+        kind, _, options = words.partition(" ")
         found = glob.glob(os.path.join(EXAMPLES, file))
         if len(found) != 1:
             sys.exit(f"build.py: examples/{file} is {len(found)} files")
         text = open(found[0], encoding="utf-8").read()
-        made.append({"name": f"{name} ({kind})", "kind": kind, "options": "", "drawing": "", "text": text})
+        made.append({"name": f"{name} ({kind})", "kind": kind, "options": options, "drawing": "", "text": text})
     made.append({"name": "A random script (generate)", "kind": "generate", "options": "--seed 1 --events 100",
                  "drawing": "", "text": ""})
     return made

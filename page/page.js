@@ -12,6 +12,7 @@ const KINDS = {
     tlp: null,
     decode: null,
     encode: null,
+    endpoint: null,
     upgrade: null,
     generate: null,
 };

@@ -23,16 +23,17 @@ def cases(program):
     import compare
 
     made = []
-    for name, (files, choices, rate) in compare.inputs(program).items():
-        mutate = compare.Mutator("page " + name)
+    for words, (files, choices, rate) in compare.inputs(program).items():
+        name, *given = words.split()
+        mutate = compare.Mutator("page " + words)
         count = 0
         while count < 30:
             lines = compare.lines_of(mutate.random.choice(files))[:60]
             text = mutate.file(lines, rate)
             if text.isascii() and b"\r" not in text and b"\0" not in text:
                 count += 1
-                made.append({"kind": name, "options": " ".join(mutate.random.choice(choices)), "drawing": "",
-                             "text": text.decode()})
+                options = " ".join([*given, *mutate.random.choice(choices)])
+                made.append({"kind": name, "options": options, "drawing": "", "text": text.decode()})
     return [case for case in made if case["kind"] not in DRAWN.values()]
 
 

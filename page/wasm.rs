@@ -27,7 +27,7 @@ pub unsafe extern "C" fn run(words: *mut u8, words_length: usize, input: *mut u8
     PRINTED = (out.stream, errors);
     match outcome {
         Outcome::Ended(status) => u32::from(status),
-        Outcome::Run { .. } => 255,
+        Outcome::Run { .. } | Outcome::Sweep(_) => 255,
     }
 }
 

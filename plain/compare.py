@@ -137,6 +137,8 @@ def inputs(program):
         "upgrade": (traces + trace_files, [[]], 0.1),
         "step": (made + script_files, [[], ["--trace"], ["--keep-going", "--echo"], ["--keep-going"]], 0.1),
         "chart": (made + script_files, [[], ["--levels"], ["--brief"], ["--lane", "up1"]], 0.1),
+        "endpoint": (read("examples/endpoint.txt"), [[], ["--trace"], ["--size", "65536", "--id", "8086:0D93"]], 0.1),
+        "endpoint --link": (read("examples/linked.txt"), [[], ["--trace"], ["--crc"], ["--credits", "2,8,2,2"]], 0.1),
     }
 
 
@@ -158,12 +160,12 @@ def mutated(name, files, choices, rate, wanted):
         lines = lines_of(mutate.random.choice(files))
         if name in ("tlp", "decode", "encode"):
             lines = [mutate.random.choice(lines) for _ in range(2000)]
-        elif len(lines) > LONGEST:
+        elif len(lines) > LONGEST and not name.startswith("endpoint"):
             lines = lines[:LONGEST]
         text = mutate.file(lines, rate)
         count += text.count(b"\n")
         changed += lines_of(text) != lines
-        jobs.append(([name, *mutate.random.choice(choices)], text))
+        jobs.append(([*name.split(), *mutate.random.choice(choices)], text))
     return jobs, count, changed
 
 
@@ -179,6 +181,18 @@ def generated(wanted):
                 "--lose", str(r.randrange(6)), "--corrupt", str(r.randrange(6)), "--block", r.choice(["64", "128", "100"])]
         jobs.append((args, b""))
     return jobs, count
+
+
+def sweeps():
+    """Runs of sweep."""
+    r = random.Random("sweep")
+    jobs = []
+    for count in range(8):
+        first = r.randrange(2**63)
+        args = ["sweep", "--seeds", f"{first}..{first + 9}", "--events", r.choice(["1", "100", "1000"]), "--workers", r.choice(["1", "2", "5"])]
+        args += ["--requesters", str(r.randrange(1, 8)), "--lose", str(r.randrange(6)), "--corrupt", str(r.randrange(6))]
+        jobs.append((args + r.choice([[], ["--clocked"], ["--keep-going", "--block", "128"]]), b""))
+    return jobs
 
 
 def first_examples():
@@ -215,6 +229,8 @@ def main(words):
         compare(jobs, f"generate {count} in {len(jobs)} runs")
         jobs = [(["run", "--requesters", str(n), "--each", "30", "--lose", str(n + 1)], b"") for n in range(1, 8)]
         compare(jobs, f"run {len(jobs)} times")
+        jobs = sweeps()
+        compare(jobs, f"sweep {len(jobs)} times")
         jobs = first_examples()
         compare(jobs, f"examples/first {len(jobs)} files")
     print(f"compare: lines: {'; '.join(said)}: {'all alike' if not failed else f'{failed} differ'}")
