@@ -88,17 +88,18 @@ mkdir lib
         for crate in $crates; do
             printf ' lib/lib%s.rlib' "$crate"
         done
-        printf '\n\t@$(RUSTC) --crate-type rlib --crate-name %s' "$name"
+        printf '\n\t@$(RUSTC) --edition %s --crate-type rlib --crate-name %s' "$edition" "$name"
         for crate in $crates; do
             printf ' --extern %s=lib/lib%s.rlib' "$crate" "$crate"
         done
         printf ' %s/src/lib.rs --out-dir lib\n\n' "$name"
     done
     printf 'lib/pciex_page.wasm: lib/libkit.rlib lib/libcli_commands.rlib\n'
-    printf '\t@$(RUSTC) -C lto=fat -C strip=symbols --crate-type cdylib --crate-name pciex_page --extern kit=lib/libkit.rlib'
+    printf '\t@$(RUSTC) --edition 2021 -C lto=fat -C strip=symbols --crate-type cdylib --crate-name pciex_page'
+    printf ' --extern kit=lib/libkit.rlib'
     printf ' --extern cli_commands=lib/libcli_commands.rlib "%s/page/wasm.rs" -o lib/pciex_page.wasm\n' "$top"
 } > Makefile
-line="$rustc --edition $edition"
+line=$rustc
 for word in "$@"; do
     line="$line '$word'"
 done

@@ -12,10 +12,10 @@
 #     plain_rust.sh --check [PROGRAM]
 #
 # tries that the plain program is the same as the proved one, or PROGRAM: it builds the workspace without warnings, runs
-# its tests and the programs of docs/use-the-crates.md, runs the scripts that try a program over an optimized build, and
-# compares the two on 20,000 mutated lines for each subcommand, in a build with checks of sums at run time. Then it
-# compares the program with --crates-io, on fewer lines, where Debian's packages of these crates are installed. It needs
-# cargo, and says so if there is none.
+# its tests and the programs of docs/use-the-crates.md, builds page/wasm.rs, runs the scripts that try a program over an
+# optimized build, and compares the two on 20,000 mutated lines for each subcommand, in a build with checks of sums at run
+# time. Then it compares the program with --crates-io, on fewer lines, where Debian's packages of these crates are
+# installed. It needs cargo, and says so if there is none.
 set -eu
 unset CDPATH
 say() { echo "plain rust: $*"; }
@@ -90,6 +90,12 @@ for block in "$room"/block.*.rust; do
     tries env CARGO_TARGET_DIR="$room/out/target" cargo run --quiet
     examples=$((examples + 1))
 done
+# What the page has of the program, which only a rustc for WebAssembly links.
+mkdir "$room/page"
+printf '%s\n' '[package]' 'name = "page"' 'edition = "2021"' '[workspace]' '[lib]' "path = \"$top/page/wasm.rs\"" '[dependencies]' \
+    "kit.path = \"$room/out/kit\"" "cli_commands.path = \"$room/out/cli_commands\"" > "$room/page/Cargo.toml"
+cd "$room/page"
+tries env CARGO_TARGET_DIR="$room/out/target" cargo build --quiet
 plain=$room/out/target/release/pciex
 cd "$top"
 for script in pages built_program settles searches large_inputs; do
