@@ -6,6 +6,7 @@ use Rattle.history_check.specs.declared.Record.{Record}
 use Rattle.history_check.specs.declared.Record.TheVariants as records
 use Rattle.log_runs.specs.EventView.{EventView}
 use Rattle.log_runs.specs.EventView as events
+use Rattle.log_runs.specs.Tasks.{known}
 
 -- the place of the record that belongs together with the one there; its own place stands for none
 abbrev pub partner : List ℕ → ℕ → Option ℕ
@@ -18,7 +19,7 @@ pub record ArePartners (places : List ℕ) (rs : List Record) : Type 0 where
 
 -- the event says all that its record does, if that belongs together with the record at the other place
 pub record SaysAll (rs : List Record) (other : Option ℕ) (r : Record) (e : EventView) : Type 0 where
-  pub replied : (a i k n m : ℕ) (op : Op) (reply : Reply) → r ≡ records.Sub i k op n → other ≡ Some a → slice_get rs a ≡ Some (records.Ans i k reply m) → e ≡ events.Sub i op (Some reply)
+  pub replied : (a i k n m : ℕ) (op : Op) (reply : Reply) → r ≡ records.Sub i k op n → other ≡ Some a → slice_get rs a ≡ Some (records.Ans i k reply m) → e ≡ events.Sub i op (known reply)
   pub due : (b i k n m : ℕ) (op : Op) (reply : Reply) → r ≡ records.Ans i k reply n → other ≡ Some b → slice_get rs b ≡ Some (records.Sub i k op m) → e ≡ events.Due b
 
 -- the same of the first n records

@@ -6,7 +6,7 @@ ghost use Rattle.history_check.specs.declared.Record.{Record};
 ghost use Rattle.history_check.specs.declared.Record.TheVariants as kinds;
 ghost use Rattle.history_check.specs.TraceView.{observed};
 ghost use Rattle.log_runs.specs.EventView.{event_of};
-ghost use Rattle.log_runs.specs.Tasks.{Says, AreEvents, AreAllEvents};
+ghost use Rattle.log_runs.specs.Tasks.{known, Says, AreEvents, AreAllEvents};
 ghost use Rattle.log_events.specs.Joined.{partner, ArePartners, SaysAll};
 
 use crate::partners::Partners;
@@ -15,10 +15,21 @@ use log_runs::{Event, Log};
 use seq_memory::Reply;
 use std::alloc::{AllocError, Global};
 
-/// The reply, if the record answers the request.
+/// The reply, if it is known: that a request was done says nothing of its reply.
+fn known<'a>(reply: &'a Reply) -> Option<&'a Reply>
+    ensures some { IfSome result (λ r. (r.now ≡ reply.now) × (known reply.now ≡ Some reply.now)) }
+    ensures all { option_map (λ r. r.now) result ≡ known reply.now }
+{
+    match reply {
+        Reply::Done => None,
+        Reply::Data(_) | Reply::Unsupported | Reply::Aborted => Some(reply),
+    }
+}
+
+/// The reply, if the record answers the request, and has it.
 fn reply_of<'a>(item: &'a Record, requester: u8, number: u32) -> Option<&'a Reply>
-    ensures some { IfSome result (λ r. (n : ℕ) × (item.now ≡ kinds.Ans requester number r.now n)) }
-    ensures own { (n : ℕ) (reply : Reply) → item.now ≡ kinds.Ans requester number reply n → option_map (λ r. r.now) result ≡ Some reply }
+    ensures some { IfSome result (λ r. (n : ℕ) × (item.now ≡ kinds.Ans requester number r.now n) × (known r.now ≡ Some r.now)) }
+    ensures own { (n : ℕ) (reply : Reply) → item.now ≡ kinds.Ans requester number reply n → option_map (λ r. r.now) result ≡ known reply }
 {
     match item {
         Record::Ans {
@@ -26,20 +37,20 @@ fn reply_of<'a>(item: &'a Record, requester: u8, number: u32) -> Option<&'a Repl
             number: own,
             reply,
             ..
-        } if *who == requester && *own == number => Some(reply),
+        } if *who == requester && *own == number => known(reply),
         _ => None,
     }
 }
 
-/// The reply to the request, if the record at that place answers it.
+/// The reply to the request, if the record at that place answers it, and has it.
 pub fn reply_at<'a>(
     records: &'a [Record],
     at: Option<usize>,
     requester: u8,
     number: u32,
 ) -> Option<&'a Reply>
-    ensures some { IfSome result (λ r. (a : ℕ) × (n : ℕ) × (at ≡ Some a) × (slice_get records.now a ≡ Some (kinds.Ans requester number r.now n))) }
-    ensures own { (a n : ℕ) (reply : Reply) → at ≡ Some a → slice_get records.now a ≡ Some (kinds.Ans requester number reply n) → option_map (λ r. r.now) result ≡ Some reply }
+    ensures some { IfSome result (λ r. (a : ℕ) × (n : ℕ) × (at ≡ Some a) × (slice_get records.now a ≡ Some (kinds.Ans requester number r.now n)) × (known r.now ≡ Some r.now)) }
+    ensures own { (a n : ℕ) (reply : Reply) → at ≡ Some a → slice_get records.now a ≡ Some (kinds.Ans requester number reply n) → option_map (λ r. r.now) result ≡ known reply }
 {
     match records.get(at?) {
         Some(record) => reply_of(record, requester, number),

@@ -1,5 +1,5 @@
 -- An explainable log without one of its answers is explainable.
-use Rattle.std.proofs.Common.{◌≡◌, ◌∙◌, ℕ, zero, suc, ◌<◌, Bool, true, false, List, [], ◌∷◌, Some, None, take, length, map, remove, Option, refl, sym, ap, subst, arith}
+use Rattle.std.proofs.Common.{◌≡◌, ◌∙◌, ℕ, zero, suc, ◌<◌, Bool, true, false, List, [], ◌∷◌, Some, None, take, length, remove, Option, refl, sym, ap, subst, arith}
 use Rattle.std.specs.Prelude.{slice_get, ◌||◌}
 use Rattle.std.specs.List.{list_any, cons_option}
 use Rattle.std.proofs.lemmas.Option.{same_Some}
@@ -12,9 +12,9 @@ use Rattle.history_check.specs.TraceView.{TraceView}
 use Rattle.history_check.specs.Claim.{claim_of}
 use Rattle.history_check.specs.Trace.{submission, submissions, answers_to, Explains, IsNumbered, IsLegal, IsExplained}
 use Rattle.history_check.specs.Clocks.{IsClocked}
-use Rattle.log_runs.specs.Explainable.{without_n, IsExplainable, without}
+use Rattle.log_runs.specs.Explainable.{IsExplainable, without}
 use Rattle.log_runs.proofs.Lists.{from_take, to_take}
-use Rattle.log_runs.proofs.Alike.{ans_alike}
+use Rattle.log_runs.proofs.Alike.{same_without, ans_alike}
 
 -- where an element stood before the one at place a was taken out
 abbrev shift : ℕ → ℕ → ℕ
@@ -28,12 +28,6 @@ get_remove [] (suc a) p = refl
 get_remove (x ∷ xs) zero p = refl
 get_remove (x ∷ xs) (suc a) zero = refl
 get_remove (x ∷ xs) (suc a) (suc p) = get_remove xs a p
-
-map_remove : {X Y : Type 0} → (f : X → Y) (xs : List X) (a : ℕ) → map f (remove xs a) ≡ remove (map f xs) a
-map_remove f [] zero = refl
-map_remove f [] (suc a) = refl
-map_remove f (x ∷ xs) zero = refl
-map_remove f (x ∷ xs) (suc a) = ap (λ ys. f x ∷ ys) (map_remove f xs a)
 
 unshift : (a p : ℕ) → (p ≡ a → ⊥) → (q : ℕ) × (shift a q ≡ p)
 unshift zero zero n = absurd (n refl)
@@ -140,15 +134,15 @@ module _ (u : TraceView) (h : List Entry) (x : Explains (claim_of u h)) (c : IsC
 
 pub fewer_answers : (t : TraceView) (a i k n : ℕ) (reply : Reply) → slice_get t.records a ≡ Some (records.Ans i k reply n) → IsExplainable t → IsExplainable (without a t)
 fewer_answers t a i k n reply at (u, h, alike, x, c) =
-    let (m, there) = ans_alike t.records u.records alike.records a i k n reply at in (
+    let (made, m, there, may) = ans_alike t.records u.records alike.records a i k n reply at in (
       without a u,
       h,
       record {
         base = alike.base;
         size = alike.size;
         block = alike.block;
-        records = map_remove without_n t.records a ∙ ap (λ (rs : List Record). remove rs a) alike.records ∙ sym (map_remove without_n u.records a);
+        records = same_without a t.records u.records alike.records;
       },
-      explains u h x c a i k m reply there,
-      clocked u h x c a i k m reply there,
+      explains u h x c a i k m made there,
+      clocked u h x c a i k m made there,
     )

@@ -1,5 +1,5 @@
 -- An explainable log has no record of a wrong form.
-use Rattle.std.proofs.Common.{◌≡◌, ◌∙◌, ℕ, List, Some, take, length, refl, sym, ap, map, inl, inr}
+use Rattle.std.proofs.Common.{◌≡◌, ◌∙◌, ℕ, List, Some, take, length, refl, sym, ap, inl, inr}
 use Rattle.std.specs.Prelude.{slice_get}
 use Rattle.std.specs.List.{list_any}
 use Rattle.seq_memory.specs.declared.Entry.{Entry}
@@ -8,25 +8,25 @@ use Rattle.history_check.specs.declared.Record.TheVariants as records
 use Rattle.history_check.specs.TraceView.{TraceView}
 use Rattle.history_check.specs.Claim.{claim_of}
 use Rattle.history_check.specs.Trace.{submissions, answers_to, Explains}
-use Rattle.log_runs.specs.Explainable.{without_n, IsExplainable}
+use Rattle.log_runs.specs.Explainable.{AreSeenAs, IsExplainable}
 use Rattle.log_runs.specs.Tasks.{IsMisformed}
 use Rattle.log_runs.proofs.Lists.{clash}
-use Rattle.log_runs.proofs.Alike.{same_submissions, same_answers, same_prefix, sub_alike, ans_alike}
+use Rattle.log_runs.proofs.Alike.{same_submissions, same_answers, same_prefix, sub_alike, sub_back, ans_alike}
 
-well_formed : (rs us : List Record) → map without_n rs ≡ map without_n us → (b : TraceView) (h : List Entry) → b.records ≡ us → Explains (claim_of b h) → (a : ℕ) (r : Record) → slice_get rs a ≡ Some r → IsMisformed (take a rs) r → ⊥
+well_formed : (rs us : List Record) → AreSeenAs rs us → (b : TraceView) (h : List Entry) → b.records ≡ us → Explains (claim_of b h) → (a : ℕ) (r : Record) → slice_get rs a ≡ Some r → IsMisformed (take a rs) r → ⊥
 well_formed rs us same b h is x a (records.Sub i k op n) at wrong =
     let (m, there) = sub_alike rs us same a i k n op at in
     let here : slice_get b.records a ≡ Some (records.Sub i k op m) = ap (λ (ys : List Record). slice_get ys a) is ∙ there in
     wrong (x.numbered a i k m op here ∙ ap (λ (ys : List Record). length (submissions (take a ys) i)) is ∙ ap length (sym (same_submissions i (take a rs) (take a us) (same_prefix a rs us same))))
 well_formed rs us same b h is x a (records.Ans i k r n) at (inl never) =
-    let (m, there) = ans_alike rs us same a i k n r at in
-    let f = x.linear a i k m r (ap (λ (ys : List Record). slice_get ys a) is ∙ there) in
+    let (made, m, there, may) = ans_alike rs us same a i k n r at in
+    let f = x.linear a i k m made (ap (λ (ys : List Record). slice_get ys a) is ∙ there) in
     let asked = ap (λ (ys : List Record). slice_get (take a ys) f.place) (sym is) ∙ f.asked in
-    let (l, back) = sub_alike (take a us) (take a rs) (sym (same_prefix a rs us same)) f.place i k f.since f.op asked in
+    let (l, back) = sub_back (take a rs) (take a us) (same_prefix a rs us same) f.place i k f.since f.op asked in
     clash (never f.place f.op l back) f.not_posted
 well_formed rs us same b h is x a (records.Ans i k r n) at (inr twice) =
-    let (m, there) = ans_alike rs us same a i k n r at in
-    let f = x.linear a i k m r (ap (λ (ys : List Record). slice_get ys a) is ∙ there) in
+    let (made, m, there, may) = ans_alike rs us same a i k n r at in
+    let f = x.linear a i k m made (ap (λ (ys : List Record). slice_get ys a) is ∙ there) in
     clash (ap (λ (ys : List Record). list_any (answers_to i k) (take a ys)) is ∙ sym (same_answers i k (take a rs) (take a us) (same_prefix a rs us same)) ∙ twice) f.unanswered
 
 pub explainable_form : (t : TraceView) (a : ℕ) (r : Record) → IsExplainable t → slice_get t.records a ≡ Some r → IsMisformed (take a t.records) r → ⊥

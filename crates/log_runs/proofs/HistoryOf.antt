@@ -1,8 +1,8 @@
 -- A run is a history that explains the log.
 use Rattle.std.proofs.Common.{◌≡◌, ◌∙◌, ◌⊎◌, ℕ, zero, suc, ◌+◌, ◌<◌, ◌≤◌, true, false, List, [], ◌∷◌, ◌++◌, Option, Some, None, take, drop, length, map, refl, sym, ap, subst, arith, inl, inr, add-one, append_assoc, length-append}
-use Rattle.std.specs.Prelude.{slice_get, option_map, option_and_then}
+use Rattle.std.specs.Prelude.{slice_get, option_map, option_and_then, replicate}
 use Rattle.std.specs.List.{list_any, cons_option}
-use Rattle.std.proofs.lemmas.Bool.{cases_lt, cases_eq, cases_Bool, eqb-true, and_parts}
+use Rattle.std.proofs.lemmas.Bool.{cases_lt, cases_eq, cases_Bool, eq-eqb, eqb-true, and_parts}
 use Rattle.std.proofs.lemmas.List.{append-nil, take-append-le, map-append}
 use Rattle.std.proofs.Math.Seq.{take-append_seam, take-length, drop-length}
 use Rattle.std.proofs.lemmas.Option.{slice_get_within, same_Some}
@@ -10,6 +10,7 @@ use Rattle.tlp_core.specs.declared.operation.Op.{Op}
 use Rattle.tlp_core.specs.Operation.{is_posted}
 use Rattle.seq_memory.specs.declared.Entry.{Entry}
 use Rattle.seq_memory.specs.declared.Reply.{Reply}
+use Rattle.seq_memory.specs.declared.Reply.TheVariants as replies
 use Rattle.seq_memory.specs.Limits.{Extent}
 use Rattle.seq_memory.specs.Step.{answer}
 use Rattle.seq_memory.specs.History.{contents, contents_at, reply_at}
@@ -25,12 +26,15 @@ use Rattle.log_runs.specs.EventView as events
 use Rattle.log_runs.specs.declared.Step.{Step}
 use Rattle.log_runs.specs.declared.Step.TheVariants as steps
 use Rattle.log_runs.specs.LogView.{LogView}
-use Rattle.log_runs.specs.Explainable.{without_n, SeenAlike}
-use Rattle.log_runs.specs.Histories.{submitted, history_of, with_n, timed_from, timed}
+use Rattle.log_runs.specs.Explainable.{MayBe, AreSeenAs, SeenAlike}
+use Rattle.log_runs.specs.Histories.{submitted, history_of, with_n, timed_from, timed, completed, with_replies}
 use Rattle.log_runs.specs.Runs.{State, MayPass, MayAct, Allowed, Leads, Live, start, next, has_acted, reply_of}
-use Rattle.log_runs.specs.Tasks.{Says, AreEvents, AreAllEvents, IsMisformed, IsWellFormed}
+use Rattle.log_runs.specs.Tasks.{known, Says, AreEvents, AreAllEvents, IsMisformed, IsWellFormed}
 use Rattle.log_runs.proofs.Lists.{some_at, take_more_at, from_take, to_take}
-use Rattle.log_runs.proofs.Alike.{same_length, same_submissions, same_answers, same_prefix, sub_alike, ans_alike}
+use Rattle.log_runs.proofs.ButN as but
+use Rattle.log_runs.proofs.ButN.{without_n, ans_alike}
+use Rattle.log_runs.proofs.Alike.{same_submissions, same_answers, same_prefix, sub_alike, sub_back}
+use Rattle.log_runs.proofs.Completing.{of_sub, of_known, of_answer, of_done, same_moment, all_seen, timed_completed, completed_at, completed_there}
 use Rattle.log_runs.proofs.Numbers.{number_rises, unique, listed, located}
 use Rattle.log_runs.proofs.Standing.{stands_at}
 use Rattle.log_runs.proofs.Matching.{Matches, matches_start, matches_act}
@@ -221,7 +225,7 @@ module _ (t : TraceView) (es : List EventView) (formed : IsWellFormed t.records)
             (λ l there. x.since p f there)
             (λ l same.
             let inside : slice_get (take s.event rs) b ≡ Some (records.Sub a.requester m.number a.op m.n) = to_take_here s b (records.Sub a.requester m.number a.op m.n) a.since m.at in
-            let (n, there) = sub_alike (take s.event rs) us (sym x.alike) b a.requester m.number m.n a.op inside in
+            let (n, there) = but.sub_alike (take s.event rs) us (sym x.alike) b a.requester m.number m.n a.op inside in
             subst (Since us p) same (record { place = b; n = n; at = there; before = omega (arith, l, x.bounded b (records.Sub a.requester m.number a.op n) there) }));
         acted = λ c i k n r at. ap (λ (g : List Entry). stands g i k) (front n (x.bounded c (records.Ans i k r n) at)) ∙ x.acted c i k n r at;
         replied = λ p c n f r at sub event. front_or_last h e p f (answer t.base t.block (contents (observed t) (take p (h ++ e ∷ []))) f.op ≡ r) at
@@ -284,7 +288,7 @@ module _ (t : TraceView) (es : List EventView) (formed : IsWellFormed t.records)
       (subst (λ c. Whole (us ++ timed_from c xs (drop s.event rs)) ((h ++ e ∷ []) ++ history_of rs xs)) count
       (whole xs (next log s (steps.Act b)) last us (h ++ e ∷ []) leads.1 over (act s us h b x a m)))
 
-  -- ---- what is whole is explained, and clocked
+  -- ---- what is whole is explained with the replies of its history, and clocked
 
   module _ (us : List Record) (h : List Entry) (w : Whole us h) where
     x : Passed w.last us h
@@ -293,44 +297,117 @@ module _ (t : TraceView) (es : List EventView) (formed : IsWellFormed t.records)
     alike : map without_n us ≡ map without_n rs
     alike = x.alike ∙ ap (λ n. map without_n (take n rs)) (w.over ∙ all.right.len) ∙ ap (map without_n) (take-length rs)
 
-    numbered_now : IsNumbered us
-    numbered_now a i k n op at =
-        let (m, there) = sub_alike us rs alike a i k n op at in
-        numbered a i k m op there ∙ ap length (same_submissions i (take a rs) (take a us) (same_prefix a rs us (sym alike)))
+    abbrev zeros : List ℕ
+    zeros = replicate t.size 0
 
-    legal : IsLegal (submissions us) h
+    abbrev vs : List Record
+    vs = map (completed (observed t) zeros h) us
+
+    seen : AreSeenAs rs vs
+    seen = all_seen (observed t) zeros h rs us (sym alike)
+
+    numbered_now : IsNumbered vs
+    numbered_now a i k n op at =
+        let (m, there) = sub_back rs vs seen a i k n op at in
+        numbered a i k m op there ∙ ap length (same_submissions i (take a rs) (take a vs) (same_prefix a rs vs seen))
+
+    legal : IsLegal (submissions vs) h
     legal p e at =
         let f = x.legal p e at in
-        let same : submissions rs e.requester ≡ submissions us e.requester = same_submissions e.requester rs us (sym alike) in
+        let same : submissions rs e.requester ≡ submissions vs e.requester = same_submissions e.requester rs vs seen in
         record {
           submitted = ap (λ ys. slice_get ys e.number) (sym same) ∙ f.submitted;
           once = f.once;
           ordered = λ j op less listed_there posted. f.ordered j op less (ap (λ ys. slice_get ys j) same ∙ listed_there) posted;
         }
 
-    since : (p b n : ℕ) (e : Entry) (op : Op) → slice_get h p ≡ Some e → slice_get us b ≡ Some (records.Sub e.requester e.number op n) → (n ≤ p) × (op ≡ e.op)
+    since : (p b n : ℕ) (e : Entry) (op : Op) → slice_get h p ≡ Some e → slice_get vs b ≡ Some (records.Sub e.requester e.number op n) → (n ≤ p) × (op ≡ e.op)
     since p b n e op at sub =
         let f = x.since p e at in
-        let same : b ≡ f.place = unique us numbered_now b f.place e.requester e.number n f.n op e.op sub f.at in
-        let eq : Some (records.Sub e.requester e.number op n) ≡ Some (records.Sub e.requester e.number e.op f.n) = sym sub ∙ ap (slice_get us) same ∙ f.at in
+        let there : slice_get vs f.place ≡ Some (records.Sub e.requester e.number e.op f.n) =
+        completed_there (observed t) zeros h us f.place (records.Sub e.requester e.number e.op f.n) f.at ∙ ap Some (of_sub (observed t) zeros h e.requester e.number f.n e.op) in
+        let same : b ≡ f.place = unique vs numbered_now b f.place e.requester e.number n f.n op e.op sub there in
+        let eq : Some (records.Sub e.requester e.number op n) ≡ Some (records.Sub e.requester e.number e.op f.n) = sym sub ∙ ap (slice_get vs) same ∙ there in
         let one : f.n ≡ n = cc in
         let two : op ≡ e.op = cc in
         (subst (λ m. m ≤ p) one f.before, two)
+
+    rises : (a b : ℕ) (r q : Record) → a < b → slice_get vs a ≡ Some r → slice_get vs b ≡ Some q → moment r ≤ moment q
+    rises a b r q l at there =
+        let (r', here, one) = completed_at (observed t) zeros h us a r at in
+        let (q', near, two) = completed_at (observed t) zeros h us b q there in
+        subst (λ m. m ≤ moment q) (sym (same_moment (observed t) zeros h r') ∙ ap moment one)
+        (subst (λ m. moment r' ≤ m) (sym (same_moment (observed t) zeros h q') ∙ ap moment two) (x.rises a b r' q' l here near))
+
+    bounded : (a : ℕ) (r : Record) → slice_get vs a ≡ Some r → moment r ≤ length h
+    bounded a r at =
+        let (r', here, one) = completed_at (observed t) zeros h us a r at in
+        subst (λ m. m ≤ length h) (sym (same_moment (observed t) zeros h r') ∙ ap moment one) (x.bounded a r' here)
 
     still : (i k n p : ℕ) → stands (take n h) i k ≡ true → n ≤ p → stands (take p h) i k ≡ true
     still i k n p e l =
         let f = stood h n i k e in
         stands_at h f.point p (entry i k f.op) f.at (omega (arith, f.before))
 
-    explained : (a i k n : ℕ) (reply : Reply) → slice_get us a ≡ Some (records.Ans i k reply n)
-        → IsExplained (record { base = t.base; size = t.size; block = t.block; entries = h }) (take a us) i k reply n
+    -- an answer, before it had a reply
+    record Told (a i k n : ℕ) (made : Reply) : Type 0 where
+      told : Reply
+      at : slice_get us a ≡ Some (records.Ans i k told n)
+      becomes : completed (observed t) zeros h (records.Ans i k told n) ≡ records.Ans i k made n
+
+    told_of : (a i k n : ℕ) (made : Reply) (r : Record) → slice_get us a ≡ Some r → completed (observed t) zeros h r ≡ records.Ans i k made n → Told a i k n made
+    told_of a i k n made (records.Sub j l op m) at is = absurd (let no : records.Sub j l op m ≡ records.Ans i k made n = sym (of_sub (observed t) zeros h j l m op) ∙ is in cc no)
+    told_of a i k n made (records.Ans j l y m) at is =
+        let c = of_answer (observed t) zeros h j l m y in
+        let same : records.Ans j l c.made m ≡ records.Ans i k made n = sym c.is ∙ is in
+        let one : j ≡ i = cc in
+        let two : l ≡ k = cc in
+        let three : m ≡ n = cc in
+        record { told = y; at = rw (← one, ← two, ← three) at; becomes = rw (← one, ← two, ← three) (is ∙ rw (one, two, three) refl) }
+
+    told_at : (a i k n : ℕ) (made : Reply) → slice_get vs a ≡ Some (records.Ans i k made n) → Told a i k n made
+    told_at a i k n made at =
+        let (r, there, is) = completed_at (observed t) zeros h us a (records.Ans i k made n) at in
+        told_of a i k n made r there is
+
+    -- the memory's reply is the answer's
+    module _ (a i k n p b l : ℕ) (op : Op) (made : Reply) (c : Told a i k n made) (at : slice_get h p ≡ Some (entry i k op)) (sub : slice_get rs b ≡ Some (records.Sub i k op l)) (not_posted : is_posted op ≡ false) where
+      made_is : answer t.base t.block (contents (observed t) (take p h)) op ≡ made
+      unfolding contents
+      made_is = by c.told refl
+        where
+          same_reply : {y z : Reply} → records.Ans i k y n ≡ records.Ans i k z n → y ≡ z
+          same_reply e = cc
+
+          own : is_request i k (entry i k op) ≡ true
+          own = rw (eq-eqb i i refl, eq-eqb k k refl) refl
+
+          is_known : (y : Reply) → c.told ≡ y → known y ≡ Some y → answer t.base t.block (contents (observed t) (take p h)) op ≡ made
+          is_known y e kn =
+              let ans : slice_get us a ≡ Some (records.Ans i k y n) = c.at ∙ ap (λ z. Some (records.Ans i k z n)) e in
+              let (m, there) = ans_alike us rs alike a i k n y ans in
+              let event : slice_get es b ≡ Some (events.Sub i op (Some y)) = all.replied a b i k l m op y sub there ∙ ap (λ o. Some (events.Sub i op o)) kn in
+              let stays : records.Ans i k y n ≡ records.Ans i k made n = sym (of_known (observed t) zeros h i k n y kn) ∙ ap (λ z. completed (observed t) zeros h (records.Ans i k z n)) (sym e) ∙ c.becomes in
+              x.replied p b l (entry i k op) y at sub event ∙ same_reply stays
+
+          by : (y : Reply) → c.told ≡ y → answer t.base t.block (contents (observed t) (take p h)) op ≡ made
+          by replies.Done e =
+              same_reply (sym (of_done (observed t) zeros h p i k n (entry i k op) at own (x.legal p (entry i k op) at).once not_posted)
+              ∙ ap (λ y. completed (observed t) zeros h (records.Ans i k y n)) (sym e) ∙ c.becomes)
+          by (replies.Data bytes) e = is_known (replies.Data bytes) e refl
+          by replies.Unsupported e = is_known replies.Unsupported e refl
+          by replies.Aborted e = is_known replies.Aborted e refl
+
+    explained : (a i k n : ℕ) (reply : Reply) → slice_get vs a ≡ Some (records.Ans i k reply n)
+        → IsExplained (record { base = t.base; size = t.size; block = t.block; entries = h }) (take a vs) i k reply n
     explained a i k n reply at =
-        let (m, there) = ans_alike us rs alike a i k n reply at in
-        let q = asked a i k m reply there in
-        let (l, sub) = sub_alike (take a rs) (take a us) (same_prefix a rs us (sym alike)) q.place i k q.n q.op q.at in
-        let (whole_sub, before) = from_take us a q.place (records.Sub i k q.op l) sub in
+        let c = told_at a i k n reply at in
+        let (m, there) = ans_alike us rs alike a i k n c.told c.at in
+        let q = asked a i k m c.told there in
+        let (l, sub) = sub_alike (take a rs) (take a vs) (same_prefix a rs vs seen) q.place i k q.n q.op q.at in
+        let (whole_sub, before) = from_take vs a q.place (records.Sub i k q.op l) sub in
         let (whole_rs, _) = from_take rs a q.place (records.Sub i k q.op q.n) q.at in
-        let f = stood h n i k (x.acted a i k n reply at) in
+        let f = stood h n i k (x.acted a i k n c.told c.at) in
         let (low, same) = since f.point q.place l (entry i k f.op) q.op f.at whole_sub in
         record {
           place = q.place;
@@ -339,38 +416,48 @@ module _ (t : TraceView) (es : List EventView) (formed : IsWellFormed t.records)
           point = f.point;
           asked = sub;
           not_posted = q.not_posted;
-          unanswered = same_answers i k (take a us) (take a rs) (same_prefix a us rs alike) ∙ unanswered a i k m reply there;
+          unanswered = sym (same_answers i k (take a rs) (take a vs) (same_prefix a rs vs seen)) ∙ unanswered a i k m c.told there;
           acted = f.at ∙ ap (λ o. Some (entry i k o)) (sym same);
           after_submission = low;
           before_answer = f.before;
           replied =
               ap (option_map (λ (e : Entry). answer t.base t.block (contents_at (observed t) h f.point) e.op)) f.at
-              ∙ ap Some (x.replied f.point q.place q.n (entry i k f.op) reply f.at (rw (← same) whole_rs) (rw (← same) (all.replied a q.place i k q.n m q.op reply whole_rs there)));
-          above = λ c j d r less ans.
-              let (whole_ans, _) = from_take us a c (records.Ans i j r d) ans in
-              still i j d f.point (x.acted c i j d r whole_ans)
-              (omega (arith, x.rises c q.place (records.Ans i j r d) (records.Sub i k q.op l) less whole_ans whole_sub, low));
+              ∙ ap Some (made_is a i k n f.point q.place q.n f.op reply c f.at (rw (← same) whole_rs) (rw (← same) q.not_posted));
+          above = λ d j o r less ans.
+              let (whole_ans, _) = from_take vs a d (records.Ans i j r o) ans in
+              let g = told_at d i j o r whole_ans in
+              still i j o f.point (x.acted d i j o g.told g.at)
+              (omega (arith, rises d q.place (records.Ans i j r o) (records.Sub i k q.op l) less whole_ans whole_sub, low));
         }
 
-    explains : Explains (claim_of (with_records us) h)
+    explains : Explains (claim_of (with_records vs) h)
     explains = record { numbered = numbered_now; legal = legal; linear = explained }
 
-    clocked : IsClocked (claim_of (with_records us) h)
+    clocked : IsClocked (claim_of (with_records vs) h)
     clocked = record {
-      rises = x.rises;
-      bounded = x.bounded;
+      rises = rises;
+      bounded = bounded;
       after_submission = λ p b n e op at sub. (since p b n e op at sub).0;
     }
 
   module _ (run : Live log (start log)) where
-    all_passed : Whole (timed_from 0 run.steps rs) (history_of rs run.steps)
+    abbrev history : List Entry
+    history = history_of rs run.steps
+
+    abbrev made : List Record
+    made = timed_from 0 run.steps (map (completed (observed t) (replicate t.size 0) history) rs)
+
+    all_passed : Whole (timed_from 0 run.steps rs) history
     all_passed = whole run.steps (start log) run.last [] [] run.leads run.over nothing
 
-    pub run_explains : Explains (claim_of (timed run.steps t) (history_of rs run.steps))
-    run_explains = explains (timed_from 0 run.steps rs) (history_of rs run.steps) all_passed
+    order : map (completed (observed t) (replicate t.size 0) history) (timed_from 0 run.steps rs) ≡ made
+    order = sym (timed_completed (observed t) (replicate t.size 0) history 0 run.steps rs)
 
-    pub run_clocked : IsClocked (claim_of (timed run.steps t) (history_of rs run.steps))
-    run_clocked = clocked (timed_from 0 run.steps rs) (history_of rs run.steps) all_passed
+    pub run_explains : Explains (claim_of (timed run.steps (with_replies history t)) history)
+    run_explains = subst (λ ys. Explains (claim_of (with_records ys) history)) order (explains (timed_from 0 run.steps rs) history all_passed)
 
-    pub run_alike : SeenAlike t (timed run.steps t)
-    run_alike = record { base = refl; size = refl; block = refl; records = sym (alike (timed_from 0 run.steps rs) (history_of rs run.steps) all_passed) }
+    pub run_clocked : IsClocked (claim_of (timed run.steps (with_replies history t)) history)
+    run_clocked = subst (λ ys. IsClocked (claim_of (with_records ys) history)) order (clocked (timed_from 0 run.steps rs) history all_passed)
+
+    pub run_alike : SeenAlike t (timed run.steps (with_replies history t))
+    run_alike = record { base = refl; size = refl; block = refl; records = subst (AreSeenAs rs) order (seen (timed_from 0 run.steps rs) history all_passed) }

@@ -1,5 +1,7 @@
 pub mod Lists
 pub mod Alike
+pub mod ButN
+pub mod Completing
 pub mod Numbers
 pub mod Standing
 pub mod Matching

@@ -1,5 +1,5 @@
 -- An explainable log has a run.
-use Rattle.std.proofs.Common.{◌≡◌, ◌∙◌, ℕ, zero, suc, ◌+◌, ◌-◌, ◌<◌, ◌≤◌, true, List, [], ◌∷◌, Option, Some, take, length, refl, sym, ap, subst, arith, inl, inr, map}
+use Rattle.std.proofs.Common.{◌≡◌, ◌∙◌, ℕ, zero, suc, ◌+◌, ◌-◌, ◌<◌, ◌≤◌, true, List, [], ◌∷◌, Option, Some, None, take, length, refl, sym, ap, subst, arith, inl, inr}
 use Rattle.std.specs.Prelude.{slice_get, option_map}
 use Rattle.std.proofs.lemmas.Bool.{cases_lt, cases_eq}
 use Rattle.std.proofs.lemmas.Option.{slice_get_within, same_Some}
@@ -21,11 +21,11 @@ use Rattle.log_runs.specs.EventView as events
 use Rattle.log_runs.specs.declared.Step.{Step}
 use Rattle.log_runs.specs.declared.Step.TheVariants as steps
 use Rattle.log_runs.specs.LogView.{LogView}
-use Rattle.log_runs.specs.Explainable.{without_n, IsExplainable}
+use Rattle.log_runs.specs.Explainable.{MayBe, IsSeenAs, AreSeenAs, IsExplainable}
 use Rattle.log_runs.specs.Runs.{State, MayPass, MayAct, Allowed, Live, start, next, reply_of}
-use Rattle.log_runs.specs.Tasks.{Says, AreEvents}
+use Rattle.log_runs.specs.Tasks.{known, Says, AreEvents}
 use Rattle.log_runs.proofs.Lists.{clash, some_at, take_more_at}
-use Rattle.log_runs.proofs.Alike.{same_length, sub_alike, ans_alike, alike_at}
+use Rattle.log_runs.proofs.Alike.{same_length, sub_alike, ans_alike, alike_back}
 use Rattle.log_runs.proofs.Numbers.{number_rises, listed, located}
 use Rattle.log_runs.proofs.Standing.{stands_at}
 use Rattle.log_runs.proofs.Matching.{Matches, matches_start, matches_act}
@@ -44,7 +44,13 @@ record SubEvent (rs : List Record) (es : List EventView) (b i k : ℕ) (op : Op)
 
 sub_event : (rs : List Record) (es : List EventView) (b i k n : ℕ) (op : Op) (e : EventView) → slice_get es b ≡ Some e → Says rs (records.Sub i k op n) e → SubEvent rs es b i k op
 sub_event rs es b i k n op (events.Sub j w told) at says =
-    record { told = told; at = rw (says.0, says.1) at; because = says.2 }
+    record {
+      told = told;
+      at = rw (says.0, says.1) at;
+      because = λ r is.
+          let (a, m, ans, is_known) = says.2 r is in
+          (a, m, ans);
+    }
 sub_event rs es b i k n op (events.Due c) at says = absurd says
 sub_event rs es b i k n op events.Free at says = absurd says
 
@@ -184,39 +190,40 @@ module _ (u : TraceView) (h : List Entry) (x : Explains (claim_of u h)) (c : IsC
   pub run_of : Live (record { extent = observed u; events = es }) (start (record { extent = observed u; events = es }))
   run_of = run_from (length es + length h) (start log) 0 (matches_start u.records log ev.len) (omega arith) (omega arith) (omega arith)
 
--- ---- n's of some choice
+-- ---- n's of some choice, and replies that the log doesn't have
 
-says_alike : (rs us : List Record) → map without_n rs ≡ map without_n us → (es : List EventView) (r s : Record) (e : EventView) → without_n r ≡ without_n s → Says rs r e → Says us s e
-says_alike rs us same es (records.Sub i k op n) (records.Sub j l w m) (events.Sub v y told) eq says =
-    let one : i ≡ j = cc in
-    let two : k ≡ l = cc in
-    let three : op ≡ w = cc in (
-      sym one ∙ says.0,
-      sym three ∙ says.1,
-      λ r is.
-          let (a, n, at) = says.2 r is in
-          let (p, there) = ans_alike rs us same a i k n r at in
-          (a, p, rw (← one, ← two) there),
-    )
-says_alike rs us same es (records.Sub i k op n) (records.Sub j l w m) (events.Due b) eq says = absurd says
-says_alike rs us same es (records.Ans i k r n) (records.Ans j l w m) (events.Due b) eq says =
-    let one : i ≡ j = cc in
-    let two : k ≡ l = cc in
+-- a reply that is known is the one
+the_reply : (told made : Reply) → MayBe told made → known told ≡ Some told → told ≡ made
+the_reply told made (inl done) is = absurd (let nothing : None ≡ Some told = sym (ap known done) ∙ is in cc nothing)
+the_reply told made (inr same) is = same
+
+says_alike : (rs us : List Record) → AreSeenAs rs us → (r s : Record) (e : EventView) → IsSeenAs r s → Says rs r e → Says us s e
+says_alike rs us same (records.Sub i k op n) (records.Sub j l w m) (events.Sub v y told) eq says = (
+  sym eq.0 ∙ says.0,
+  sym eq.2 ∙ says.1,
+  λ r is.
+      let (a, n, at, is_known) = says.2 r is in
+      let (made, p, there, may) = ans_alike rs us same a i k n r at in
+      let one : r ≡ made = the_reply r made may is_known in
+      (a, p, rw (← eq.0, ← eq.1) (there ∙ ap (λ q. Some (records.Ans i k q p)) (sym one)), is_known),
+)
+says_alike rs us same (records.Sub i k op n) (records.Sub j l w m) (events.Due b) eq says = absurd says
+says_alike rs us same (records.Ans i k r n) (records.Ans j l w m) (events.Due b) eq says =
     let (op, p, at) = says in
     let (q, there) = sub_alike rs us same b i k p op at in
-    (op, q, rw (← one, ← two) there)
-says_alike rs us same es (records.Ans i k r n) (records.Ans j l w m) (events.Sub v y told) eq says = absurd says
-says_alike rs us same es (records.Sub i k op n) (records.Sub j l w m) events.Free eq says = absurd says
-says_alike rs us same es (records.Ans i k r n) (records.Ans j l w m) events.Free eq says = tt
-says_alike rs us same es (records.Sub i k op n) (records.Ans j l w m) e eq says = cc
-says_alike rs us same es (records.Ans i k r n) (records.Sub j l w m) e eq says = cc
+    (op, q, rw (← eq.0, ← eq.1) there)
+says_alike rs us same (records.Ans i k r n) (records.Ans j l w m) (events.Sub v y told) eq says = absurd says
+says_alike rs us same (records.Sub i k op n) (records.Sub j l w m) events.Free eq says = absurd says
+says_alike rs us same (records.Ans i k r n) (records.Ans j l w m) events.Free eq says = tt
+says_alike rs us same (records.Sub i k op n) (records.Ans j l w m) e eq says = absurd eq
+says_alike rs us same (records.Ans i k r n) (records.Sub j l w m) e eq says = absurd eq
 
-pub events_alike : (rs us : List Record) → map without_n rs ≡ map without_n us → (es : List EventView) → AreEvents rs es → AreEvents us es
+pub events_alike : (rs us : List Record) → AreSeenAs rs us → (es : List EventView) → AreEvents rs es → AreEvents us es
 events_alike rs us same es ev = record {
   len = ev.len ∙ same_length rs us same;
   at = λ a s e at there.
-      let (r, back, eq) = alike_at us rs (sym same) a s at in
-      says_alike rs us same es r s e (sym eq) (ev.at a r e back there);
+      let (r, back, eq) = alike_back rs us same a s at in
+      says_alike rs us same r s e eq (ev.at a r e back there);
 }
 
 pub has_a_run : (t : TraceView) (es : List EventView) → AreEvents t.records es → IsExplainable t → Live (record { extent = observed t; events = es }) (start (record { extent = observed t; events = es }))

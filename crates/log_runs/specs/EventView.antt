@@ -6,7 +6,7 @@ use Rattle.log_runs.specs.declared.Event.{Event}
 use Rattle.log_runs.specs.declared.Event.TheVariants as lent
 
 pub data EventView : Type 0 where
-  -- a submission by the requester, and the reply that the log has for it, if it was answered
+  -- a submission by the requester, and the reply that the log has for it, if it has one
   Sub : ℕ → Op → Option Reply → EventView
   -- the answer to the request at that place
   Due : ℕ → EventView

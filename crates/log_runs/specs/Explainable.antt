@@ -1,7 +1,8 @@
 -- When a history explains a log: what requesters saw, without n's and without a history.
-use Rattle.std.specs.Prelude.{ℕ, ◌≡◌, ◌<◌, ◌≤◌, List, length, take, map, remove, slice_get, Some}
-use Rattle.tlp_core.specs.declared.operation.Op.{Op}
+use Rattle.std.specs.Prelude.{ℕ, ◌≡◌, ◌⊎◌, List, [], ◌∷◌, take, remove}
 use Rattle.seq_memory.specs.declared.Entry.{Entry}
+use Rattle.seq_memory.specs.declared.Reply.{Reply}
+use Rattle.seq_memory.specs.declared.Reply.TheVariants as replies
 use Rattle.history_check.specs.declared.Record.{Record}
 use Rattle.history_check.specs.declared.Record.TheVariants as records
 use Rattle.history_check.specs.TraceView.{TraceView}
@@ -9,19 +10,32 @@ use Rattle.history_check.specs.Claim.{Claim, claim_of}
 use Rattle.history_check.specs.Clocks.{IsClocked}
 use Rattle.history_check.specs.Trace.{Explains}
 
--- the record but for its n
-abbrev pub without_n : Record → Record
-without_n (records.Sub i k op n) = records.Sub i k op 0
-without_n (records.Ans i k reply n) = records.Ans i k reply 0
+-- the reply is the one that the log has, or the log has only that the request was done
+abbrev pub MayBe : Reply → Reply → Type 0
+MayBe told made = (told ≡ replies.Done) ⊎ (told ≡ made)
 
--- the same memory and the same records, but for the n's
+-- the same record, but for its n, and for the reply where the log doesn't have it
+abbrev pub IsSeenAs : Record → Record → Type 0
+IsSeenAs (records.Sub i k op n) (records.Sub j l w m) = (i ≡ j) × (k ≡ l) × (op ≡ w)
+IsSeenAs (records.Ans i k told n) (records.Ans j l made m) = (i ≡ j) × (k ≡ l) × MayBe told made
+IsSeenAs (records.Sub i k op n) (records.Ans j l made m) = ⊥
+IsSeenAs (records.Ans i k told n) (records.Sub j l w m) = ⊥
+
+-- record by record
+abbrev pub AreSeenAs : List Record → List Record → Type 0
+AreSeenAs [] [] = Unit {0}
+AreSeenAs (r ∷ rs) (u ∷ us) = IsSeenAs r u × AreSeenAs rs us
+AreSeenAs [] (u ∷ us) = ⊥
+AreSeenAs (r ∷ rs) [] = ⊥
+
+-- the same memory and the same records, but for the n's and for replies that the log t doesn't have
 pub record SeenAlike (t u : TraceView) : Type 0 where
   pub base : t.base ≡ u.base
   pub size : t.size ≡ u.size
   pub block : t.block ≡ u.block
-  pub records : map without_n t.records ≡ map without_n u.records
+  pub records : AreSeenAs t.records u.records
 
--- with n's of some choice, some history explains what was seen
+-- with n's of some choice, and replies where the log doesn't have them, some history explains what was seen
 abbrev pub IsExplainable : TraceView → Type 0
 IsExplainable t =
     (u : TraceView) × (h : List Entry) × SeenAlike t u × Explains (claim_of u h) × IsClocked (claim_of u h)

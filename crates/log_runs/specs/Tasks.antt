@@ -1,20 +1,28 @@
 -- The events of a log, and what is wrong with the form of one.
-use Rattle.std.specs.Prelude.{ℕ, ◌≡◌, ◌⊎◌, List, length, slice_get, take, Some, true}
+use Rattle.std.specs.Prelude.{ℕ, ◌≡◌, ◌⊎◌, List, length, slice_get, take, Option, Some, None, true}
 use Rattle.std.specs.List.{list_any}
 use Rattle.tlp_core.specs.declared.operation.Op.{Op}
 use Rattle.tlp_core.specs.Operation.{is_posted}
 use Rattle.seq_memory.specs.declared.Reply.{Reply}
+use Rattle.seq_memory.specs.declared.Reply.TheVariants as replies
 use Rattle.history_check.specs.declared.Record.{Record}
 use Rattle.history_check.specs.declared.Record.TheVariants as records
 use Rattle.history_check.specs.Trace.{submissions, answers_to}
 use Rattle.log_runs.specs.EventView.{EventView}
 use Rattle.log_runs.specs.EventView as events
 
+-- what an answer says of the reply: that the request was done says nothing of it
+abbrev pub known : Reply → Option Reply
+known replies.Done = None
+known (replies.Data bytes) = Some (replies.Data bytes)
+known replies.Unsupported = Some replies.Unsupported
+known replies.Aborted = Some replies.Aborted
+
 -- the event at a place says no more than the record there: a submission with a reply that the log has for it, or what an
 -- answer answers, or nothing of an answer
 abbrev pub Says : List Record → Record → EventView → Type 0
 Says rs (records.Sub i k op n) (events.Sub j w told) =
-    (i ≡ j) × (op ≡ w) × ((r : Reply) → told ≡ Some r → (a : ℕ) × (m : ℕ) × (slice_get rs a ≡ Some (records.Ans i k r m)))
+    (i ≡ j) × (op ≡ w) × ((r : Reply) → told ≡ Some r → (a : ℕ) × (m : ℕ) × (slice_get rs a ≡ Some (records.Ans i k r m)) × (known r ≡ Some r))
 Says rs (records.Ans i k r n) (events.Due b) = (op : Op) × (m : ℕ) × (slice_get rs b ≡ Some (records.Sub i k op m))
 Says rs (records.Sub i k op n) (events.Due b) = ⊥
 Says rs (records.Ans i k r n) (events.Sub j w told) = ⊥
@@ -25,10 +33,10 @@ pub record AreEvents (rs : List Record) (es : List EventView) : Type 0 where
   pub len : length es ≡ length rs
   pub at : (a : ℕ) (r : Record) (e : EventView) → slice_get rs a ≡ Some r → slice_get es a ≡ Some e → Says rs r e
 
--- the events say all: the submission of an answered request has the reply, and each answer is due to a request
+-- the events say all: the submission of an answered request has the reply, if it is known, and each answer is due to a request
 pub record AreAllEvents (rs : List Record) (es : List EventView) : Type 0 where
   pub right : AreEvents rs es
-  pub replied : (a b i k n m : ℕ) (op : Op) (r : Reply) → slice_get rs b ≡ Some (records.Sub i k op n) → slice_get rs a ≡ Some (records.Ans i k r m) → slice_get es b ≡ Some (events.Sub i op (Some r))
+  pub replied : (a b i k n m : ℕ) (op : Op) (r : Reply) → slice_get rs b ≡ Some (records.Sub i k op n) → slice_get rs a ≡ Some (records.Ans i k r m) → slice_get es b ≡ Some (events.Sub i op (known r))
   pub due : (a i k n : ℕ) (r : Reply) → slice_get rs a ≡ Some (records.Ans i k r n) → (b : ℕ) × (slice_get es a ≡ Some (events.Due b))
 
 -- what is wrong with the form of the record after those

@@ -11,7 +11,7 @@ ghost use Rattle.history_check.specs.Trace.{Explains, IsNumbered, submissions};
 ghost use Rattle.history_check.specs.TraceView.{TraceView, observed};
 ghost use Rattle.log_runs.specs.EventView.{EventView};
 ghost use Rattle.log_runs.specs.Explainable.{IsExplainable, SeenAlike, prefix, without};
-ghost use Rattle.log_runs.specs.Histories.{history_of, timed};
+ghost use Rattle.log_runs.specs.Histories.{history_of, timed, with_replies};
 ghost use Rattle.log_runs.specs.Runs.{Live, start};
 ghost use Rattle.log_runs.specs.Tasks.{AreAllEvents, AreEvents, IsMisformed, IsWellFormed};
 
@@ -43,10 +43,11 @@ pub fn explainable_has_a_run()
 
 /// A run through all events of a log whose form is right is a history that explains the log. Its entries are the
 /// requests in the order in which they act, and n of a record is the number of requests that had acted when it was passed.
+/// An answer that has only that its request was done gets the reply of the memory.
 pub fn a_run_is_a_history()
-    ensures explains { (t : TraceView) (es : List EventView) → IsWellFormed t.records → AreAllEvents t.records es → (run : Live (record { extent = observed t; events = es }) (start (record { extent = observed t; events = es }))) → Explains (claim_of (timed run.steps t) (history_of t.records run.steps)) }
-    ensures clocked { (t : TraceView) (es : List EventView) → IsWellFormed t.records → AreAllEvents t.records es → (run : Live (record { extent = observed t; events = es }) (start (record { extent = observed t; events = es }))) → IsClocked (claim_of (timed run.steps t) (history_of t.records run.steps)) }
-    ensures alike { (t : TraceView) (es : List EventView) → IsWellFormed t.records → AreAllEvents t.records es → (run : Live (record { extent = observed t; events = es }) (start (record { extent = observed t; events = es }))) → SeenAlike t (timed run.steps t) }
+    ensures explains { (t : TraceView) (es : List EventView) → IsWellFormed t.records → AreAllEvents t.records es → (run : Live (record { extent = observed t; events = es }) (start (record { extent = observed t; events = es }))) → Explains (claim_of (timed run.steps (with_replies (history_of t.records run.steps) t)) (history_of t.records run.steps)) }
+    ensures clocked { (t : TraceView) (es : List EventView) → IsWellFormed t.records → AreAllEvents t.records es → (run : Live (record { extent = observed t; events = es }) (start (record { extent = observed t; events = es }))) → IsClocked (claim_of (timed run.steps (with_replies (history_of t.records run.steps) t)) (history_of t.records run.steps)) }
+    ensures alike { (t : TraceView) (es : List EventView) → IsWellFormed t.records → AreAllEvents t.records es → (run : Live (record { extent = observed t; events = es }) (start (record { extent = observed t; events = es }))) → SeenAlike t (timed run.steps (with_replies (history_of t.records run.steps) t)) }
     ensures explainable { (t : TraceView) (es : List EventView) → IsWellFormed t.records → AreAllEvents t.records es → Live (record { extent = observed t; events = es }) (start (record { extent = observed t; events = es })) → IsExplainable t }
 {}
 

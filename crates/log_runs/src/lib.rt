@@ -2,7 +2,7 @@
 //!
 //! A log is a trace without its n's and without a history: what was submitted and answered, in the
 //! order of time. It is explainable if n's of some choice and some history make it a trace that the
-//! history explains. A search doesn't go through histories but through runs: records are passed in
+//! history explains. An answer `Done` says that its request acted before it, and nothing of the reply: any reply is met. A search doesn't go through histories but through runs: records are passed in
 //! their order, and requests act between them. The laws say that an explainable log has a run.
 #![tactic(auto)]
 
@@ -18,7 +18,7 @@ use tlp_core::Op;
 /// What a log has at one place. A request is named by the place of its submission, from 0.
 #[derive(Clone, Copy, Debug)]
 pub enum Event<'a> {
-    /// A submission, and the reply that the log has for it, if it was answered.
+    /// A submission, and the reply that the log has for it, if it has one.
     Sub {
         requester: u8,
         op: &'a Op,

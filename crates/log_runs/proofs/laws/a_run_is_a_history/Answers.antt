@@ -1,4 +1,4 @@
-use Rattle.log_runs.specs.Histories.{history_of, timed}
+use Rattle.log_runs.specs.Histories.{history_of, timed, with_replies}
 use Rattle.log_runs.proofs.HistoryOf.{run_explains, run_clocked, run_alike}
 use Rattle.log_runs.proofs.laws.a_run_is_a_history.Goals as goal
 
@@ -13,4 +13,4 @@ returns-clause-alike c = λ t es formed all run. run_alike t es formed all run
 
 pub returns-clause-explainable : goal.returns-clause-explainable
 returns-clause-explainable c = λ t es formed all run.
-    (timed run.steps t, history_of t.records run.steps, run_alike t es formed all run, run_explains t es formed all run, run_clocked t es formed all run)
+    (timed run.steps (with_replies (history_of t.records run.steps) t), history_of t.records run.steps, run_alike t es formed all run, run_explains t es formed all run, run_clocked t es formed all run)
