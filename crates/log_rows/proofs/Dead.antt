@@ -10,7 +10,7 @@ use Rattle.history_check.specs.TraceView.{TraceView, observed}
 use Rattle.log_runs.specs.EventView.{EventView}
 use Rattle.log_runs.specs.EventView as events
 use Rattle.log_runs.specs.Runs.{Live, start, reply_of, bytes_after, acted_on}
-use Rattle.log_runs.specs.Tasks.{Says, AreEvents}
+use Rattle.log_runs.specs.Tasks.{known, Says, AreEvents}
 use Rattle.log_runs.specs.Explainable.{IsExplainable}
 use Rattle.log_rows.specs.Logs.{read, swap, add, value, stale_read, lost_update}
 use Rattle.log_rows.proofs.Endings.{is_dead, all_below, no_run}
@@ -24,6 +24,10 @@ says rs x r y e at there s = subst (λ z. Says rs r z) (same_Some y e there) (su
 answered : (i : ℕ) (x r : Reply) → Some x ≡ Some r → Some (records.Ans i 0 x 0) ≡ Some (records.Ans i 0 r 0)
 answered i x r e = ap (λ z. Some (records.Ans i 0 z 0)) (same_Some x r e)
 
+-- a value is known
+is_known : (v : ℕ) (r : Reply) → Some (value v) ≡ Some r → known r ≡ Some r
+is_known v r e = subst (λ z. known z ≡ Some z) (same_Some (value v) r e) refl
+
 stale_events : List EventView
 stale_events = events.Sub 1 (swap 5) (Some (value 0)) ∷ events.Due 0 ∷ events.Sub 2 read (Some (value 0)) ∷ events.Due 2 ∷ []
 
@@ -32,9 +36,9 @@ unfolding stale_events
 stale_are = record { len = refl; at = at }
   where
     at : (a : ℕ) (r : Record) (e : EventView) → slice_get stale_read.records a ≡ Some r → slice_get stale_events a ≡ Some e → Says stale_read.records r e
-    at zero r e x y = says stale_read.records _ r _ e x y (refl, refl, λ d is. (1, 0, answered 1 (value 0) d is))
+    at zero r e x y = says stale_read.records _ r _ e x y (refl, refl, λ d is. (1, 0, answered 1 (value 0) d is, is_known 0 d is))
     at (suc zero) r e x y = says stale_read.records _ r _ e x y (swap 5, 0, refl)
-    at (suc (suc zero)) r e x y = says stale_read.records _ r _ e x y (refl, refl, λ d is. (3, 0, answered 2 (value 0) d is))
+    at (suc (suc zero)) r e x y = says stale_read.records _ r _ e x y (refl, refl, λ d is. (3, 0, answered 2 (value 0) d is, is_known 0 d is))
     at (suc (suc (suc zero))) r e x y = says stale_read.records _ r _ e x y (read, 0, refl)
     at (suc (suc (suc (suc a)))) r e x y = cc
 
@@ -50,8 +54,8 @@ unfolding lost_events
 lost_are = record { len = refl; at = at }
   where
     at : (a : ℕ) (r : Record) (e : EventView) → slice_get lost_update.records a ≡ Some r → slice_get lost_events a ≡ Some e → Says lost_update.records r e
-    at zero r e x y = says lost_update.records _ r _ e x y (refl, refl, λ d is. (2, 0, answered 1 (value 0) d is))
-    at (suc zero) r e x y = says lost_update.records _ r _ e x y (refl, refl, λ d is. (3, 0, answered 2 (value 0) d is))
+    at zero r e x y = says lost_update.records _ r _ e x y (refl, refl, λ d is. (2, 0, answered 1 (value 0) d is, is_known 0 d is))
+    at (suc zero) r e x y = says lost_update.records _ r _ e x y (refl, refl, λ d is. (3, 0, answered 2 (value 0) d is, is_known 0 d is))
     at (suc (suc zero)) r e x y = says lost_update.records _ r _ e x y (add 1, 0, refl)
     at (suc (suc (suc zero))) r e x y = says lost_update.records _ r _ e x y (add 1, 0, refl)
     at (suc (suc (suc (suc a)))) r e x y = cc

@@ -1,5 +1,5 @@
 -- Logs that a history explains.
-use Rattle.std.proofs.Common.{◌≡◌, ℕ, List, [], ◌∷◌, length, true, None, refl}
+use Rattle.std.proofs.Common.{◌≡◌, ℕ, List, [], ◌∷◌, length, true, None, refl, inr}
 use Rattle.tlp_core.specs.declared.operation.Op.{Op}
 use Rattle.tlp_core.specs.Enables.{enables, ends_in_gap, is_one_run}
 use Rattle.seq_memory.specs.declared.Entry.{Entry}
@@ -26,10 +26,10 @@ pub write_passes : Law → IsExplainable write_passes_read
 unfolding entry contents first_at any_below misses numbering_at entry_at answer_at enables ends_in_gap is_one_run
 write_passes law =
     by law write_passes_read (log_of (records.Sub 1 0 read 0 ∷ records.Sub 1 1 (write 7) 0 ∷ records.Ans 1 0 (value 7) 2 ∷ []))
-    (entry 1 1 (write 7) ∷ entry 1 0 read ∷ []) (record { base = refl; size = refl; block = refl; records = refl }) refl refl refl
+    (entry 1 1 (write 7) ∷ entry 1 0 read ∷ []) (record { base = refl; size = refl; block = refl; records = ((refl, refl, refl), ((refl, refl, refl), ((refl, refl, inr refl), tt))) }) refl refl refl
 
 pub swap_acts : Law → IsExplainable unanswered_swap
 unfolding entry contents first_at any_below misses numbering_at entry_at answer_at enables ends_in_gap is_one_run
 swap_acts law =
     by law unanswered_swap (log_of (records.Sub 1 0 (swap 7) 0 ∷ records.Sub 2 0 read 0 ∷ records.Ans 2 0 (value 7) 2 ∷ []))
-    (entry 1 0 (swap 7) ∷ entry 2 0 read ∷ []) (record { base = refl; size = refl; block = refl; records = refl }) refl refl refl
+    (entry 1 0 (swap 7) ∷ entry 2 0 read ∷ []) (record { base = refl; size = refl; block = refl; records = ((refl, refl, refl), ((refl, refl, refl), ((refl, refl, inr refl), tt))) }) refl refl refl

@@ -14,7 +14,7 @@ use Rattle.history_check.specs.Claim.{claim_of}
 use Rattle.history_check.specs.Flaws.{moment}
 use Rattle.history_check.specs.Trace.{submission, submissions, answers_to, Explains, IsNumbered, IsLegal, IsExplained}
 use Rattle.history_check.specs.Clocks.{IsClocked}
-use Rattle.log_runs.specs.Explainable.{without_n, IsExplainable}
+use Rattle.log_runs.specs.Explainable.{IsSeenAs, AreSeenAs, IsExplainable}
 use Rattle.log_rows.specs.Swaps.{MaySwap, with_records}
 
 -- a submission at the first n, an answer at the other
@@ -417,52 +417,38 @@ module _ (u : TraceView) (h : List Entry) (x : Explains (claim_of u h)) (c : IsC
 
 -- ---- records that are alike
 
-same_moved : (x y : ℕ) (q : Record) → without_n q ≡ without_n (moved x y q)
-same_moved x y (records.Sub a b c d) = refl
-same_moved x y (records.Ans a b c d) = refl
+seen_moved : (x y : ℕ) (r q : Record) → IsSeenAs r q → IsSeenAs r (moved x y q)
+seen_moved x y (records.Sub a b c d) (records.Sub i k op n) e = e
+seen_moved x y (records.Sub a b c d) (records.Ans i k p n) e = absurd e
+seen_moved x y (records.Ans a b c d) (records.Sub i k op n) e = absurd e
+seen_moved x y (records.Ans a b c d) (records.Ans i k p n) e = e
 
-alike_new : (before after : List Record) (r s : Record) (us : List Record) → map without_n (before ++ r ∷ s ∷ after) ≡ map without_n us
-    → map without_n (before ++ s ∷ r ∷ after) ≡ map without_n (new (length before) us)
-alike_new [] after r s [] e = cc
-alike_new [] after r s (u ∷ []) e = cc
-alike_new [] after r s (u ∷ w ∷ us) e =
-    let one : without_n r ≡ without_n u = cc in
-    let two : without_n s ≡ without_n w = cc in
-    let rest : map without_n after ≡ map without_n us = cc in
-    ap (λ q. q ∷ without_n r ∷ map without_n after) (two ∙ same_moved (moment u) (moment w) w)
-    ∙ ap (λ q. without_n (moved (moment u) (moment w) w) ∷ q ∷ map without_n after) (one ∙ same_moved (moment u) (moment w) u)
-    ∙ ap (λ qs. without_n (moved (moment u) (moment w) w) ∷ without_n (moved (moment u) (moment w) u) ∷ qs) rest
-alike_new (b ∷ before) after r s [] e = cc
-alike_new (b ∷ before) after r s (u ∷ us) e =
-    let one : without_n b ≡ without_n u = cc in
-    let rest : map without_n (before ++ r ∷ s ∷ after) ≡ map without_n us = cc in
-    ap (λ q. q ∷ map without_n (before ++ s ∷ r ∷ after)) one ∙ ap (λ qs. without_n u ∷ qs) (alike_new before after r s us rest)
+alike_new : (before after : List Record) (r s : Record) (us : List Record) → AreSeenAs (before ++ r ∷ s ∷ after) us
+    → AreSeenAs (before ++ s ∷ r ∷ after) (new (length before) us)
+alike_new [] after r s [] e = absurd e
+alike_new [] after r s (u ∷ []) e = absurd e.1
+alike_new [] after r s (u ∷ w ∷ us) e = (seen_moved (moment u) (moment w) s w e.1.0, (seen_moved (moment u) (moment w) r u e.0, e.1.1))
+alike_new (b ∷ before) after r s [] e = absurd e
+alike_new (b ∷ before) after r s (u ∷ us) e = (e.0, alike_new before after r s us e.1)
 
-may_alike : (r s u w : Record) → without_n r ≡ without_n u → without_n s ≡ without_n w → MaySwap r s → MaySwap u w
+may_alike : (r s u w : Record) → IsSeenAs r u → IsSeenAs s w → MaySwap r s → MaySwap u w
 may_alike (records.Ans a b c d) s (records.Ans a' b' c' d') w e f m = tt
-may_alike (records.Ans a b c d) s (records.Sub a' b' c' d') w e f m = cc
-may_alike (records.Sub a b c d) s (records.Ans a' b' c' d') w e f m = cc
+may_alike (records.Ans a b c d) s (records.Sub a' b' c' d') w e f m = absurd e
+may_alike (records.Sub a b c d) s (records.Ans a' b' c' d') w e f m = absurd e
 may_alike (records.Sub a b c d) (records.Ans i k p n) (records.Sub a' b' c' d') w e f m = absurd m
-may_alike (records.Sub a b c d) (records.Sub i k p n) (records.Sub a' b' c' d') (records.Ans i' k' p' n') e f m = cc
-may_alike (records.Sub a b c d) (records.Sub i k p n) (records.Sub a' b' c' d') (records.Sub i' k' p' n') e f m =
-    let one : a ≡ a' = cc in
-    let two : i ≡ i' = cc in
-    λ same. m (one ∙ same ∙ sym two)
+may_alike (records.Sub a b c d) (records.Sub i k p n) (records.Sub a' b' c' d') (records.Ans i' k' p' n') e f m = absurd f
+may_alike (records.Sub a b c d) (records.Sub i k p n) (records.Sub a' b' c' d') (records.Sub i' k' p' n') e f m = λ same. m (e.0 ∙ same ∙ sym f.0)
 
-fits_of : (before after : List Record) (r s : Record) (us : List Record) → map without_n (before ++ r ∷ s ∷ after) ≡ map without_n us → MaySwap r s
+fits_of : (before after : List Record) (r s : Record) (us : List Record) → AreSeenAs (before ++ r ∷ s ∷ after) us → MaySwap r s
     → ((q w : Record) → slice_get us (length before) ≡ Some q → slice_get us (suc (length before)) ≡ Some w → (moment q ≤ moment w) × Apart q w)
     → Fits (length before) us
-fits_of [] after r s [] e may known = cc
-fits_of [] after r s (u ∷ []) e may known = cc
+fits_of [] after r s [] e may known = absurd e
+fits_of [] after r s (u ∷ []) e may known = absurd e.1
 fits_of [] after r s (u ∷ w ∷ us) e may known =
-    let one : without_n r ≡ without_n u = cc in
-    let two : without_n s ≡ without_n w = cc in
     let both = known u w refl refl in
-    (may_alike r s u w one two may, both.0, both.1)
-fits_of (b ∷ before) after r s [] e may known = cc
-fits_of (b ∷ before) after r s (u ∷ us) e may known =
-    let rest : map without_n (before ++ r ∷ s ∷ after) ≡ map without_n us = cc in
-    fits_of before after r s us rest may known
+    (may_alike r s u w e.0 e.1.0 may, both.0, both.1)
+fits_of (b ∷ before) after r s [] e may known = absurd e
+fits_of (b ∷ before) after r s (u ∷ us) e may known = fits_of before after r s us e.1 may known
 
 none_at : {X : Type 0} → (t : X → Bool) (xs : List X) (d : ℕ) (q : X) → slice_get xs d ≡ Some q → list_any t (take (suc d) xs) ≡ false → t q ≡ false
 none_at t [] d q e h = cc
