@@ -1,0 +1,5 @@
+use Rattle.log_replies.proofs.Filling.{Filled}
+use Rattle.log_replies.proofs.completing.complete_all.Given as goal
+
+abbrev pub invariant-loop-at : goal.invariant-loop-at
+invariant-loop-at l = Filled l.memory.extent l.memory.partners.now l.fn.bytes l.bytes l.steps l.fn.records.items l.records.items l.at
