@@ -30,7 +30,7 @@ use Rattle.step_laws.proofs.Spelled.{Range, short-op}
 use Rattle.step_laws.proofs.Requests.{IsSpellable, next-is, submit-fits}
 use Rattle.step_laws.proofs.Load.{IsBalanced, balanced-step, balanced-new}
 use Rattle.step_laws.proofs.Requesters.{AreCalled, AreSound, called-after, called-new, called-sound}
-use Rattle.step_laws.specs.Told.{IsToldSub}
+use Rattle.told_laws.specs.Told.{IsToldSub}
 use Rattle.step_laws.proofs.Lines.{IsSaid}
 
 pub record Laws : Type 0 where

@@ -1,10 +1,8 @@
 mod Spelled
-mod Replies
 mod Requests
 mod Load
 mod Made
 mod Requesters
-mod Told
 mod Lines
 mod Kept
 mod Through

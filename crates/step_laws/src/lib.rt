@@ -1,19 +1,13 @@
 //! What `check` answers to the traces that `step` writes.
 #![tactic(auto)]
 
-ghost use Rattle.std.specs.Prelude.{◌≡◌, ◌≢◌, ◌^◌, ◌<◌, All, Bool, List, ℕ, [], codes, length};
-ghost use Rattle.seq_memory.specs.History.{extent_of};
-ghost use Rattle.seq_memory.specs.Limits.{IsWithinLimits};
-ghost use Rattle.history_check.specs.Claim.{Claim};
-ghost use Rattle.history_check.specs.Clocks.{IsClocked};
-ghost use Rattle.history_check.specs.Trace.{Explains};
+ghost use Rattle.std.specs.Prelude.{◌≡◌, ◌≢◌, Bool, List, ℕ, [], codes};
 ghost use Rattle.text_lines.specs.Lines.{lines_of};
 ghost use Rattle.trace_engine.specs.Check.{out_check, out_check_clocked};
 ghost use Rattle.trace_text.specs.Tellable.{IsTellable};
 ghost use Rattle.step_engine.specs.Options.{traced};
 ghost use Rattle.step_engine.specs.Script.{Progress, RunsThrough, script_of};
 ghost use Rattle.step_engine.specs.Step.{claim_with, out_step_with};
-ghost use Rattle.step_laws.specs.Told.{IsToldSub};
 
 use fabric_core::laws::{
     a_new_fabric_is_sound, each_event_happens_by_its_parts, each_event_keeps_it_sound,
@@ -21,21 +15,11 @@ use fabric_core::laws::{
 };
 use fabric_laws::laws::the_trace_belongs;
 use fabric_settle_laws::what_settles_happens;
-use log_runs::laws::numbers_name_submissions;
 use operation_text::own_digits_spell_number;
 use requester_core::laws::each_number_is_answered_once;
 use step_engine::laws::{what_a_script_does_is_explained, what_a_script_does_is_ok};
+use told_laws::what_is_explained_can_be_told;
 use tlp_core::laws::canonical_bytes_spell_their_packet;
-
-/// Lines can tell a trace and the history that explains it, if they can tell the submissions, and the history has fewer
-/// than 2^64 entries: then they can tell each reply.
-pub fn what_is_explained_can_be_told()
-    ensures { (c : Claim) → Explains c → IsClocked c → length c.memory.entries < 2 ^ 64 → IsWithinLimits (extent_of c.memory) → All IsToldSub c.records →
-        IsTellable c }
-{
-    numbers_name_submissions();
-    own_digits_spell_number();
-}
 
 /// Where a script has a line that isn't skipped, and its run with `--trace` ends with status 0, its first line makes a
 /// fabric, each line after it is an event that happens, or `settle`, and lines can tell the trace of what happened.

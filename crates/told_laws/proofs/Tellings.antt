@@ -16,9 +16,9 @@ use Rattle.history_check.specs.Trace.{submissions, IsNumbered, Explains}
 use Rattle.history_check.specs.Clocks.{IsClocked}
 use Rattle.operation_text.specs.Operations.{IsSpelledOp, IsSpelledReply}
 use Rattle.trace_text.specs.Tellable.{IsRequest, IsTellableRecord, IsTellableEntry, IsTellable}
-use Rattle.step_laws.specs.Told.{IsToldSub}
-use Rattle.step_laws.proofs.Spelled.{Range}
-use Rattle.step_laws.proofs.Replies.{reply-told}
+use Rattle.told_laws.specs.Told.{IsToldSub}
+use Rattle.told_laws.proofs.Spelled.{Range}
+use Rattle.told_laws.proofs.Replies.{reply-told}
 
 all_at : {X : Type 0} → (P : X → Type 0) (xs : List X) (i : ℕ) (x : X) → All P xs → slice_get xs i ≡ Some x → P x
 all_at P [] i x all at = absurd cc

@@ -30,7 +30,7 @@ use Rattle.seq_memory.specs.Step.{is_in_block, is_inside, refusal, merged, place
 use Rattle.seq_memory.specs.History.{contents, contents_at, reply_at}
 use Rattle.operation_text.specs.Numbers.{byte_string}
 use Rattle.operation_text.specs.Operations.{reply_spelled, IsSpelledOp, IsSpelledReply}
-use Rattle.step_laws.proofs.Spelled.{Range, IsShortOp, HasShortData, short-op}
+use Rattle.told_laws.proofs.Spelled.{Range, IsShortOp, HasShortData, short-op}
 
 -- ---- lists of bytes
 
