@@ -1,3 +1,4 @@
 pub mod Lines
 pub mod Forms
 pub mod LogReaderView
+pub mod Told

@@ -13,21 +13,24 @@ use Rattle.trace_text.specs.TraceReaderView as traces
 use Rattle.log_text.specs.Lines.{LogLine}
 use Rattle.log_text.specs.Lines as lines
 use Rattle.log_text.specs.Forms.{line_of, section_after}
+use Rattle.log_text.specs.declared.line.Version.{Version}
+use Rattle.log_text.specs.declared.line.Version.TheVariants as versions
 
 -- what is kept of the lines so far
 pub record LogFormView : Type 0 where
+  pub version : Version
   pub extent : Extent
   pub records : List Record
 
--- the extent is told by the memory's line, and that of the least memory until then
+-- the version is told by the first line, the extent by the memory's line, and that of the least memory until then
 abbrev pub no_log : LogFormView
-no_log = record { extent = record { base = 0; size = 128; block = 64 }; records = [] }
+no_log = record { version = versions.One; extent = record { base = 0; size = 128; block = 64 }; records = [] }
 
 -- what is kept with a line that is due
 abbrev pub kept : LogFormView → LogLine → LogFormView
 kept l (lines.Memory x) = record l { extent = x }
 kept l (lines.Record r) = record l { records = l.records ++ r ∷ [] }
-kept l lines.FirstLine = l
+kept l (lines.FirstLine v) = record l { version = v }
 kept l lines.End = l
 
 -- the list of records grows by records alone
@@ -36,7 +39,7 @@ adds (lines.Record r) = true
 adds _ = false
 
 abbrev pub log_grammar : Grammar LogFormView LogLine
-log_grammar = record { line_of = λ l line. line_of line; section_after = section_after; kept = kept; adds = adds }
+log_grammar = record { line_of = λ l line. line_of l.version line; section_after = section_after; kept = kept; adds = adds }
 
 abbrev pub log_read : LogFormView → TraceView
 log_read l = record { base = l.extent.base; size = l.extent.size; block = l.extent.block; records = l.records }

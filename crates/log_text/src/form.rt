@@ -4,7 +4,7 @@ ghost use Rattle.log_text.specs.LogReaderView as reads;
 ghost use Rattle.log_text.specs.Forms as forms;
 ghost use Rattle.log_text.specs.Lines.{owned_line};
 
-use crate::line::{LineForm, read_line};
+use crate::line::{LineForm, Version, read_line};
 use history_check::{Record, Trace};
 use operation_text::Expected;
 use record_text::{Form, Section, Taken};
@@ -14,7 +14,10 @@ use std::marker::Model;
 use tlp_core::MAX_PAYLOAD;
 
 /// The head of a log, or of a trace, which may stand in its place.
-const HEAD: Expected = Expected::Of("the head", "pciex-log 1, pciex-trace 1, pciex-trace 2");
+const HEAD: Expected = Expected::Of(
+    "the head",
+    "pciex-log 1, pciex-log 2, pciex-trace 1, pciex-trace 2",
+);
 
 const MEMORY: Expected = Expected::Of("the memory's line", "memory <base> <size> <block>");
 
@@ -28,6 +31,7 @@ const NOTHING: Expected = Expected::Named("the text's end");
 /// A log, as far as its text was read.
 #[derive(Drop)]
 pub(crate) struct LogForm {
+    version: Version,
     extent: Extent,
     records: Vec<Record>,
     /// Room for the bytes of a line: what it holds does not count.
@@ -39,7 +43,7 @@ impl Model for LogForm {
 
     ghost Value = { LogFormView };
 
-    ghost view = { λ l. record { extent = l.extent; records = l.records.items } };
+    ghost view = { λ l. record { version = l.version; extent = l.extent; records = l.records.items } };
 }
 
 impl LogForm {
@@ -48,6 +52,7 @@ impl LogForm {
         ensures { result ≡ reads.no_log }
     {
         LogForm {
+            version: Version::One,
             extent: Extent::new(0, MIN_SIZE, 64).unwrap(),
             records: Vec::new(alloc),
             room: [0; MAX_PAYLOAD],
@@ -70,7 +75,7 @@ fn section_after(section: Section, line: &LineForm<'_>) -> Option<Section>
     ensures { result ≡ forms.section_after section (owned_line line.now) }
 {
     match (section, line) {
-        (Section::FirstLine, LineForm::FirstLine) => Some(Section::Memory),
+        (Section::FirstLine, LineForm::FirstLine(_)) => Some(Section::Memory),
         (Section::Memory, LineForm::Memory(_)) => Some(Section::Records),
         (Section::Records, LineForm::Sub { .. } | LineForm::Ans { .. }) => Some(Section::Records),
         (Section::Records, LineForm::End) => Some(Section::End),
@@ -87,7 +92,7 @@ impl Form for LogForm {
     ghost grammar = { log_grammar };
 
     fn take(&mut self, section: Section, text: &[u8]) -> Result<Taken, AllocError> {
-        let line = match read_line(text, &mut self.room) {
+        let line = match read_line(text, self.version, &mut self.room) {
             Ok(line) => line,
             Err(misfit) => return Ok(Taken::Misfit(misfit)),
         };
@@ -95,6 +100,7 @@ impl Form for LogForm {
             return Ok(Taken::NotDue);
         };
         match line {
+            LineForm::FirstLine(version) => self.version = version,
             LineForm::Memory(extent) => self.extent = extent,
             LineForm::Sub {
                 requester,
@@ -116,7 +122,7 @@ impl Form for LogForm {
                 reply: reply.to_owned(),
                 n: 0,
             })?,
-            LineForm::FirstLine | LineForm::End => {}
+            LineForm::End => {}
         }
         Ok(Taken::Kept(after))
     }

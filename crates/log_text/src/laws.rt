@@ -1,18 +1,17 @@
 //! Laws of what was seen.
-ghost use Rattle.std.specs.Prelude.{◌≡◌, List, [], ℕ, Ok, Err};
-ghost use Rattle.history_check.specs.Claim.{claim_of};
+ghost use Rattle.std.specs.Prelude.{◌≡◌, List, ℕ, Ok, Err};
 ghost use Rattle.history_check.specs.TraceView.{TraceView};
 ghost use Rattle.record_text.specs.declared.fault.ReadFault.{ReadFault};
 ghost use Rattle.record_text.specs.declared.fault.ReadFaultKind.TheVariants.{Memory};
-ghost use Rattle.trace_text.specs.Tellable.{IsTellable};
 ghost use Rattle.trace_text.specs.TraceReaderView.{read_of};
 ghost use Rattle.log_text.specs.LogReaderView.{seen_of};
+ghost use Rattle.log_text.specs.Told.{IsToldLog};
 
 use trace_text::{fields_can_be_told, what_is_read_can_be_told};
 
-/// Lines can tell each log that is read: its requests, operations and replies, over a memory that there can be.
+/// Lines can tell each log that is read: its requests and operations, over a memory that there can be.
 pub fn what_is_seen_can_be_told()
-    ensures { (text : List ℕ) (t : TraceView) → seen_of text ≡ Ok t → IsTellable (claim_of t []) }
+    ensures { (text : List ℕ) (t : TraceView) → seen_of text ≡ Ok t → IsToldLog t }
 {
     fields_can_be_told();
     what_is_read_can_be_told();

@@ -9,7 +9,8 @@
 //! ```
 //!
 //! A log is a trace of version 2 without n's and without a history: its fields have the same ranges, and
-//! empty lines and lines that begin with `#` are skipped and counted. Where a log is read, a trace of
+//! empty lines and lines that begin with `#` are skipped and counted. In version 2 of a log an answer may be `done`: its
+//! request acted before it, and nothing is known of its reply. Where a log is read, a trace of
 //! either version may stand in its place. It is read as `check` reads it, and its n's and its history
 //! say nothing of the log.
 #![tactic(auto)]
