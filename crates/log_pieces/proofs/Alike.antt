@@ -1,23 +1,29 @@
 -- The pieces of a log have the same records but for n, by their places and by the numbers of their requests.
-use Rattle.std.proofs.Common.{◌≡◌, ◌∙◌, ℕ, suc, ◌++◌, ◌∷◌, [], List, Option, Some, None, true, length, take, drop, map, refl, sym, ap, arith, take-append-drop}
+use Rattle.std.proofs.Common.{◌≡◌, ◌∙◌, ℕ, suc, ◌++◌, ◌∷◌, [], List, Option, Some, None, true, length, take, drop, map, refl, sym, ap, subst, arith, inl, inr, take-append-drop}
 use Rattle.std.specs.Prelude.{slice_get, ◌==◌}
 use Rattle.std.proofs.lemmas.Bool.{eq-eqb}
 use Rattle.std.proofs.lemmas.List.{append_assoc, append-nil, map-append, take-take}
 use Rattle.std.proofs.lemmas.List.Elements.{filter_map-append}
 use Rattle.std.proofs.lemmas.Option.{slice_get_within}
 use Rattle.tlp_core.specs.declared.operation.Op.{Op}
+use Rattle.tlp_core.specs.Operation.{count_of}
 use Rattle.seq_memory.specs.declared.Entry.{Entry}
 use Rattle.seq_memory.specs.declared.Reply.{Reply}
 use Rattle.seq_memory.specs.Limits.{Extent}
 use Rattle.history_check.specs.declared.Record.{Record}
 use Rattle.history_check.specs.declared.Record.TheVariants as records
 use Rattle.history_check.specs.Trace.{submissions, submission, IsNumbered, Explains}
-use Rattle.log_runs.specs.Explainable.{without_n}
-use Rattle.op_pieces.specs.Pieces.{parts}
+use Rattle.log_runs.specs.Explainable.{MayBe, IsSeenAs, AreSeenAs}
+use Rattle.op_pieces.specs.Pieces.{parts, front_of, back_of}
 use Rattle.log_pieces.specs.InPieces.{width, numbered, subs, answers, answers_by, next_number, split, split_all}
 use Rattle.log_pieces.proofs.Chunks.{take_get}
 use Rattle.log_pieces.proofs.Shapes.{first, width_is, numbered_at, first_stays}
 use Rattle.log_pieces.proofs.Explained.{claim, clock, of_record, all_records, listed_in, records_in_pieces, known_of}
+
+-- the record but for its n
+abbrev pub without_n : Record → Record
+without_n (records.Sub i k op n) = records.Sub i k op 0
+without_n (records.Ans i k reply n) = records.Ans i k reply 0
 
 subs_without : (i k n : ℕ) (ops : List Op) → map without_n (subs i k n ops) ≡ subs i k 0 ops
 subs_without i k n [] = refl
@@ -27,37 +33,97 @@ answers_without : (i k n : ℕ) (rs : List Reply) → map without_n (answers i k
 answers_without i k n [] = refl
 answers_without i k n (r ∷ rs) = ap (λ xs. records.Ans i k r 0 ∷ xs) (answers_without i (suc k) n rs)
 
-by_without : (p : Op → List Op) (o : Option (ℕ × Op)) (i next n : ℕ) (reply : Reply) → map without_n (answers_by p o i next n reply) ≡ answers_by p o i next 0 reply
-by_without p None i next n reply = refl
-by_without p (Some (k, op)) i next n reply = answers_without i k n (parts (p op) reply)
+-- ---- records that a log has, with and without a reply
 
-same_submissions : (rs : List Record) (i : ℕ) → submissions (map without_n rs) i ≡ submissions rs i
-same_submissions [] i = refl
-same_submissions (records.Sub j k op n ∷ rs) i =
-    filter_map-append (submission i) (records.Sub j k op 0 ∷ []) (map without_n rs)
-    ∙ ap (λ (xs : List Op). submissions (records.Sub j k op 0 ∷ []) i ++ xs) (same_submissions rs i)
-    ∙ sym (filter_map-append (submission i) (records.Sub j k op n ∷ []) rs)
-same_submissions (records.Ans j k reply n ∷ rs) i = same_submissions rs i
+seen_append : (rs us qs ws : List Record) → AreSeenAs rs us → AreSeenAs qs ws → AreSeenAs (rs ++ qs) (us ++ ws)
+seen_append [] [] qs ws e f = f
+seen_append [] (u ∷ us) qs ws e f = absurd e
+seen_append (r ∷ rs) [] qs ws e f = absurd e
+seen_append (r ∷ rs) (u ∷ us) qs ws e f = (e.0, seen_append rs us qs ws e.1 f)
 
-split_without : (p : Op → List Op) (before : List Record) (r : Record) → map without_n (split p before r) ≡ split p (map without_n before) (without_n r)
-split_without p before (records.Sub i k op n) =
-    subs_without i (next_number (k == length (submissions before i)) (width p (submissions before i))) n (p op)
-    ∙ ap (λ (ops : List Op). subs i (next_number (k == length ops) (width p ops)) 0 (p op)) (sym (same_submissions before i))
-split_without p before (records.Ans i k reply n) =
-    by_without p (slice_get (numbered p 0 (submissions before i)) k) i (width p (submissions before i)) n reply
-    ∙ ap (λ (ops : List Op). answers_by p (slice_get (numbered p 0 ops) k) i (width p ops) 0 reply) (sym (same_submissions before i))
+subs_seen : (i k n m : ℕ) (ops : List Op) → AreSeenAs (subs i k n ops) (subs i k m ops)
+subs_seen i k n m [] = tt
+subs_seen i k n m (op ∷ ops) = ((refl, refl, refl), subs_seen i (suc k) n m ops)
 
-all_without : (p : Op → List Op) (before rs : List Record) → map without_n (split_all p before rs) ≡ split_all p (map without_n before) (map without_n rs)
-all_without p before [] = refl
-all_without p before (r ∷ rs) =
-    map-append without_n (split p before r) (split_all p (before ++ r ∷ []) rs)
-    ∙ ap (λ (xs : List Record). xs ++ map without_n (split_all p (before ++ r ∷ []) rs)) (split_without p before r)
-    ∙ ap (λ (xs : List Record). split p (map without_n before) (without_n r) ++ xs)
-    (all_without p (before ++ r ∷ []) rs ∙ ap (λ (b : List Record). split_all p b (map without_n rs)) (map-append without_n before (r ∷ [])))
+front_may : (n : ℕ) (told made : Reply) → MayBe told made → MayBe (front_of n told) (front_of n made)
+front_may n told made (inl done) = inl (ap (front_of n) done)
+front_may n told made (inr same) = inr (ap (front_of n) same)
 
--- logs that are the same but for n are so in pieces
-pub alike_in_pieces : (p : Op → List Op) (rs qs : List Record) → map without_n rs ≡ map without_n qs → map without_n (split_all p [] rs) ≡ map without_n (split_all p [] qs)
-alike_in_pieces p rs qs e = all_without p [] rs ∙ ap (split_all p []) e ∙ sym (all_without p [] qs)
+back_may : (n : ℕ) (told made : Reply) → MayBe told made → MayBe (back_of n told) (back_of n made)
+back_may n told made (inl done) = inl (ap (back_of n) done)
+back_may n told made (inr same) = inr (ap (back_of n) same)
+
+answers_seen : (i k n m : ℕ) (ops : List Op) (told made : Reply) → MayBe told made → AreSeenAs (answers i k n (parts ops told)) (answers i k m (parts ops made))
+answers_seen i k n m [] told made may = tt
+answers_seen i k n m (op ∷ []) told made may = ((refl, refl, may), tt)
+answers_seen i k n m (op ∷ other ∷ ops) told made may =
+    ((refl, refl, front_may (count_of op) told made may), answers_seen i (suc k) n m (other ∷ ops) (back_of (count_of op) told) (back_of (count_of op) made) (back_may (count_of op) told made may))
+
+by_seen : (p : Op → List Op) (o : Option (ℕ × Op)) (i next n m : ℕ) (told made : Reply) → MayBe told made → AreSeenAs (answers_by p o i next n told) (answers_by p o i next m made)
+by_seen p None i next n m told made may = ((refl, refl, may), tt)
+by_seen p (Some (k, op)) i next n m told made may = answers_seen i k n m (p op) told made may
+
+-- the same submissions of each requester
+abbrev SameSubmissions : List Record → List Record → Type 0
+SameSubmissions rs us = (i : ℕ) → submissions rs i ≡ submissions us i
+
+split_seen : (p : Op → List Op) (rs us : List Record) (r u : Record) → SameSubmissions rs us → IsSeenAs r u → AreSeenAs (split p rs r) (split p us u)
+split_seen p rs us (records.Sub i k op n) (records.Sub j l w m) same e =
+    rw (e.0, e.1, e.2, same j) (subs_seen j (next_number (l == length (submissions us j)) (width p (submissions us j))) n m (p w))
+split_seen p rs us (records.Sub i k op n) (records.Ans j l made m) same e = absurd e
+split_seen p rs us (records.Ans i k told n) (records.Sub j l w m) same e = absurd e
+split_seen p rs us (records.Ans i k told n) (records.Ans j l made m) same e =
+    rw (e.0, e.1, same j) (by_seen p (slice_get (numbered p 0 (submissions us j)) l) j (width p (submissions us j)) n m told made e.2)
+
+one_submission : (i : ℕ) (r u : Record) → IsSeenAs r u → submissions (r ∷ []) i ≡ submissions (u ∷ []) i
+one_submission i (records.Sub j k op n) (records.Sub l m w q) e = rw (e.0, e.2) refl
+one_submission i (records.Sub j k op n) (records.Ans l m made q) e = absurd e
+one_submission i (records.Ans j k told n) (records.Sub l m w q) e = absurd e
+one_submission i (records.Ans j k told n) (records.Ans l m made q) e = refl
+
+same_more : (rs us : List Record) (r u : Record) → SameSubmissions rs us → IsSeenAs r u → SameSubmissions (rs ++ r ∷ []) (us ++ u ∷ [])
+same_more rs us r u same e i =
+    filter_map-append (submission i) rs (r ∷ []) ∙ ap (λ (xs : List Op). xs ++ submissions (r ∷ []) i) (same i)
+    ∙ ap (λ (xs : List Op). submissions us i ++ xs) (one_submission i r u e) ∙ sym (filter_map-append (submission i) us (u ∷ []))
+
+all_seen : (p : Op → List Op) (bs cs rs us : List Record) → SameSubmissions bs cs → AreSeenAs rs us → AreSeenAs (split_all p bs rs) (split_all p cs us)
+all_seen p bs cs [] [] same e = tt
+all_seen p bs cs [] (u ∷ us) same e = absurd e
+all_seen p bs cs (r ∷ rs) [] same e = absurd e
+all_seen p bs cs (r ∷ rs) (u ∷ us) same e =
+    seen_append (split p bs r) (split p cs u) (split_all p (bs ++ r ∷ []) rs) (split_all p (cs ++ u ∷ []) us)
+    (split_seen p bs cs r u same e.0) (all_seen p (bs ++ r ∷ []) (cs ++ u ∷ []) rs us (same_more bs cs r u same e.0) e.1)
+
+one_but_n : (r u w : Record) → IsSeenAs r u → without_n u ≡ without_n w → IsSeenAs r w
+one_but_n (records.Sub i k op n) (records.Sub j l w m) (records.Sub a b c d) e f =
+    let one : j ≡ a = cc in
+    let two : l ≡ b = cc in
+    let three : w ≡ c = cc in
+    (e.0 ∙ one, e.1 ∙ two, e.2 ∙ three)
+one_but_n (records.Ans i k told n) (records.Ans j l made m) (records.Ans a b c d) e f =
+    let one : j ≡ a = cc in
+    let two : l ≡ b = cc in
+    let three : made ≡ c = cc in
+    (e.0 ∙ one, e.1 ∙ two, subst (MayBe told) three e.2)
+one_but_n (records.Sub i k op n) (records.Ans j l made m) w e f = absurd e
+one_but_n (records.Ans i k told n) (records.Sub j l v m) w e f = absurd e
+one_but_n (records.Sub i k op n) (records.Sub j l w m) (records.Ans a b c d) e f = cc
+one_but_n (records.Ans i k told n) (records.Ans j l made m) (records.Sub a b c d) e f = cc
+
+pub seen_but_n : (rs us ws : List Record) → AreSeenAs rs us → map without_n us ≡ map without_n ws → AreSeenAs rs ws
+seen_but_n [] [] [] e f = tt
+seen_but_n [] [] (w ∷ ws) e f = cc
+seen_but_n [] (u ∷ us) ws e f = absurd e
+seen_but_n (r ∷ rs) [] ws e f = absurd e
+seen_but_n (r ∷ rs) (u ∷ us) [] e f = cc
+seen_but_n (r ∷ rs) (u ∷ us) (w ∷ ws) e f =
+    let head : without_n u ≡ without_n w = cc in
+    let tail : map without_n us ≡ map without_n ws = cc in
+    (one_but_n r u w e.0 head, seen_but_n rs us ws e.1 tail)
+
+-- logs that are alike are so in pieces
+pub alike_in_pieces : (p : Op → List Op) (rs qs : List Record) → AreSeenAs rs qs → AreSeenAs (split_all p [] rs) (split_all p [] qs)
+alike_in_pieces p rs qs e = all_seen p [] [] rs qs (λ i. refl) e
 
 -- ---- by places and by numbers
 

@@ -1,15 +1,15 @@
-use Rattle.std.proofs.Common.{◌≡◌, ◌∙◌, ℕ, List, [], map, refl, ap}
+use Rattle.std.proofs.Common.{◌≡◌, ◌∙◌, ℕ, List, [], refl, sym, subst}
 use Rattle.seq_memory.specs.declared.Entry.{Entry}
 use Rattle.history_check.specs.TraceView.{TraceView, observed}
 use Rattle.history_check.specs.Claim.{claim_of}
 use Rattle.history_check.specs.Trace.{submissions, Explains}
-use Rattle.log_runs.specs.Explainable.{IsExplainable, SeenAlike, without_n}
+use Rattle.log_runs.specs.Explainable.{IsExplainable, SeenAlike, AreSeenAs}
 use Rattle.log_pieces.specs.declared.Granularity.{Granularity}
 use Rattle.log_pieces.specs.declared.Granularity.TheVariants as sizes
 use Rattle.log_pieces.specs.Pieces.{pieces}
 use Rattle.log_pieces.specs.InPieces.{in_pieces, cut_log, split_all, IsExplainableIn}
 use Rattle.log_pieces.proofs.Explained.{records_in_pieces, all_entries, explained_in_pieces, clocked_in_pieces, Sized}
-use Rattle.log_pieces.proofs.Alike.{alike_in_pieces, by_number}
+use Rattle.log_pieces.proofs.Alike.{alike_in_pieces, by_number, seen_but_n}
 use Rattle.log_pieces.proofs.PieceLemmas.{cuts, ActTogether}
 use Rattle.log_pieces.proofs.laws.whole_requests_are_right_in_pieces.Goals as goal
 
@@ -27,12 +27,12 @@ in_cut sized law bytes t (u, h, alike, explained, clocked) =
     )
   where
     same : (t u : TraceView) (h : List Entry) → SeenAlike t u → Explains (claim_of u h) → (bytes : ℕ)
-        → map without_n (split_all (pieces bytes (observed t)) [] t.records) ≡ map without_n (records_in_pieces (pieces bytes (observed u)) u.records h)
+        → AreSeenAs (split_all (pieces bytes (observed t)) [] t.records) (records_in_pieces (pieces bytes (observed u)) u.records h)
     same t u h alike explained bytes =
         let extent : observed t ≡ observed u = rw (alike.base, alike.size, alike.block) refl in
-        ap (λ y. map without_n (split_all (pieces bytes y) [] t.records)) extent
-        ∙ alike_in_pieces (pieces bytes (observed u)) t.records u.records alike.records
-        ∙ by_number (observed u) (pieces bytes (observed u)) u.records h explained
+        let p = pieces bytes (observed u) in
+        subst (λ y. AreSeenAs (split_all (pieces bytes y) [] t.records) (records_in_pieces p u.records h)) (sym extent)
+        (seen_but_n (split_all p [] t.records) (split_all p [] u.records) (records_in_pieces p u.records h) (alike_in_pieces p t.records u.records alike.records) (by_number (observed u) p u.records h explained))
 
 by_size : (sized : Sized) (law : ActTogether) (size : Granularity) (t : TraceView) → IsExplainable t → IsExplainableIn size t
 unfolding in_pieces
