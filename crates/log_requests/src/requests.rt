@@ -115,12 +115,16 @@ fn requester_of(item: &Record) -> Option<u8>
     }
 }
 
-/// The reply that the record is.
+/// The reply that the record is, if it is known: that a request was done says nothing of its reply.
 fn reply_of(item: &Record) -> Option<&Reply>
     ensures { IfSome result (λ reply. (i : ℕ) × (k : ℕ) × (n : ℕ) × (item.now ≡ kinds.Ans i k reply.now n)) }
 {
     match item {
-        Record::Sub { .. } => None,
+        Record::Sub { .. }
+        | Record::Ans {
+            reply: Reply::Done,
+            ..
+        } => None,
         Record::Ans { reply, .. } => Some(reply),
     }
 }
@@ -169,7 +173,7 @@ impl<'a> Requests<'a> {
         }
     }
 
-    /// The reply to the request, as its answer has it.
+    /// The reply to the request, as its answer has it; none if that has only that the request was done.
     pub fn reply(&self, request: &Request) -> Option<&'a Reply>
         ensures { IfSome result (λ reply. (a : ℕ) × (request.now.answer ≡ Some a) × IsAnswered self.now.records.now a reply.now) }
     {
