@@ -2,9 +2,9 @@
 
     python3 examples/jepsen.py < history.edn | pciex search
 
-Each register is a word of the memory, and each value a number, `nil` 0. What becomes of each operation stands in
-docs/other-logs.md. Operations are `read`, `write` and `cas`, with or without a key; others are refused, and so are more
-than six acknowledged writes at once.
+Each register is a word of the memory, and each value a number, `nil` 0; of a counter, which has an `add`, a value is
+itself. What becomes of each operation stands in docs/other-logs.md. Operations are `read`, `write`, `cas` and `add`, with
+or without a key; others are refused.
 """
 
 import re
@@ -12,8 +12,7 @@ import sys
 
 TOKEN = re.compile(r'[\[\](){}]|"(?:[^"\\]|\\.)*"|[^\[\](){}\s,"]+')
 MOST_WORDS = 262144
-WRITERS = 6  # requesters 1 to 6 have the acknowledged writes, one at a time each
-OTHERS = 7  # all else, in any order: only posted writes bind what their requester does later
+KINDS = ("read", "write", "cas", "add")
 
 
 def form(token, tokens):
@@ -48,7 +47,7 @@ class Operation:
 
     def __init__(self, entry):
         self.kind, value = entry[":f"][1:], entry[":value"]
-        if self.kind not in ("read", "write", "cas"):
+        if self.kind not in KINDS:
             sys.exit(f"jepsen: {entry[':f']} can't be said of a register")
         has_key = isinstance(value, list) and (self.kind != "cas" or isinstance(value[1], list))
         self.register, self.value = value if has_key else (None, value)
@@ -87,60 +86,53 @@ def operations(entries):
 
 
 class Log:
-    def __init__(self):
-        self.lines, self.words, self.values = [], {}, {None: 0}
-        self.following = [0] * (OTHERS + 1)
-        self.idle = list(range(1, WRITERS + 1))
-        self.awaited = {}  # of each operation that will be answered its requester and number
+    """All operations are requests of one requester: order binds only posted writes, and there is none."""
+
+    def __init__(self, counts):
+        self.lines, self.words, self.values = [], {}, None if counts else {None: 0}
+        self.numbers = {}  # of each operation that was submitted
 
     def bytes_of(self, value):
-        return self.values.setdefault(value, len(self.values)).to_bytes(4, "little").hex().upper()
+        number = (value or 0) % 2**32 if self.values is None else self.values.setdefault(value, len(self.values))
+        return number.to_bytes(4, "little").hex().upper()
 
-    def address(self, operation):
-        return "%X" % (4 * self.words.setdefault(operation.register, len(self.words)))
-
-    def submit(self, requester, words):
-        self.lines.append(f"sub {requester} {self.following[requester]} {words}")
-        self.following[requester] += 1
-        return requester, self.following[requester] - 1
+    def submitted(self, operation):
+        """The words of the request; none where it had no effect, or a read has no value."""
+        at = "%X" % (4 * self.words.setdefault(operation.register, len(self.words)))
+        if operation.end == ":fail" or (operation.kind == "read" and operation.end != ":ok"):
+            return None
+        if operation.kind == "read":
+            return f"read {at} 1 F 0"
+        values = operation.value if operation.kind == "cas" else [operation.value]
+        return " ".join(["swap" if operation.kind == "write" else operation.kind, at, *map(self.bytes_of, values)])
 
     def invoke(self, operation):
-        at, end = self.address(operation), operation.end
-        if operation.kind == "read" and end == ":ok":
-            self.awaited[operation] = self.submit(OTHERS, f"read {at} 1 F 0")
-        elif operation.kind == "cas" and end != ":fail":
-            old, new = map(self.bytes_of, operation.value)
-            self.awaited[operation] = self.submit(OTHERS, f"cas {at} {old} {new}")
-        elif operation.kind == "write" and end == ":info":
-            self.submit(OTHERS, f"swap {at} {self.bytes_of(operation.value)}")
-        elif operation.kind == "write" and end == ":ok":
-            if not self.idle:
-                sys.exit(f"jepsen: more than {WRITERS} acknowledged writes at once")
-            writer = self.idle.pop(0)
-            self.submit(writer, f"write {at} F 0 {self.bytes_of(operation.value)}")
-            self.awaited[operation] = self.submit(writer, f"read {at} 1 0 0")  # of no bytes: it waits for the write
+        words = self.submitted(operation)
+        if words:
+            number = self.numbers[operation] = len(self.numbers)
+            self.lines.append(f"sub 1 {number} {words}")
 
     def answer(self, operation):
         if operation.end != ":ok":
             return
-        requester, number = self.awaited.pop(operation)
-        data = "00000000"
-        if operation.kind == "write":
-            self.idle.append(requester)
-        else:
-            data = self.bytes_of(operation.value[0] if operation.kind == "cas" else operation.value)
-        self.lines.append(f"ans {requester} {number} data {data}")
+        reply = "done"  # it acted, and its old value isn't known
+        if operation.kind == "read":
+            reply = "data " + self.bytes_of(operation.value)
+        elif operation.kind == "cas":
+            reply = "data " + self.bytes_of(operation.value[0])
+        self.lines.append(f"ans 1 {self.numbers[operation]} {reply}")
 
     def text(self):
         if len(self.words) > MOST_WORDS:
             sys.exit(f"jepsen: more than {MOST_WORDS} registers")
         size = max(1, (4 * len(self.words) + 127) // 128) * 128
-        return "\n".join(["pciex-log 1", f"memory 0 {size} 64", *self.lines, "end", ""])
+        return "\n".join(["pciex-log 2", f"memory 0 {size} 64", *self.lines, "end", ""])
 
 
 def main():
-    log = Log()
-    for operation, is_invoked in operations(history(sys.stdin.read())):
+    events = operations(history(sys.stdin.read()))
+    log = Log(any(operation.kind == "add" for operation, _ in events))
+    for operation, is_invoked in events:
         (log.invoke if is_invoked else log.answer)(operation)
     sys.stdout.write(log.text())
 

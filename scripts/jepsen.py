@@ -1,7 +1,8 @@
 """Compares `pciex search` on the logs of examples/jepsen.py with a decider of its own: jepsen.py PROGRAM CONVERTER.
 
-80 random histories of registers, as Jepsen writes them: reads, writes and compare-and-sets of several processes, some of
-which end in a crash. Half of the histories are of right registers, the others of registers with a defect that shows or not.
+80 random histories of registers and 20 of counters, as Jepsen writes them: reads, writes and compare-and-sets, or reads
+and additions, of several processes, some of which end in a crash. Half of the histories are right, the others are of
+registers with a defect that shows or not.
 What is right is known by a search of Wing and Gong's kind, which knows nothing of logs. The histories are the same in each
 run.
 """
@@ -9,10 +10,12 @@ run.
 import subprocess
 import sys
 
-HISTORIES = 80
+HISTORIES = 100
+COUNTERS = 20
 OPERATIONS = 60
 VALUES = 4
 INITIAL = "nil"
+ZERO = "0"  # of a counter
 NEVER = 1 << 30
 
 
@@ -49,11 +52,11 @@ class Operation:
 
 
 class Registers:
-    """Registers with one of these defects, or none: a stale read, a lost write, or a compare-and-set that compares
-    nothing."""
+    """Registers with one of these defects, or none: a stale read, a lost write or addition, or a compare-and-set that
+    compares nothing."""
 
-    def __init__(self, count, defect):
-        self.values = [[INITIAL] for _ in range(count)]
+    def __init__(self, count, initial, defect):
+        self.values = [[initial] for _ in range(count)]
         self.defect = defect
 
     def act(self, operation, random):
@@ -63,18 +66,19 @@ class Registers:
         if operation.kind == "read":
             is_stale = is_wrong and self.defect == "stale read" and len(values) > 1
             operation.result = values[-2 if is_stale else -1]
-        elif operation.kind == "write":
+        elif operation.kind in ("write", "add"):
             if not (is_wrong and self.defect == "lost write"):
-                values.append(operation.arguments[0])
+                values.append(after(values[-1], operation))
         elif values[-1] == operation.arguments[0] or (is_wrong and self.defect == "no comparison"):
             values.append(operation.arguments[1])
         else:
             operation.outcome = "fail"
 
 
-def drawn(random, defect):
-    """A history: its text in EDN and its operations."""
-    registers, lines, operations = Registers(1 + random.below(3), defect), [], []
+def drawn(random, counts, defect):
+    """A history of counters or of registers: its text in EDN and its operations."""
+    registers, lines, operations = Registers(1 + random.below(3), ZERO if counts else INITIAL, defect), [], []
+    kinds = ("read", "add", "read", "add") if counts else ("read", "read", "write", "cas")
     at_work = [None] * (2 + random.below(5))
     names = list(range(len(at_work)))  # a process that crashed goes on under another name
     while len(operations) < OPERATIONS or any(at_work):
@@ -82,8 +86,8 @@ def drawn(random, defect):
         operation = at_work[place]
         if operation is None:
             if len(operations) < OPERATIONS:
-                kind = ("read", "read", "write", "cas")[random.below(4)]
-                arguments = tuple(str(random.below(VALUES)) for _ in range({"read": 0, "write": 1, "cas": 2}[kind]))
+                kind = kinds[random.below(4)]
+                arguments = tuple(str(random.below(VALUES)) for _ in range({"read": 0, "cas": 2}.get(kind, 1)))
                 operation = Operation(names[place], kind, random.below(len(registers.values)), arguments, len(lines))
                 lines.append(operation.entry("invoke"))
                 operations.append(operation)
@@ -110,15 +114,17 @@ def after(value, operation):
         return value if operation.result == value else None
     if operation.kind == "write":
         return operation.arguments[0]
+    if operation.kind == "add":
+        return str(int(value) + int(operation.arguments[0]))
     return operation.arguments[1] if operation.arguments[0] == value else None
 
 
-def has_order(operations):
+def has_order(operations, initial):
     """Whether operations on one register have an order: each acts between its beginning and its end, and one that crashed
     acts at any time after its beginning, or never."""
     todo = [it for it in operations if it.outcome == "ok" or (it.outcome == "info" and it.kind != "read")]
     answered = sum(1 << place for place, it in enumerate(todo) if it.outcome == "ok")
-    seen, places = set(), [(0, INITIAL)]
+    seen, places = set(), [(0, initial)]
     while places:
         done, value = place = places.pop()
         if done & answered == answered:
@@ -134,8 +140,8 @@ def has_order(operations):
     return False
 
 
-def is_right(operations):
-    return all(has_order([it for it in operations if it.register == register])
+def is_right(operations, initial):
+    return all(has_order([it for it in operations if it.register == register], initial)
                for register in {it.register for it in operations})
 
 
@@ -143,10 +149,11 @@ def main(program, converter):
     found = {True: 0, False: 0}
     for seed in range(1, HISTORIES + 1):
         defect = (None, "stale read", None, "lost write", None, "no comparison")[seed % 6]
-        text, operations = drawn(Random(seed), defect)
+        counts = seed > HISTORIES - COUNTERS
+        text, operations = drawn(Random(seed), counts, "lost write" if counts and defect else defect)
         log = subprocess.run([sys.executable, converter], input=text, stdout=subprocess.PIPE, text=True, check=True).stdout
         searched = subprocess.run([program, "search"], input=log, capture_output=True, text=True, check=False)
-        wanted = is_right(operations)
+        wanted = is_right(operations, ZERO if counts else INITIAL)
         if searched.returncode != (0 if wanted else 1) or searched.stdout.startswith("none") == wanted:
             print(text, log, sep="\n")
             sys.exit("jepsen: history %d, %s: search has status %d and prints %s, and %s order explains it" % (

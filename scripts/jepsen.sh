@@ -1,5 +1,5 @@
 #!/bin/sh
-# Compares `pciex search` on the logs that examples/jepsen.py makes of 80 random histories of registers with a decider that
+# Compares `pciex search` on the logs that examples/jepsen.py makes of 100 random histories of registers and counters with a decider that
 # knows nothing of logs, and runs what docs/other-logs.md shows: jepsen.sh [PROGRAM], that of program.sh if none is named.
 unset CDPATH
 pciex=$(sh "$(dirname "$0")/program.sh" "$@") || exit 1

@@ -15,7 +15,7 @@ unfolding empty
 empty-explainable base size block = (
   record { base = base; size = size; block = block; records = [] },
   [],
-  record { base = refl; size = refl; block = refl; records = refl },
+  record { base = refl; size = refl; block = refl; records = tt },
   record { numbered = λ a i k n op e. absurd (cc e); legal = λ p e h. absurd (cc h); linear = λ a i k n reply e. absurd (cc e) },
   record { rises = λ a b r s lt e. absurd (cc e); bounded = λ a r e. absurd (cc e); after_submission = λ p b n e op h. absurd (cc h) },
 )

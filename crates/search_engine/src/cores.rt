@@ -12,6 +12,7 @@ use log_text::read_seen;
 use operation_text::{write_hexadecimal, write_op, write_reply};
 use search_history::{Sought, Unwatched, search_watched};
 use search_reasons::{Case, Kept, Why, core_of, reasons_of};
+use seq_memory::Reply;
 use std::alloc::{AllocError, Global};
 use std::fmt::Display;
 use std::io::Write;
@@ -24,15 +25,30 @@ fn put_line<D: Display + Drop>(out: &mut Vec<u8>, line: D) -> Result<(), AllocEr
     }
 }
 
-/// Adds the head of a log.
+/// The version in which a log has that record.
+fn version_of(record: &Record) -> u8 {
+    match record {
+        Record::Ans {
+            reply: Reply::Done,
+            ..
+        } => 2,
+        _ => 1,
+    }
+}
+
+/// Adds the head of a log, of version 2 if one of its answers has only that its request was done.
 fn put_head(out: &mut Vec<u8>, trace: &Trace) -> Result<(), AllocError> {
     let extent = trace.extent;
     let mut text = ArrayString::new();
     write_hexadecimal(extent.base(), &mut text);
     let (base, size, block) = (text.as_str(), extent.size(), extent.block());
+    let mut version = 1;
+    for record in trace.records.as_slice() {
+        version = version_of(record).max(version);
+    }
     put_line(
         out,
-        format_args!("pciex-log 1\nmemory {base} {size} {block}"),
+        format_args!("pciex-log {version}\nmemory {base} {size} {block}"),
     )
 }
 

@@ -1,24 +1,23 @@
 //! What holds of all answers.
-ghost use Rattle.std.specs.Prelude.{◌≡◌, List, [], ℕ, codes};
-ghost use Rattle.history_check.specs.Claim.{claim_of};
+ghost use Rattle.std.specs.Prelude.{◌≡◌, List, ℕ, codes};
 ghost use Rattle.history_check.specs.TraceView.{TraceView};
-ghost use Rattle.trace_text.specs.Tellable.{IsTellable};
+ghost use Rattle.log_text.specs.Told.{IsToldLog};
 ghost use Rattle.trace_engine.specs.Check.{out_check, out_check_clocked};
 ghost use Rattle.search_engine.specs.Search.{IsFoundIn, OutSearch};
 
-use log_runs::laws::numbers_name_submissions;
 use log_text::what_is_seen_can_be_told;
+use told_laws::what_is_explained_can_be_told;
 use trace_engine::laws::{a_clocked_trace_is_ok, an_explained_trace_is_ok};
 use trace_text::told_trace_is_read_back;
 
 /// `check` says `ok`, with status 0, to the text of what is found of a log, and so does `check --clocked`, if lines can
-/// tell the log: its extent, requests, operations and replies.
+/// tell the log: its extent, requests and operations.
 pub fn what_is_found_is_ok()
-    ensures ok { (t : TraceView) (text : List ℕ) (status : ℕ) → IsFoundIn t text status → IsTellable (claim_of t []) → (out_check text).text ≡ codes "ok\n" }
-    ensures status { (t : TraceView) (text : List ℕ) (status : ℕ) → IsFoundIn t text status → IsTellable (claim_of t []) → (out_check text).status ≡ 0 }
-    ensures clocked { (t : TraceView) (text : List ℕ) (status : ℕ) → IsFoundIn t text status → IsTellable (claim_of t []) → (out_check_clocked text).text ≡ codes "ok\n" }
+    ensures ok { (t : TraceView) (text : List ℕ) (status : ℕ) → IsFoundIn t text status → IsToldLog t → (out_check text).text ≡ codes "ok\n" }
+    ensures status { (t : TraceView) (text : List ℕ) (status : ℕ) → IsFoundIn t text status → IsToldLog t → (out_check text).status ≡ 0 }
+    ensures clocked { (t : TraceView) (text : List ℕ) (status : ℕ) → IsFoundIn t text status → IsToldLog t → (out_check_clocked text).text ≡ codes "ok\n" }
 {
-    numbers_name_submissions();
+    what_is_explained_can_be_told();
     told_trace_is_read_back();
     a_clocked_trace_is_ok();
     an_explained_trace_is_ok();

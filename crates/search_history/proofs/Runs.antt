@@ -1,5 +1,5 @@
 -- Runs through records, and what they are.
-use Rattle.std.proofs.Common.{◌≡◌, ◌∙◌, ℕ, zero, suc, ◌+◌, ◌-◌, ◌<◌, ◌≤◌, Bool, true, false, List, [], ◌∷◌, ◌++◌, take, drop, get_or, set, length, Option, None, Some, refl, sym, ap, subst, arith, add-one, append_assoc, take-append-drop}
+use Rattle.std.proofs.Common.{◌≡◌, ◌∙◌, ℕ, zero, suc, ◌+◌, ◌-◌, ◌<◌, ◌≤◌, Bool, true, false, List, [], ◌∷◌, ◌++◌, take, drop, get_or, set, length, Option, None, Some, refl, sym, ap, subst, inr, arith, add-one, append_assoc, take-append-drop}
 use Rattle.std.specs.Prelude.{slice_get, option_and_then, is_some, IfNone}
 use Rattle.std.specs.List.{cons_option}
 use Rattle.std.proofs.Math.Seq.{take-suc, take-length, drop-length}
@@ -8,13 +8,14 @@ use Rattle.std.proofs.lemmas.Option.{same_Some, get_or_from_slice_get}
 use Rattle.seq_memory.specs.Limits.{Extent}
 use Rattle.seq_memory.specs.declared.Entry.{Entry}
 use Rattle.history_check.specs.declared.Record.{Record}
+use Rattle.history_check.specs.declared.Record.TheVariants as records
 use Rattle.history_check.specs.TraceView.{TraceView, observed}
 use Rattle.history_check.specs.Claim.{claim_of}
 use Rattle.history_check.specs.Trace.{Explains}
 use Rattle.history_check.specs.Clocks.{IsClocked}
 use Rattle.log_runs.specs.EventView.{EventView}
-use Rattle.log_runs.specs.Explainable.{IsExplainable, SeenAlike, prefix}
-use Rattle.log_runs.specs.Histories.{submitted, history_of, with_n, timed_from, timed}
+use Rattle.log_runs.specs.Explainable.{IsSeenAs, AreSeenAs, IsExplainable, SeenAlike, prefix}
+use Rattle.log_runs.specs.Histories.{submitted, history_of, with_n, timed_from, timed, with_replies}
 use Rattle.log_runs.specs.LogView.{LogView}
 use Rattle.log_runs.specs.Runs.{Live, Dead, start}
 use Rattle.log_runs.specs.Tasks.{AreAllEvents, IsMisformed, IsWellFormed}
@@ -232,26 +233,39 @@ inside_none (x ∷ xs) (suc i) l e = inside_none xs i (omega arith) e
 abbrev pub with_records : TraceView → List Record → TraceView
 with_records t rs = record { base = t.base; size = t.size; block = t.block; records = rs }
 
-module _ (u t : TraceView) (same : u ≡ t) (xs : List Step) (run : IsRunOf t xs) (rs : List Record) (is : rs ≡ timed_from 0 xs u.records) where
-  run_law : (P : TraceView → Type 0) → P (timed xs t) → P (with_records u rs)
+same_record : (r : Record) → IsSeenAs r r
+same_record (records.Sub i k op n) = (refl, refl, refl)
+same_record (records.Ans i k reply n) = (refl, refl, inr refl)
+
+same_records : (rs : List Record) → AreSeenAs rs rs
+same_records [] = tt
+same_records (r ∷ rs) = (same_record r, same_records rs)
+
+-- where nothing changes, it is the same that was seen
+pub seen_same : (t u : TraceView) → u ≡ t → SeenAlike t u
+seen_same t u same = subst (SeenAlike t) (sym same) (record { base = refl; size = refl; block = refl; records = same_records t.records })
+
+-- the trace with the replies of the run
+abbrev pub replied_by : TraceView → List Step → TraceView
+replied_by t xs = with_replies (history_of t.records xs) t
+
+module _ (u t : TraceView) (xs : List Step) (same : u ≡ replied_by t xs) (run : IsRunOf t xs) (rs : List Record) (is : rs ≡ timed_from 0 xs u.records) where
+  run_law : (P : TraceView → Type 0) → P (timed xs (replied_by t xs)) → P (with_records u rs)
   run_law P p =
-      let records : timed_from 0 xs t.records ≡ rs = sym (is ∙ ap (λ (v : TraceView). timed_from 0 xs v.records) same) in
-      subst (λ (v : TraceView). P (with_records v rs)) (sym same) (subst (λ (ys : List Record). P (with_records t ys)) records p)
+      let records : timed_from 0 xs (replied_by t xs).records ≡ rs = sym (is ∙ ap (λ (v : TraceView). timed_from 0 xs v.records) same) in
+      subst (λ (v : TraceView). P (with_records v rs)) (sym same) (subst (λ (ys : List Record). P (with_records (replied_by t xs) ys)) records p)
 
-  of_run : (h : List Entry) → h ≡ history_of u.records xs → history_of t.records xs ≡ h
-  of_run h e = sym (e ∙ ap (λ (v : TraceView). history_of v.records xs) same)
-
-  pub run_alike : ((es : List EventView) → IsWellFormed t.records → AreAllEvents t.records es → (run : Live (of (observed t) es) (start (of (observed t) es))) → SeenAlike t (timed run.steps t)) → SeenAlike t (with_records u rs)
+  pub run_alike : ((es : List EventView) → IsWellFormed t.records → AreAllEvents t.records es → (run : Live (of (observed t) es) (start (of (observed t) es))) → SeenAlike t (timed run.steps (replied_by t run.steps))) → SeenAlike t (with_records u rs)
   run_alike law = run_law (SeenAlike t) (law run.events run.formed run.all (live (of (observed t) run.events) xs run.run))
 
-  pub run_explains : ((es : List EventView) → IsWellFormed t.records → AreAllEvents t.records es → (run : Live (of (observed t) es) (start (of (observed t) es))) → Explains (claim_of (timed run.steps t) (history_of t.records run.steps)))
-      → (h : List Entry) → h ≡ history_of u.records xs → Explains (claim_of (with_records u rs) h)
+  pub run_explains : ((es : List EventView) → IsWellFormed t.records → AreAllEvents t.records es → (run : Live (of (observed t) es) (start (of (observed t) es))) → Explains (claim_of (timed run.steps (replied_by t run.steps)) (history_of t.records run.steps)))
+      → (h : List Entry) → h ≡ history_of t.records xs → Explains (claim_of (with_records u rs) h)
   run_explains law h e =
-      subst (λ (g : List Entry). Explains (claim_of (with_records u rs) g)) (of_run h e)
+      subst (λ (g : List Entry). Explains (claim_of (with_records u rs) g)) (sym e)
       (run_law (λ v. Explains (claim_of v (history_of t.records xs))) (law run.events run.formed run.all (live (of (observed t) run.events) xs run.run)))
 
-  pub run_clocked : ((es : List EventView) → IsWellFormed t.records → AreAllEvents t.records es → (run : Live (of (observed t) es) (start (of (observed t) es))) → IsClocked (claim_of (timed run.steps t) (history_of t.records run.steps)))
-      → (h : List Entry) → h ≡ history_of u.records xs → IsClocked (claim_of (with_records u rs) h)
+  pub run_clocked : ((es : List EventView) → IsWellFormed t.records → AreAllEvents t.records es → (run : Live (of (observed t) es) (start (of (observed t) es))) → IsClocked (claim_of (timed run.steps (replied_by t run.steps)) (history_of t.records run.steps)))
+      → (h : List Entry) → h ≡ history_of t.records xs → IsClocked (claim_of (with_records u rs) h)
   run_clocked law h e =
-      subst (λ (g : List Entry). IsClocked (claim_of (with_records u rs) g)) (of_run h e)
+      subst (λ (g : List Entry). IsClocked (claim_of (with_records u rs) g)) (sym e)
       (run_law (λ v. IsClocked (claim_of v (history_of t.records xs))) (law run.events run.formed run.all (live (of (observed t) run.events) xs run.run)))

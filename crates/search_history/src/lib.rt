@@ -1,8 +1,8 @@
 //! A history that explains what requesters saw, or a proof that there is none.
 //!
 //! A log is a [`Trace`](history_check::Trace) of which only the order of its records counts, not its
-//! n's. [`search`] looks for n's and a history that make it a trace that the history explains: a run
-//! through the log is one. Where it says that there is none, no history explains
+//! n's. An answer `Done` says only that its request acted. [`search`] looks for n's, replies in place of `Done` and a
+//! history that make it a trace that the history explains: a run through the log is one. Where it says that there is none, no history explains
 //! the log; it then looks for a prefix that has none either, and is as short as it can prove.
 //! [`explained_before`] says that the prefix that is one shorter has one, and which reply a history has in place of the last
 //! one. [`contradiction`] looks for few answers of such a prefix that no history explains together, [`contradict`] finds out

@@ -1,4 +1,4 @@
-//! The history and the n's of a run.
+//! The history, the n's and the replies of a run.
 ghost use Rattle.std.specs.Prelude.{◌≡◌, ◌++◌, ◌∷◌, [], IfOk, OnOk, None, Some, option_and_then, set, slice_get};
 ghost use Rattle.history_check.specs.declared.Record.{Record};
 ghost use Rattle.history_check.specs.Claim.{claim_of};
@@ -10,6 +10,7 @@ ghost use Rattle.log_runs.specs.Histories as histories;
 ghost use Rattle.search_history.specs.Runs.{IsRunOf};
 
 use history_check::{Record, Trace};
+use log_replies::complete;
 use log_runs::Step;
 use log_runs::laws::a_run_is_a_history;
 use seq_memory::Entry;
@@ -115,7 +116,9 @@ fn set_moments(records: &mut Vec<Record>, steps: &[Step])
     }
 }
 
-/// The history that a run is. It explains the trace with the n's that that then has; only they change.
+/// The history that a run is. It explains the trace with the n's that that then has, and replies in place of `Done`; only
+/// they change.
+#[tactic(auto, using(crate::proofs::Runs::seen_same))]
 pub(crate) fn history_by(
     alloc: Global,
     trace: &mut Trace,
@@ -127,6 +130,7 @@ pub(crate) fn history_by(
 {
     a_run_is_a_history();
     let history = history_of(alloc, &trace.records, steps)?;
+    complete(alloc, trace, steps)?;
     set_moments(&mut trace.records, steps);
     Ok(history)
 }

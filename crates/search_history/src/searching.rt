@@ -140,7 +140,8 @@ fn searched<W: Watch>(
     }
 }
 
-/// The answer to a verdict. A run is a history, whose n's the trace then has.
+/// The answer to a verdict. A run is a history, whose n's and replies the trace then has.
+#[tactic(auto, using(crate::proofs::Runs::seen_same))]
 fn answered(alloc: Global, trace: &mut Trace, verdict: Verdict) -> Result<Sought, AllocError>
     requires { IsVerdictOf trace.old verdict }
     ensures alike { SeenAlike trace.old trace.new }
@@ -158,11 +159,14 @@ fn answered(alloc: Global, trace: &mut Trace, verdict: Verdict) -> Result<Sought
 }
 
 /// Looks for a history that explains the log: what the trace's requesters submitted and were
-/// answered, in the order of its records, whatever its n's are. Keeps within the bounds: `watch` sees each choice, and
-/// the second number is how many it saw. Where it isn't found out, it saw as many as the bounds allow, or fewer, if the
-/// work ended it. The searches for a shorter prefix have bounds of their own and aren't counted or seen.
+/// answered, in the order of its records, whatever its n's are; an answer `Done` is met by any reply. Keeps within the
+/// bounds: `watch` sees each choice, and the second number is how many it saw. Where it isn't found out, it saw as many as
+/// the bounds allow, or fewer, if the work ended it. The searches for a shorter prefix have bounds of their own and aren't
+/// counted or seen.
 ///
-/// Only n's of the trace change. Fails where memory can't be allocated; nothing is known then.
+/// Only n's of the trace change, and where a history is found, replies in place of `Done`. Fails where memory can't be
+/// allocated; nothing is known then.
+#[tactic(auto, using(crate::proofs::Runs::seen_same))]
 pub fn search_watched<W: Watch>(
     alloc: Global,
     trace: &mut Trace,

@@ -13,7 +13,7 @@ struct Row {
     written: &'static str,
 }
 
-static ROWS: [Row; 6] = [
+static ROWS: [Row; 7] = [
     Row {
         name: "data behind its doorbell, among other requests",
         records: "sub 3 0 read C0 1 F 0\nsub 1 0 write 40 F 0 01000000\nsub 3 1 add C0 01000000\nsub 1 1 write C4 F 0 05000000\nsub 1 2 write 80 F 0 01000001\nans 3 0 data 00000000\nsub 1 3 write 40 F 0 02000000\nsub 1 4 write 80 F 0 02000001\nsub 2 0 read 80 1 F 0\nans 2 0 data 01000001\nsub 2 1 read 80 1 F 0\nans 2 1 data 02000001\nsub 2 2 read 40 1 F 0\nans 2 2 data 01000000\nans 3 1 data 00000000\n",
@@ -31,6 +31,12 @@ static ROWS: [Row; 6] = [
         records: "sub 1 0 write 40 F 0 01000000\nsub 2 0 read 2000 1 F 0\nans 2 0 ca\n",
         granularity: Granularity::Whole,
         written: "pciex-log 1\nmemory 0 4096 64\nsub 2 0 read 2000 1 F 0\nans 2 0 ca\nend\n",
+    },
+    Row {
+        name: "an add that is only known to be done",
+        records: "sub 1 0 add 40 01000000\nsub 3 0 add 80 01000000\nans 3 0 data 00000000\nans 1 0 done\nsub 2 0 read 40 1 F 0\nans 2 0 data 00000000\n",
+        granularity: Granularity::Whole,
+        written: "pciex-log 2\nmemory 0 4096 64\nsub 1 0 add 40 01000000\nans 1 0 done\nsub 2 0 read 40 1 F 0\nans 2 0 data 00000000\nend\n",
     },
     Row {
         name: "in pieces",
@@ -78,7 +84,11 @@ fn written(alloc: Global, log: &[u8], demand: SearchDemand) -> Result<Vec<u8>, F
 
 /// Whether what the row has is written, and `none` for that, if it is a log.
 fn writes(alloc: Global, row: &Row) -> Result<bool, Fail> {
-    let text = format!(in alloc; "pciex-log 1\nmemory 0 4096 64\n{}end\n", row.records)?;
+    let version = if row.records.contains("done") { 2 } else { 1 };
+    let text = format!(in alloc;
+        "pciex-log {version}\nmemory 0 4096 64\n{}end\n",
+        row.records
+    )?;
     let out = written(alloc, text.as_bytes(), demand(row.granularity, true))?;
     let again = written(
         alloc,

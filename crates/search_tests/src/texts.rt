@@ -22,7 +22,7 @@ const HARD: &str =
 const GROUP: &str =
     "pciex-log 1\nmemory 0 4096 64\nsub 1 0 write 40 F 0 06000000\nsub 2 0 write 40 F 0 05000000\nsub 3 0 add 40 01000000\nsub 4 0 cas 40 07000000 08000000\nsub 5 0 swap 40 09000000\nans 5 0 data 08000000\nans 4 0 data 07000000\nans 3 0 data 06000000\nsub 3 1 read 40 1 F 0\nans 3 1 data 05000000\nend\n";
 
-static ROWS: [Row; 36] = [
+static ROWS: [Row; 48] = [
     Row {
         name: "nothing",
         text: "",
@@ -39,7 +39,7 @@ static ROWS: [Row; 36] = [
     },
     Row {
         name: "another version",
-        text: "pciex-log 2\n",
+        text: "pciex-log 3\n",
         limit: 1000,
         output: "fault 1 Head\n",
         status: 1,
@@ -273,6 +273,90 @@ static ROWS: [Row; 36] = [
         text: "pciex-log 1\nmemory 0 4096 128\nsub 1 0 write 3C F F 0101010102020202\nsub 1 1 read 3C 1 F 0\nans 1 1 data 00000000\nend\n",
         limit: 1000,
         output: "none 2\n",
+        status: 1,
+    },
+    Row {
+        name: "an add that is only known to be done is seen",
+        text: "pciex-log 2\nmemory 0 4096 64\nsub 1 0 add 40 01000000\nans 1 0 done\nsub 2 0 read 40 1 F 0\nans 2 0 data 01000000\nend\n",
+        limit: 1000,
+        output: "pciex-trace 2\nmemory 0 4096 64\nsub 1 0 0 add 40 01000000\nans 1 0 1 data 00000000\nsub 2 0 1 read 40 1 F 0\nans 2 0 2 data 01000000\nhistory\nent 1 0 add 40 01000000\nent 2 0 read 40 1 F 0\nend\n",
+        status: 0,
+    },
+    Row {
+        name: "an add that is done acted before",
+        text: "pciex-log 2\nmemory 0 4096 64\nsub 1 0 add 40 01000000\nans 1 0 done\nsub 2 0 read 40 1 F 0\nans 2 0 data 00000000\nend\n",
+        limit: 1000,
+        output: "none 3\n",
+        status: 1,
+    },
+    Row {
+        name: "any of two swaps that are done may be the last",
+        text: "pciex-log 2\nmemory 0 4096 64\nsub 1 0 swap 40 05000000\nsub 2 0 swap 40 06000000\nans 1 0 done\nans 2 0 done\nsub 3 0 read 40 1 F 0\nans 3 0 data 05000000\nend\n",
+        limit: 1000,
+        output: "found",
+        status: 0,
+    },
+    Row {
+        name: "swaps that are done one after the other",
+        text: "pciex-log 2\nmemory 0 4096 64\nsub 1 0 swap 40 05000000\nans 1 0 done\nsub 2 0 swap 40 06000000\nans 2 0 done\nsub 3 0 read 40 1 F 0\nans 3 0 data 05000000\nend\n",
+        limit: 1000,
+        output: "none 5\n",
+        status: 1,
+    },
+    Row {
+        name: "a comparison that is done may have failed",
+        text: "pciex-log 2\nmemory 0 4096 64\nsub 1 0 cas 40 07000000 08000000\nans 1 0 done\nsub 2 0 read 40 1 F 0\nans 2 0 data 00000000\nend\n",
+        limit: 1000,
+        output: "found",
+        status: 0,
+    },
+    Row {
+        name: "a read that is done is behind the writes that its requester submitted",
+        text: "pciex-log 2\nmemory 0 4096 64\nsub 1 0 write 40 F 0 01000000\nsub 1 1 read 80 1 F 0\nans 1 1 done\nsub 2 0 read 40 1 F 0\nans 2 0 data 00000000\nend\n",
+        limit: 1000,
+        output: "none 4\n",
+        status: 1,
+    },
+    Row {
+        name: "done outside of the memory",
+        text: "pciex-log 2\nmemory 0 4096 64\nsub 1 0 add 1000 01000000\nans 1 0 done\nend\n",
+        limit: 1000,
+        output: "pciex-trace 2\nmemory 0 4096 64\nsub 1 0 0 add 1000 01000000\nans 1 0 1 ur\nhistory\nent 1 0 add 1000 01000000\nend\n",
+        status: 0,
+    },
+    Row {
+        name: "done and other answers",
+        text: "pciex-log 2\nmemory 0 4096 64\nsub 1 0 add 40 01000000\nsub 2 0 add 40 02000000\nsub 3 0 read 40 1 F 0\nans 2 0 data 01000000\nans 1 0 done\nans 3 0 data 03000000\nend\n",
+        limit: 1000,
+        output: "found",
+        status: 0,
+    },
+    Row {
+        name: "a posted write has no answer",
+        text: "pciex-log 2\nmemory 0 4096 64\nsub 1 0 write 40 F 0 01020304\nans 1 0 done\nend\n",
+        limit: 1000,
+        output: "flaw 5 Unasked 1\n",
+        status: 1,
+    },
+    Row {
+        name: "done twice",
+        text: "pciex-log 2\nmemory 0 4096 64\nsub 1 0 add 40 01000000\nans 1 0 done\nans 1 0 done\nend\n",
+        limit: 1000,
+        output: "flaw 6 Again 2\n",
+        status: 1,
+    },
+    Row {
+        name: "done with data",
+        text: "pciex-log 2\nmemory 0 4096 64\nsub 1 0 add 40 01000000\nans 1 0 done 00\nend\n",
+        limit: 1000,
+        output: "fault 4 Line\n",
+        status: 1,
+    },
+    Row {
+        name: "in version 1 no answer is done",
+        text: "pciex-log 1\nmemory 0 4096 64\nsub 1 0 add 40 01000000\nans 1 0 done\nend\n",
+        limit: 1000,
+        output: "fault 4 Line\n",
         status: 1,
     },
 ];

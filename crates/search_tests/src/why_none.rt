@@ -10,7 +10,7 @@ struct Row {
     told: &'static str,
 }
 
-static ROWS: [Row; 29] = [
+static ROWS: [Row; 30] = [
     Row {
         name: "outside, as aborted",
         records: "sub 1 0 add 1000 01000000\nans 1 0 ca\n",
@@ -152,6 +152,11 @@ static ROWS: [Row; 29] = [
         told: "pciex: line 3, column 7: '4294967296' where a request's number is expected (0 to 4294967294)\n",
     },
     Row {
+        name: "an add that is done is seen",
+        records: "sub 1 0 add 40 01000000\nans 1 0 done\nsub 2 0 read 40 1 F 0\nans 2 0 data 00000000\n",
+        told: "pciex: lines 3 to 6 have no history, lines 3 to 5 have one\npciex: line 6: ans 2 0 data 00000000, against these answers:\npciex: line 4: ans 1 0 done\npciex: with data 01000000 in line 6, lines 3 to 6 have a history\npciex: 00000000 at 40 is 0, and the additions answered before line 5 make 1\n",
+    },
+    Row {
         name: "a line of a trace",
         records: "history\n",
         told: "pciex: line 3, column 1: 'history' where a record or the end is expected (sub <requester> <number> <operation>, ans <requester> <number> <reply>, end)\n",
@@ -160,7 +165,11 @@ static ROWS: [Row; 29] = [
 
 /// Whether the search, at that limit, tells what the row has.
 fn tells(alloc: Global, row: &Row, limit: u64) -> Result<bool, Fail> {
-    let text = format!(in alloc; "pciex-log 1\nmemory 0 4096 64\n{}end\n", row.records)?;
+    let version = if row.records.contains("done") { 2 } else { 1 };
+    let text = format!(in alloc;
+        "pciex-log {version}\nmemory 0 4096 64\n{}end\n",
+        row.records
+    )?;
     let mut reader = text.as_bytes();
     let mut out = Vec::new(alloc);
     let mut errors = Vec::new(alloc);

@@ -8,15 +8,15 @@ struct Row(&'static str, &'static str);
 static ROWS: [Row; 14] = [
     Row(
         "",
-        "pciex: line 1: the text ends where the head is expected (pciex-log 1, pciex-trace 1, pciex-trace 2)\n",
+        "pciex: line 1: the text ends where the head is expected (pciex-log 1, pciex-log 2, pciex-trace 1, pciex-trace 2)\n",
     ),
     Row(
-        "#\npciex-log 2\n",
-        "pciex: line 2, column 1: 'pciex-log' where the head is expected (pciex-log 1, pciex-trace 1, pciex-trace 2)\n",
+        "#\npciex-log 3\n",
+        "pciex: line 2, column 1: 'pciex-log' where the head is expected (pciex-log 1, pciex-log 2, pciex-trace 1, pciex-trace 2)\n",
     ),
     Row(
         "pciex-trace 3\n",
-        "pciex: line 1, column 1: 'pciex-trace' where the head is expected (pciex-log 1, pciex-trace 1, pciex-trace 2)\n",
+        "pciex: line 1, column 1: 'pciex-trace' where the head is expected (pciex-log 1, pciex-log 2, pciex-trace 1, pciex-trace 2)\n",
     ),
     Row(
         "pciex-log 1\nsub 1 0 read 40 1 F 0\n",

@@ -18,8 +18,8 @@ use fabric_settle_laws::what_settles_happens;
 use operation_text::own_digits_spell_number;
 use requester_core::laws::each_number_is_answered_once;
 use step_engine::laws::{what_a_script_does_is_explained, what_a_script_does_is_ok};
-use told_laws::what_is_explained_can_be_told;
 use tlp_core::laws::canonical_bytes_spell_their_packet;
+use told_laws::what_is_explained_can_be_told;
 
 /// Where a script has a line that isn't skipped, and its run with `--trace` ends with status 0, its first line makes a
 /// fabric, each line after it is an event that happens, or `settle`, and lines can tell the trace of what happened.

@@ -1,7 +1,5 @@
-use Rattle.std.proofs.Common.{ℕ, false, List, [], subst, sym}
-use Rattle.history_check.specs.TraceView.{TraceView}
-use Rattle.history_check.specs.Claim.{claim_of}
-use Rattle.trace_text.specs.Tellable.{IsTellable}
+use Rattle.std.proofs.Common.{ℕ, false, List, subst, sym}
+use Rattle.log_text.specs.Told.{IsToldLog}
 use Rattle.log_pieces.specs.declared.Granularity.TheVariants.{Whole}
 use Rattle.log_pieces.specs.InPieces.{in_pieces}
 use Rattle.log_text.specs.LogReaderView.{seen_of}
@@ -14,8 +12,8 @@ use Rattle.search_engine.proofs.laws.what_is_answered_is_ok.Goals as goal
 found : (limit : ℕ) (input text : List ℕ) → OutSearch limit input text 0 → Answered Whole (seen_of input) text
 found limit input text answer = answered false Whole (by_choices limit) (seen_of input) text answer
 
-told : (c : goal.After-what_is_found_is_ok) → (input text : List ℕ) (a : Answered Whole (seen_of input) text) → IsTellable (claim_of (in_pieces Whole a.log) [])
-told c input text a = subst (λ (t : TraceView). IsTellable (claim_of t [])) (sym (whole_is a.log)) (c.what_is_seen_can_be_told.ensures input a.log a.read)
+told : (c : goal.After-what_is_found_is_ok) → (input text : List ℕ) (a : Answered Whole (seen_of input) text) → IsToldLog (in_pieces Whole a.log)
+told c input text a = subst IsToldLog (sym (whole_is a.log)) (c.what_is_seen_can_be_told.ensures input a.log a.read)
 
 pub returns : goal.returns
 returns c =

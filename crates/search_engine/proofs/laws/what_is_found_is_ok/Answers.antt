@@ -1,17 +1,17 @@
-use Rattle.std.proofs.Common.{◌≡◌, ◌∙◌, ap, ℕ, List, [], Ok}
+use Rattle.std.proofs.Common.{◌≡◌, ◌∙◌, ap, ℕ, List, Ok}
 use Rattle.history_check.specs.TraceView.{TraceView}
 use Rattle.history_check.specs.Claim.{claim_of}
 use Rattle.trace_text.specs.TraceReaderView.{read_of}
-use Rattle.trace_text.specs.Tellable.{IsTellable}
+use Rattle.log_text.specs.Told.{IsToldLog}
 use Rattle.search_engine.specs.Search.{IsFoundIn}
 use Rattle.search_engine.proofs.TellableLemmas.{found_told}
 use Rattle.search_engine.proofs.laws.what_is_found_is_ok.Goals as goal
 
 is_read : (c : goal.After-an_explained_trace_is_ok) → (t : TraceView) (text : List ℕ) (status : ℕ) (found : IsFoundIn t text status)
-    → IsTellable (claim_of t []) → read_of text ≡ Ok (claim_of found.trace found.history)
+    → IsToldLog t → read_of text ≡ Ok (claim_of found.trace found.history)
 is_read c t text status found tellable =
     ap read_of found.says
-    ∙ c.told_trace_is_read_back.ensures (claim_of found.trace found.history) (found_told c.numbers_name_submissions.ensures.named t text status found tellable)
+    ∙ c.told_trace_is_read_back.ensures (claim_of found.trace found.history) (found_told c.what_is_explained_can_be_told.ensures t text status found tellable)
 
 pub returns : goal.returns
 returns c =
