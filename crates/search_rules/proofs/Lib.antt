@@ -8,3 +8,4 @@ pub mod WordLemmas
 pub mod JunkLemmas
 pub mod MissLemmas
 pub mod NeverLemmas
+pub mod AlikeLemmas

@@ -5,7 +5,8 @@ ghost use Rattle.seq_memory.specs.declared.Reply.{Reply};
 ghost use Rattle.log_runs.specs.EventView as events;
 ghost use Rattle.log_runs.specs.declared.Step.TheVariants as steps;
 ghost use Rattle.log_runs.specs.LogView.{LogView};
-ghost use Rattle.log_runs.specs.Runs.{State, MayAct, Dead, IsForced, start};
+ghost use Rattle.log_runs.specs.Runs.{State, MayAct, Live, Dead, IsForced, next, start};
+ghost use Rattle.search_rules.specs.Alike.{GoesFirst};
 ghost use Rattle.search_rules.specs.Rules.{NeverBrings, NeverPuts, Yields, LetsFirst, IsOutside, IsLost, LacksByte, IsLast, IsFirst, IsOverJunk, ChangesNothing, NeverSuits};
 
 use search_effects::laws::{a_request_sees_its_addresses, apart_requests_commute};
@@ -66,6 +67,11 @@ pub fn what_is_over_junk_acts_at_once()
     a_request_sees_its_addresses();
     only_the_place_changes();
 }
+
+/// Of requests that are alike the one that is due first may act first: where a run leads on after the other, one does after it.
+pub fn the_first_of_alike_requests_acts_first()
+    ensures { (log : LogView) (s : State) (b c : ℕ) → GoesFirst log s b c → MayAct log s c → Live log (next log s (steps.Act c)) → Live log (next log s (steps.Act b)) }
+{}
 
 /// An event that is no submission brings nothing, yields to any request and lets it be the first.
 #[tactic(auto, using(crate::proofs::PairLemmas::idle_brings, crate::proofs::PairLemmas::idle_yields, crate::proofs::FirstLemmas::idle_first))]

@@ -6,7 +6,7 @@
 //! that could act before it takes away for good what it needs, or makes no difference to it; and if none
 //! that has one of its bytes can act before it. It acts at once, too, if others may act in turn after it
 //! and leave only junk: nobody who is left then needs what it overwrote, or what any of them put there.
-//! What is junk is judged word by word.
+//! What is junk is judged word by word. Of requests that are alike the one that is due first acts first.
 //! [`laws`] says this of all runs, whatever the operations do. What two requests of a log do to each
 //! other is told by their bytes.
 //!
@@ -14,12 +14,14 @@
 //! costs choices, never a right answer.
 #![tactic(auto)]
 
+mod alike;
 mod answers;
 mod junk;
 pub mod laws;
 mod missing;
 mod pairs;
 
+pub use alike::are_alike;
 pub use answers::first_unanswerable;
 pub use junk::{is_junk_at, is_served, is_within, leaves_junk_at, overlooks};
 pub use missing::{Need, need_at, never_puts};
