@@ -2,3 +2,4 @@ pub mod OthersOf
 pub mod ApartLemmas
 pub mod Suiting
 pub mod NothingLemmas
+pub mod DueLemmas

@@ -1,6 +1,7 @@
 //! Till when requests must act.
-ghost use Rattle.std.specs.Prelude.{◌≡◌, Some, IfSome, slice_get};
+ghost use Rattle.std.specs.Prelude.{ℕ, ◌≡◌, ◌≤◌, Some, IfSome, IfOk, slice_get, slice_index};
 ghost use Rattle.log_runs.specs.EventView as events;
+ghost use Rattle.search_others.specs.Known.{AreEarliest, AreLower};
 
 use log_runs::{Event, Log};
 use std::alloc::{AllocError, Global};
@@ -12,21 +13,50 @@ fn nowhere(alloc: Global, count: usize) -> Result<Vec<usize>, AllocError> {
     vec![in alloc; NOWHERE; count]
 }
 
-/// The place of each request's answer, by the place of its submission.
-fn answers(alloc: Global, log: &Log) -> Result<Vec<usize>, AllocError> {
+/// The request's entry is no more than that.
+#[tactic(auto, using(crate::proofs::DueLemmas::beyond, crate::proofs::DueLemmas::lower_set, crate::proofs::DueLemmas::cut_set))]
+fn cut(due: &mut [usize], b: usize, most: usize)
+    ensures lower { AreLower due.old due.new }
+    ensures cut { slice_index due.new b ≤ most }
+{
+    if b >= due.len() {
+        return;
+    }
+    if due[b] <= most {
+        return;
+    }
+    due[b] = most;
+}
+
+/// The entry of the request that is answered at that place, if one is, is no more than that.
+fn cut_at(log: &Log, due: &mut [usize], at: usize)
+    ensures lower { AreLower due.old due.new }
+    ensures cut { (b : ℕ) → slice_get log.now.events at ≡ Some (events.Due b) → slice_index due.new b ≤ at }
+{
+    match log.event(at) {
+        Some(Event::Due { request }) => cut(due, request, at),
+        Some(Event::Sub { .. }) => {}
+        Some(Event::Free) => {}
+        None => {}
+    }
+}
+
+/// The place of each request's first answer, by the place of its submission.
+#[tactic(auto, using(crate::proofs::DueLemmas::earliest_next, crate::proofs::DueLemmas::earliest_end))]
+fn answers(alloc: Global, log: &Log) -> Result<Vec<usize>, AllocError>
+    ensures { IfOk result (λ v. AreEarliest log.now v.items) }
+{
     let mut due = nowhere(alloc, log.len())?;
     for at in 0..log.len() {
-        if let Some(Event::Due { request }) = log.event(at)
-            && request < due.len()
-        {
-            due[request] = at;
-        }
+        cut_at(log, due.as_mut_slice(), at);
     }
     Ok(due)
 }
 
 /// Of the requester's later answered requests the least place where one is due, and that of a request.
-fn lower(log: &Log, due: &mut [usize], least: &mut [usize], b: usize) {
+fn lower(log: &Log, due: &mut [usize], least: &mut [usize], b: usize)
+    ensures { AreLower due.old due.new }
+{
     let Some(Event::Sub { requester, op, .. }) = log.event(b) else {
         return;
     };
@@ -35,7 +65,7 @@ fn lower(log: &Log, due: &mut [usize], least: &mut [usize], b: usize) {
         return;
     }
     if op.is_posted() {
-        due[b] = least[who];
+        cut(due, b, least[who]);
     } else if due[b] < least[who] {
         least[who] = due[b];
     }
@@ -43,7 +73,10 @@ fn lower(log: &Log, due: &mut [usize], least: &mut [usize], b: usize) {
 
 /// The place of each request's answer, by the place of its submission; of a posted write, of the
 /// first answer to a later request of its requester.
-pub(crate) fn places(alloc: Global, log: &Log) -> Result<Vec<usize>, AllocError> {
+#[tactic(auto, using(crate::proofs::DueLemmas::earliest_lower))]
+pub(crate) fn places(alloc: Global, log: &Log) -> Result<Vec<usize>, AllocError>
+    ensures { IfOk result (λ v. AreEarliest log.now v.items) }
+{
     let mut due = answers(alloc, log)?;
     let mut least = nowhere(alloc, 256)?;
     let count = due.len();

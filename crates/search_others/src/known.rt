@@ -1,5 +1,5 @@
 //! What is known of a log's requests before the search begins.
-ghost use Rattle.std.specs.Prelude.{◌≡◌, Some, IfOk, IfSome, slice_get};
+ghost use Rattle.std.specs.Prelude.{◌≡◌, Some, IfOk, IfSome, slice_get, slice_index};
 ghost use Rattle.log_runs.specs.EventView as events;
 ghost use Rattle.search_others.specs.Known.{AreOthers};
 
@@ -22,7 +22,7 @@ impl Model for Others {
 
     ghost Value = { OthersView };
 
-    ghost view = { λ o. record { words = o.words } };
+    ghost view = { λ o. record { words = o.words; due = o.due.items } };
 }
 
 impl Others {
@@ -56,5 +56,15 @@ impl Others {
         ensures { IfSome result (λ a. slice_get log.now.events a ≡ Some (events.Due q)) }
     {
         place_of(&self.due, log, q)
+    }
+
+    /// No answer to the request stands before that place: that of its answer, or one behind the log, if it has none.
+    pub fn due_from(&self, b: usize) -> usize
+        ensures { result ≡ slice_index self.now.due b }
+    {
+        match self.due.get(b) {
+            Some(at) => *at,
+            None => 0,
+        }
     }
 }
