@@ -2,20 +2,40 @@
 //!
 //! The search goes for the request whose answer is due, or for the first posted write that has to act
 //! before it.
-ghost use Rattle.std.specs.Prelude.{◌≡◌, ◌↔◌, ◌++◌, ◌∷◌, [], ℕ, List, IfOk, OnOk, IfSome, IsTrue, length};
+ghost use Rattle.std.specs.Prelude.{◌≡◌, ◌↔◌, ◌++◌, ◌∷◌, [], ℕ, List, IfOk, OnOk, IfSome, IsTrue, false, length};
 ghost use Rattle.std.specs.List.{All};
 ghost use Rattle.log_runs.specs.Runs.{Allowed, Covers, IsForced, MayAct};
 ghost use Rattle.search_places.specs.Places.{IsPlace};
-ghost use Rattle.search_choices.specs.Offered.{Offers, IsOnly};
+ghost use Rattle.search_others.specs.Known.{AreOthers};
+ghost use Rattle.search_choices.specs.Offered.{Offers, IsOnly, IsPreceded};
 
+use crate::alike::is_preceded;
 use crate::guesses::{Turn, guess, write_before};
+use crate::links::Links;
 use log_runs::{Event, Log, Step};
 use search_others::Others;
 use search_places::Place;
 use search_places::laws::who_is_left_is_pending;
+use search_rules::laws::the_first_of_alike_requests_acts_first;
 use search_rules::never_brings;
 use std::alloc::{AllocError, Global};
 use tlp_core::Op;
+
+/// What says which steps are tried first, and which requests may be alike.
+#[derive(Clone, Copy)]
+pub struct Hints<'a> {
+    /// When requests act in runs through parts of the log.
+    pub turns: &'a [Turn],
+    pub links: &'a Links,
+}
+
+/// A place of a log, and what is known of the log's requests.
+#[derive(Clone, Copy)]
+struct Scene<'s, 'l, 'o, 'p> {
+    log: &'s Log<'l>,
+    others: &'o Others,
+    place: &'p Place,
+}
 
 /// How much a request has to do with the one that the search goes for. The first are tried first.
 #[derive(Clone, Copy)]
@@ -171,7 +191,7 @@ fn target(place: &Place, log: &Log) -> Option<usize> {
 
 /// The next event, if it may be passed.
 fn passing(alloc: Global, log: &Log, place: &Place) -> Result<Vec<Step>, AllocError>
-    ensures { IfOk result (λ v. Offers log.now place.now.state v.items []) }
+    ensures { IfOk result (λ v. (due : List ℕ) → Offers log.now place.now.state due v.items []) }
 {
     let mut steps = Vec::new(alloc);
     if !place.may_pass(log) {
@@ -190,7 +210,7 @@ fn look(
     c: usize,
 ) -> Result<(), AllocError>
     requires { IsPlace log.now place.now }
-    ensures { OnOk result ((p : List ℕ) → Offers log.now place.now.state steps.old.items p → Offers log.now place.now.state steps.new.items (p ++ b ∷ [])) }
+    ensures { OnOk result ((due : List ℕ) (p : List ℕ) → Offers log.now place.now.state due steps.old.items p → Offers log.now place.now.state due steps.new.items (p ++ b ∷ [])) }
 {
     if place.waits_for(log, b, c) {
         return Ok(());
@@ -202,15 +222,41 @@ fn look(
     Ok(())
 }
 
-/// The steps that may be taken, in no order.
-fn allowed(alloc: Global, log: &Log, place: &Place) -> Result<Vec<Step>, AllocError>
-    requires { IsPlace log.now place.now }
-    ensures { IfOk result (λ v. Offers log.now place.now.state v.items place.now.pending) }
+/// [`look`], unless another request precedes it.
+fn offer(
+    steps: &mut Vec<Step>,
+    scene: Scene<'_, '_, '_, '_>,
+    links: &Links,
+    b: usize,
+    c: usize,
+) -> Result<(), AllocError>
+    requires place { IsPlace scene.log.now scene.place.now }
+    requires others { AreOthers scene.log.now scene.others.now }
+    ensures { OnOk result ((p : List ℕ) → Offers scene.entry.log.now scene.entry.place.now.state scene.entry.others.now.due steps.old.items p → Offers scene.entry.log.now scene.entry.place.now.state scene.entry.others.now.due steps.new.items (p ++ b ∷ [])) }
 {
+    let Scene { log, others, place } = scene;
+    if is_preceded(place, log, others, links, b) {
+        return Ok(());
+    }
+    look(steps, log, place, b, c)?;
+    Ok(())
+}
+
+/// The steps that are enough, in no order: all that may be taken, but for those of requests that others precede.
+fn allowed(
+    alloc: Global,
+    scene: Scene<'_, '_, '_, '_>,
+    links: &Links,
+) -> Result<Vec<Step>, AllocError>
+    requires place { IsPlace scene.log.now scene.place.now }
+    requires others { AreOthers scene.log.now scene.others.now }
+    ensures { IfOk result (λ v. Offers scene.entry.log.now scene.entry.place.now.state scene.entry.others.now.due v.items scene.entry.place.now.pending) }
+{
+    let Scene { log, place, .. } = scene;
     let mut steps = passing(alloc, log, place)?;
     let mut writes = Writes::none();
     for b in place.pending() {
-        look(&mut steps, log, place, *b, writes.before(log, *b))?;
+        offer(&mut steps, scene, links, *b, writes.before(log, *b))?;
     }
     Ok(steps)
 }
@@ -226,15 +272,31 @@ fn may_act(log: &Log, place: &Place, b: usize, write: usize) -> bool
     place.may_act(log, b)
 }
 
-/// The only pending request that may act, if there is just one.
-fn only_act(log: &Log, place: &Place) -> Option<usize>
-    requires { IsPlace log.now place.now }
-    ensures { IfSome result (IsOnly log.now place.now.state place.now.pending) }
+/// Request `b` may act, and as far as is known no other precedes it. It may be that it waits for that posted write.
+fn is_open(scene: Scene<'_, '_, '_, '_>, links: &Links, b: usize, write: usize) -> bool
+    requires place { IsPlace scene.log.now scene.place.now }
+    requires others { AreOthers scene.log.now scene.others.now }
+    ensures yes { IsTrue result → MayAct scene.entry.log.now scene.entry.place.now.state b }
+    ensures no { result ≡ false → MayAct scene.entry.log.now scene.entry.place.now.state b → IsPreceded scene.entry.log.now scene.entry.place.now.state scene.entry.others.now.due b }
 {
+    let Scene { log, others, place } = scene;
+    if !may_act(log, place, b, write) {
+        return false;
+    }
+    !is_preceded(place, log, others, links, b)
+}
+
+/// The only pending request that may act, if there is just one, but for those that others precede.
+fn only_act(scene: Scene<'_, '_, '_, '_>, links: &Links) -> Option<usize>
+    requires place { IsPlace scene.log.now scene.place.now }
+    requires others { AreOthers scene.log.now scene.others.now }
+    ensures { IfSome result (IsOnly scene.entry.log.now scene.entry.place.now.state scene.entry.others.now.due scene.entry.place.now.pending) }
+{
+    let Scene { log, place, .. } = scene;
     let mut only = None;
     let mut writes = Writes::none();
     for b in place.pending() {
-        if may_act(log, place, *b, writes.before(log, *b)) {
+        if is_open(scene, links, *b, writes.before(log, *b)) {
             if only.is_some() {
                 return None;
             }
@@ -244,39 +306,46 @@ fn only_act(log: &Log, place: &Place) -> Option<usize>
     only
 }
 
-/// The only step that may be taken, if there is just one, and it isn't that the next event is passed.
-pub fn only_step(log: &Log, place: &Place) -> Option<Step>
+/// The only step that is enough, if there is just one, and it isn't that the next event is passed: a request acts, and each
+/// other that may act is preceded.
+pub fn only_step(log: &Log, others: &Others, links: &Links, place: &Place) -> Option<Step>
     requires place { IsPlace log.now place.now }
+    requires others { AreOthers log.now others.now }
     requires more { place.now.state.event ≡ length log.now.events → ⊥ }
     ensures { IfSome result (IsForced log.now place.now.state) }
 {
     who_is_left_is_pending();
+    the_first_of_alike_requests_acts_first();
     if place.may_pass(log) {
         return None;
     }
-    let only = only_act(log, place)?;
+    let scene = Scene { log, others, place };
+    let only = only_act(scene, links)?;
     Some(Step::Act(only))
 }
 
-/// The steps that may be taken. `turns` and what is known of the log's requests say which are tried
-/// first.
+/// The steps that are enough, if one leads on: all that may be taken, but for those of requests that another one, which is
+/// alike, precedes. `hints` and what is known of the log's requests say which are tried first.
 pub fn choices(
     alloc: Global,
     log: &Log,
     others: &Others,
-    turns: &[Turn],
+    hints: Hints<'_>,
     place: &Place,
 ) -> Result<Vec<Step>, AllocError>
     requires place { IsPlace log.now place.now }
+    requires others { AreOthers log.now others.now }
     requires more { place.now.state.event ≡ length log.now.events → ⊥ }
     ensures allowed { IfOk result (λ v. All (Allowed log.now place.now.state) v.items) }
     ensures covers { IfOk result (λ v. Covers log.now place.now.state v.items) }
 {
     who_is_left_is_pending();
+    the_first_of_alike_requests_acts_first();
     let target = target(place, log);
-    let guess = guess(place, log, turns, target);
+    let guess = guess(place, log, hints.turns, target);
     let aim = Aim { target, guess };
-    let mut steps = allowed(alloc, log, place)?;
+    let scene = Scene { log, others, place };
+    let mut steps = allowed(alloc, scene, hints.links)?;
     steps.sort_by_cached_key(|step| number_of(log, others, aim, *step))?;
     Ok(steps)
 }

@@ -3,4 +3,4 @@ use Rattle.search_choices.specs.Offered.{Offers}
 use Rattle.search_choices.proofs.offers.allowed.Given as goal
 
 abbrev pub invariant-loop-b : goal.invariant-loop-b
-invariant-loop-b l = Offers l.log l.place.state l.steps.items (take l.b-index l.place.pending)
+invariant-loop-b l = Offers l.scene.log.now l.scene.place.now.state l.scene.others.now.due l.steps.items (take l.b-index l.scene.place.now.pending)

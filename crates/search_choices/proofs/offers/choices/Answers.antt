@@ -4,12 +4,15 @@ use Rattle.search_choices.proofs.offers.choices.Goals as goal
 
 pub returns-clause-allowed : goal.returns-clause-allowed
 returns-clause-allowed c =
-    let tried : Offers c.args.log.now c.args.place.now.state c.sort_by_cached_key.new.self.items c.args.place.now.pending = offers_permuted c.args.log.now c.args.place.now.state c.in_ok-steps.steps.items c.sort_by_cached_key.new.self.items c.args.place.now.pending
+    let due = c.args.others.now.due in
+    let tried : Offers c.args.log.now c.args.place.now.state due c.sort_by_cached_key.new.self.items c.args.place.now.pending = offers_permuted c.args.log.now c.args.place.now.state due c.in_ok-steps.steps.items c.sort_by_cached_key.new.self.items c.args.place.now.pending
     c.sort_by_cached_key.ensures.permutation c.in_ok-steps.ensures in
     tried.allowed
 
 pub returns-clause-covers : goal.returns-clause-covers
 returns-clause-covers c =
-    let tried : Offers c.args.log.now c.args.place.now.state c.sort_by_cached_key.new.self.items c.args.place.now.pending = offers_permuted c.args.log.now c.args.place.now.state c.in_ok-steps.steps.items c.sort_by_cached_key.new.self.items c.args.place.now.pending
+    let due = c.args.others.now.due in
+    let tried : Offers c.args.log.now c.args.place.now.state due c.sort_by_cached_key.new.self.items c.args.place.now.pending = offers_permuted c.args.log.now c.args.place.now.state due c.in_ok-steps.steps.items c.sort_by_cached_key.new.self.items c.args.place.now.pending
     c.sort_by_cached_key.ensures.permutation c.in_ok-steps.ensures in
-    offers_all c.who_is_left_is_pending.ensures c.args.log.now c.args.place.now c.sort_by_cached_key.new.self.items tried c.requires.place c.requires.more
+    offers_all c.who_is_left_is_pending.ensures c.args.log.now c.args.place.now due c.sort_by_cached_key.new.self.items
+    (c.the_first_of_alike_requests_acts_first.ensures c.args.log.now c.args.place.now.state) tried c.requires.place c.requires.more
