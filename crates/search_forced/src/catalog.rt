@@ -1,11 +1,11 @@
 //! What is known of a log before the search begins.
-ghost use Rattle.std.specs.Prelude.{◌≡◌, IfOk};
+ghost use Rattle.std.specs.Prelude.{◌≡◌, IfOk, OnOk};
 ghost use Rattle.search_forced.specs.Catalogs.{IsCatalog};
 
 use crate::hints::note_calm;
 use crate::sketches::{Sketch, sketches_of};
 use log_runs::Log;
-use search_choices::Turn;
+use search_choices::{Hints, Links, Turn};
 use search_others::Others;
 use std::alloc::{AllocError, Global};
 
@@ -25,6 +25,8 @@ pub struct Catalog<'a> {
     pub(crate) others: Others,
     pub(crate) sketches: Vec<Sketch>,
     pub(crate) way: Way<'a>,
+    /// Which requests may be alike, once that is noted.
+    pub(crate) links: Links,
     /// It is noted from where on nobody needs what a request leaves.
     calm: bool,
 }
@@ -44,6 +46,7 @@ pub fn catalog_of<'a>(alloc: Global, log: &Log, way: Way<'a>) -> Result<Catalog<
         others,
         sketches,
         way,
+        links: Links::none(alloc),
         calm,
     })
 }
@@ -61,12 +64,25 @@ impl Catalog<'_> {
         &self.others
     }
 
-    /// When requests act in runs through the log's parts.
-    pub fn turns(&self) -> &[Turn] {
-        match self.way {
+    /// When requests act in runs through the log's parts, and which may be alike.
+    pub fn hints(&self) -> Hints<'_> {
+        let turns: &[Turn] = match self.way {
             Way::Part => &[],
             Way::Whole(turns) => turns,
+        };
+        Hints {
+            turns,
+            links: &self.links,
         }
+    }
+
+    /// Notes which requests may be alike.
+    pub fn note_alike(&mut self, alloc: Global, log: &Log) -> Result<(), AllocError>
+        requires { IsCatalog log.now self.old }
+        ensures { OnOk result (IsCatalog log.now self.new) }
+    {
+        self.links = Links::of(alloc, log, &self.others)?;
+        Ok(())
     }
 
     /// Notes from where on nobody needs what a request leaves, if that isn't noted.

@@ -32,7 +32,7 @@ fn single(place: &Place, log: &Log, catalog: &Catalog) -> Option<Step>
     if place.event() >= log.len() || due_is_lost(place, log, &catalog.others) {
         return None;
     }
-    only_step(log, place)
+    only_step(log, &catalog.others, &catalog.links, place)
 }
 
 /// [`single`], or a request that acts over junk.
