@@ -10,7 +10,7 @@ use log_runs::Log;
 use std::alloc::{AllocError, Global};
 
 /// How many requests are looked at in all, about.
-const LOOKS: usize = 2_000_000;
+const LOOKS: usize = 200_000;
 
 /// How often something was taken, and may have been put.
 #[derive(Clone, Copy, Debug, PartialEq, Eq)]

@@ -166,6 +166,7 @@ pub fn explore_watched<W: Watch>(
         return Ok(explored(Outcome::Run(steps), 0, &walk));
     }
     catalog.note_calm(log);
+    catalog.note_alike(alloc, log)?;
     let course = Course {
         log,
         catalog: &catalog,

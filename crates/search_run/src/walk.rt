@@ -259,7 +259,7 @@ fn try_here(
     ensures at { IfOk result (λ more. IsTrue more → frames.IsAt log.now walk.new) }
     ensures spent { IfOk result (λ more. more ≡ false → frames.IsSpent log.now walk.old walk.new) }
 {
-    let steps = choices(alloc, log, catalog.others(), catalog.turns(), &walk.here)?;
+    let steps = choices(alloc, log, catalog.others(), catalog.hints(), &walk.here)?;
     let goes_on = try_each(walk, log, catalog, steps.as_slice())?;
     Ok(goes_on)
 }

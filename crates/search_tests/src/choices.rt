@@ -11,7 +11,7 @@ struct Row {
     answer: &'static str,
 }
 
-static ROWS: [Row; 29] = [
+static ROWS: [Row; 33] = [
     Row {
         name: "eight additions answered out of order",
         lines: "sub 1 0 add 40 01000000\nsub 2 0 add 40 01000000\nsub 3 0 add 40 01000000\nsub 4 0 add 40 01000000\nsub 5 0 add 40 01000000\nsub 6 0 add 40 01000000\nsub 7 0 add 40 01000000\nsub 1 1 add 40 01000000\nans 1 0 data 05000000\nans 2 0 data 02000000\nans 3 0 data 07000000\nans 4 0 data 00000000\nans 5 0 data 01000000\nans 6 0 data 06000000\nans 7 0 data 03000000\nans 1 1 data 04000000\n",
@@ -185,6 +185,30 @@ static ROWS: [Row; 29] = [
         lines: "sub 6 0 add 80 02000000\nsub 6 1 cas 80 02000000 01000000\nsub 5 0 add 80 03000000\nsub 5 1 cas 80 02000000 03000000\nsub 5 2 add 80 03000000\nsub 5 3 add 80 03000000\nans 5 2 data 06000000\nsub 4 0 add 80 01000000\nans 4 0 data 09000000\nsub 2 0 read 40 1 F 0\nsub 2 1 add 40 01000000\nsub 1 0 read 40 1 F 0\nsub 3 0 swap 40 03000000\nans 1 0 data 02000000\n",
         choices: 80,
         answer: "none 13\n",
+    },
+    Row {
+        name: "sixteen additions that weren't answered, and a read of seventeen",
+        lines: "sub 1 0 add 40 01000000\nsub 2 0 add 40 01000000\nsub 3 0 add 40 01000000\nsub 4 0 add 40 01000000\nsub 5 0 add 40 01000000\nsub 6 0 add 40 01000000\nsub 1 1 add 40 01000000\nsub 2 1 add 40 01000000\nsub 3 1 add 40 01000000\nsub 4 1 add 40 01000000\nsub 5 1 add 40 01000000\nsub 6 1 add 40 01000000\nsub 1 2 add 40 01000000\nsub 2 2 add 40 01000000\nsub 3 2 add 40 01000000\nsub 4 2 add 40 01000000\nsub 7 0 read 40 1 F 0\nans 7 0 data 11000000\n",
+        choices: 1,
+        answer: "none 17\n",
+    },
+    Row {
+        name: "additions of 1 and of 4 that weren't answered, and a read that no sum gives",
+        lines: "sub 1 0 add 40 04000000\nsub 2 0 add 40 01000000\nsub 3 0 add 40 04000000\nsub 4 0 add 40 01000000\nsub 5 0 add 40 04000000\nsub 6 0 add 40 01000000\nsub 1 1 add 40 04000000\nsub 2 1 add 40 01000000\nsub 7 0 read 40 1 F 0\nans 7 0 data 17000000\n",
+        choices: 33,
+        answer: "none 9\n",
+    },
+    Row {
+        name: "swaps in a ring, each three times, beside a ring that nobody enters",
+        lines: "sub 1 0 swap 40 01000000\nsub 2 0 swap 40 02000000\nsub 3 0 swap 40 00000000\nsub 4 0 swap 40 01000000\nsub 5 0 swap 40 02000000\nsub 6 0 swap 40 00000000\nsub 7 0 swap 40 01000000\nsub 1 1 swap 40 02000000\nsub 2 1 swap 40 00000000\nsub 3 1 swap 40 08000000\nsub 4 1 swap 40 07000000\nans 1 0 data 00000000\nans 2 0 data 01000000\nans 3 0 data 02000000\nans 4 0 data 00000000\nans 5 0 data 01000000\nans 6 0 data 02000000\nans 7 0 data 00000000\nans 1 1 data 01000000\nans 2 1 data 02000000\nans 3 1 data 07000000\nans 4 1 data 08000000\n",
+        choices: 1,
+        answer: "none 21\n",
+    },
+    Row {
+        name: "an addition behind a posted write, and one like it that may act at once",
+        lines: "sub 1 0 write 44 F 0 05000000\nsub 1 1 add 40 01000000\nsub 2 0 add 40 01000000\nsub 3 0 read 44 1 F 0\nans 3 0 data 00000000\nsub 3 1 read 40 1 F 0\nans 3 1 data 01000000\nsub 3 2 read 44 1 F 0\nans 3 2 data 00000000\nsub 3 3 read 40 1 F 0\nans 3 3 data 02000000\nsub 3 4 read 44 1 F 0\nans 3 4 data 00000000\n",
+        choices: 3,
+        answer: "none 12\n",
     },
 ];
 
