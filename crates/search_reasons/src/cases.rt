@@ -1,4 +1,7 @@
 //! A log of which a prefix has no history.
+ghost use Rattle.std.specs.Prelude.{◌≡◌, MatchOption};
+ghost use Rattle.search_reasons.specs.Lines.{IsFirstAbove};
+
 use search_anomalies::Prefix;
 
 /// A log of which a prefix has no history: as it was read, and as it was searched, which is the same or in pieces.
@@ -11,8 +14,10 @@ pub struct Case<'a> {
 }
 
 impl Case<'_> {
-    /// The record that has what was searched at that place.
-    pub(crate) fn record_with(self, place: usize) -> usize {
+    /// The record that has what was searched at that place: the first one with more pieces up to it.
+    pub fn record_with(self, place: usize) -> usize
+        ensures { MatchOption self.entry.ends (result ≡ place) (λ ends. IsFirstAbove ends.now place result) }
+    {
         let Some(ends) = self.ends else {
             return place;
         };

@@ -1,7 +1,8 @@
 //! The reasons in lines.
-ghost use Rattle.std.specs.Prelude.{List, ℕ, ◌≡◌, IfErr, OnErr, OnOk};
+ghost use Rattle.std.specs.Prelude.{List, [], ◌∷◌, ℕ, ◌≡◌, ◌<◌, IfErr, IfOk, IfSome, MatchOption, OnErr, OnOk, length};
 ghost use Rattle.std.specs.Io.KnownBytes.{Appends, Keeps};
 ghost use Rattle.line_loop.specs.declared.fault.EngineFault.{EngineFault};
+ghost use Rattle.search_reasons.specs.Lines.{lines_in, said_lines};
 
 use crate::cases::Case;
 use crate::causes::Cause;
@@ -19,13 +20,26 @@ use std::io::Write;
 use text_lines::without_return;
 use trace_diagnostics::TraceLines;
 
+/// The first line of the text that a line feed ends, without what ends it, and the rest.
+fn next_line(text: &[u8]) -> Option<(&[u8], &[u8])>
+    ensures line { MatchOption result (said_lines text.now ≡ []) (λ cut. said_lines text.now ≡ cut.0.now ∷ said_lines cut.1.now) }
+    ensures less { IfSome result (λ cut. length cut.1.now < length text.now) }
+{
+    match memchr(b'\n', text) {
+        Some(end) => Some((without_return(&text[..end]), &text[end + 1..])),
+        None => None,
+    }
+}
+
 /// The lines of the text, by their numbers.
-pub(crate) fn lines_of(alloc: Global, text: &[u8]) -> Result<TraceLines, AllocError> {
+pub fn lines_of(alloc: Global, text: &[u8]) -> Result<TraceLines, AllocError>
+    ensures { IfOk result (λ lines. lines ≡ lines_in text.now) }
+{
     let mut lines = TraceLines::new(alloc);
     let mut rest = text;
-    while let Some(end) = memchr(b'\n', rest) {
-        lines.note(without_return(&rest[..end]))?;
-        rest = &rest[end + 1..];
+    while let Some((line, behind)) = next_line(rest) {
+        lines.note(line)?;
+        rest = behind;
     }
     Ok(lines)
 }
@@ -271,8 +285,8 @@ fn answers_as_read(
     records_with(alloc, case, &places)
 }
 
-/// The lines of the reasons.
-fn told(
+/// The lines of the reasons, for people, as [`tell_none`] writes them. They name lines of the text.
+pub fn reason_lines(
     alloc: Global,
     text: &[u8],
     case: Case<'_>,
@@ -325,6 +339,6 @@ pub fn tell_none<E: Write>(
     ensures part { OnErr result ((lines : List ℕ) × Appends (E.contents errors.old) (E.contents errors.new) lines) }
 {
     let reasons = reasons_of(alloc, case, limit)?;
-    let lines = told(alloc, text, case, &reasons)?;
+    let lines = reason_lines(alloc, text, case, &reasons)?;
     write_out(errors, &lines)
 }

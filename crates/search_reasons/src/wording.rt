@@ -1,4 +1,6 @@
 //! Causes in words.
+ghost use Rattle.search_reasons.specs.Lines.{IsWordText};
+
 use crate::causes::Cause;
 use crate::misreplies::Misreply;
 use arrayvec::ArrayString;
@@ -19,7 +21,9 @@ pub(crate) fn put_line<D: Display + Drop>(out: &mut Vec<u8>, line: D) -> Result<
 }
 
 /// The bytes of a word, and its address.
-pub(crate) fn word_text(word: &Word) -> ArrayString<512> {
+pub fn word_text(word: &Word) -> ArrayString<512>
+    ensures { IsWordText word.now.address result.bytes }
+{
     let mut text = ArrayString::new();
     write_bytes(&word.shown(), &mut text);
     text.push_str(" at ");

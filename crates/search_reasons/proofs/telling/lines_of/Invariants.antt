@@ -1,8 +1,10 @@
-use Rattle.std.proofs.Common.{length, ◌≤◌}
+use Rattle.std.proofs.Common.{◌≡◌, length}
+use Rattle.trace_diagnostics.specs.Told.{numbered_all}
+use Rattle.search_reasons.specs.Lines.{lines_in, said_lines}
 use Rattle.search_reasons.proofs.telling.lines_of.Given as goal
 
-abbrev pub invariant-loop-end : goal.invariant-loop-end
-invariant-loop-end l = length l.rest ≤ length l.text
+abbrev pub invariant-loop-line : goal.invariant-loop-line
+invariant-loop-line l = numbered_all l.lines (said_lines l.rest) ≡ lines_in l.text
 
-abbrev pub decreases-loop-end : goal.decreases-loop-end
-decreases-loop-end l = length l.rest
+abbrev pub decreases-loop-line : goal.decreases-loop-line
+decreases-loop-line l = length l.rest
