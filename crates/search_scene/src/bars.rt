@@ -1,0 +1,254 @@
+//! Requests as bars.
+ghost use Rattle.std.specs.Prelude.{◌≡◌, ◌≤◌, ◌+◌, ◌++◌, ℕ, All, IfOk, IfSome, OnOk, Some, codes, length, slice_get, true};
+ghost use Rattle.history_check.specs.declared.Record.TheVariants as kinds;
+ghost use Rattle.tlp_core.specs.declared.operation.Op.{Op};
+ghost use Rattle.operation_text.specs.Texts.{op_text};
+ghost use Rattle.search_history.specs.Expected.{IsExpected};
+ghost use Rattle.search_scene.specs.Scenes as spec;
+ghost use Rattle.search_scene.specs.Scenes.{IsBar, IsPlaced};
+ghost use Rattle.search_scene.specs.Spans.{IsAskedAt, IsSpan};
+
+use crate::choosing::Chosen;
+use crate::columns::column_of;
+use crate::ends::{End, Name, closed_end, open_end};
+use crate::page::Page;
+use arrayvec::ArrayString;
+use history_check::Record;
+use operation_text::write_op;
+use search_history::Before;
+use search_picture::{Request, Role};
+use seq_memory::Entry;
+use std::alloc::{AllocError, Global};
+use tlp_core::Op;
+
+/// How many entries of a history are looked at, at most.
+const ENTRIES: usize = 1_000_000_000;
+
+/// A request as it was submitted.
+#[derive(Clone, Copy)]
+struct Asked<'a> {
+    name: Name,
+    op: &'a Op,
+}
+
+/// The request that the record submits.
+fn asked_by<'a>(item: &'a Record) -> Option<Asked<'a>>
+    ensures { IfSome result (λ a. (n : ℕ) × (item.now ≡ kinds.Sub a.name.requester a.name.number a.op.now n)) }
+{
+    match item {
+        Record::Sub {
+            requester,
+            number,
+            op,
+            ..
+        } => Some(Asked {
+            name: Name {
+                requester: *requester,
+                number: *number,
+            },
+            op,
+        }),
+        Record::Ans { .. } => None,
+    }
+}
+
+/// The request that the record at the place submits.
+fn asked_at<'a>(records: &'a [Record], place: usize) -> Option<Asked<'a>>
+    ensures { IfSome result (λ a. (n : ℕ) × (slice_get records.now place ≡ Some (kinds.Sub a.name.requester a.name.number a.op.now n))) }
+{
+    match records.get(place) {
+        Some(record) => asked_by(record),
+        None => None,
+    }
+}
+
+/// The entry is the request's.
+fn is_of(entry: &Entry, name: Name) -> bool
+    ensures { result ≡ true → (op : Op) × (entry.now ≡ record { requester = name.requester; number = name.number; op = op }) }
+{
+    entry.requester == name.requester && entry.number == name.number
+}
+
+/// The entry at the place is the request's.
+fn is_at(history: &[Entry], place: u32, name: Name) -> bool
+    ensures { result ≡ true → IsPlaced history.now name.requester name.number place }
+{
+    match history.get(place as usize) {
+        Some(entry) => is_of(entry, name),
+        None => false,
+    }
+}
+
+/// The place of the request in the history.
+fn place_in(history: &[Entry], name: Name) -> Option<u32>
+    ensures { IfSome result (IsPlaced history.now name.requester name.number) }
+{
+    let count = history.len().min(ENTRIES) as u32;
+    for place in 0..count {
+        if is_at(history, place, name) {
+            return Some(place);
+        }
+    }
+    None
+}
+
+/// The text of an operation.
+fn words_of(alloc: Global, op: &Op) -> Result<Vec<u8>, AllocError>
+    ensures { IfOk result (λ v. v.items ≡ op_text op.now) }
+{
+    let mut text = ArrayString::new();
+    write_op(op, &mut text);
+    let mut words = Vec::new(alloc);
+    words.extend_from_slice(text.as_bytes())?;
+    Ok(words)
+}
+
+/// What was asked, and what was answered.
+fn title_of(alloc: Global, asked: &[u8], said: &[u8]) -> Result<Vec<u8>, AllocError>
+    ensures { IfOk result (λ v. v.items ≡ asked.now ++ codes ": " ++ said.now) }
+{
+    let mut title = Vec::new(alloc);
+    title.extend_from_slice(asked)?;
+    title.extend_from_slice(b": ")?;
+    title.extend_from_slice(said)?;
+    Ok(title)
+}
+
+/// Where a request's bar begins and ends.
+#[derive(Drop)]
+struct Span {
+    from: u32,
+    is_open: bool,
+    end: End,
+}
+
+/// Where a request's bar begins and ends: it is open if the request has no answer.
+fn span_of(
+    alloc: Global,
+    page: &Page<'_>,
+    before: &Option<Before>,
+    asked: Asked<'_>,
+    item: Chosen,
+) -> Result<Option<Span>, AllocError>
+    requires expected { IfSome before.now (λ b. IfSome b.expected (IsExpected page.now.trace b.count)) }
+    requires few { length page.now.columns ≤ 40 }
+    requires asked { IsAskedAt page.now asked.name.requester asked.name.number asked.op.now item.request.submission }
+    ensures { IfOk result (λ o. IfSome o (IsSpan page.now asked.entry.name.requester asked.entry.name.number asked.entry.op.now item.request.submission)) }
+{
+    let Some(from) = column_of(page.columns, page.lines.of_record(item.request.submission)) else {
+        return Ok(None);
+    };
+    match item.request.answer {
+        Some(answer) => match closed_end(alloc, page, before, asked.name, answer)? {
+            Some(end) => Ok(Some(Span {
+                from,
+                is_open: false,
+                end,
+            })),
+            None => Ok(None),
+        },
+        None => {
+            let end = open_end(alloc, page, asked.op)?;
+            Ok(Some(Span {
+                from,
+                is_open: true,
+                end,
+            }))
+        }
+    }
+}
+
+/// The bar of a request that is submitted at that place, with its span.
+fn bar_with(
+    alloc: Global,
+    page: &Page<'_>,
+    asked: Asked<'_>,
+    role: Role,
+    span: Span,
+) -> Result<Request, AllocError>
+    ensures { (place : ℕ) → IsSpan page.now asked.entry.name.requester asked.entry.name.number asked.entry.op.now place span → IfOk result (IsBar page.now) }
+{
+    let Span { from, is_open, end } = span;
+    let words = words_of(alloc, asked.op)?;
+    let title = title_of(alloc, &words, &end.said)?;
+    Ok(Request {
+        requester: asked.name.requester,
+        from,
+        to: end.to,
+        is_open,
+        place: place_in(page.history, asked.name),
+        role,
+        asked: words,
+        answered: end.said,
+        title,
+    })
+}
+
+/// The bar of a request that is shown; none if its records aren't as they should be.
+fn bar_of(
+    alloc: Global,
+    page: &Page<'_>,
+    before: &Option<Before>,
+    item: Chosen,
+) -> Result<Option<Request>, AllocError>
+    requires expected { IfSome before.now (λ b. IfSome b.expected (IsExpected page.now.trace b.count)) }
+    requires few { length page.now.columns ≤ 40 }
+    ensures { IfOk result (λ o. IfSome o (IsBar page.now)) }
+{
+    let trace = page.trace;
+    let Some(asked) = asked_at(&trace.records, item.request.submission) else {
+        return Ok(None);
+    };
+    let Some(span) = span_of(alloc, page, before, asked, item)? else {
+        return Ok(None);
+    };
+    let bar = bar_with(alloc, page, asked, item.role, span)?;
+    Ok(Some(bar))
+}
+
+/// The bars of requests, and where each was submitted.
+#[derive(Drop)]
+pub(crate) struct Bars {
+    pub(crate) all: Vec<Request>,
+    pub(crate) submissions: Vec<usize>,
+}
+
+impl Bars {
+    /// Adds a bar, if there is one, of a request that is submitted at the place.
+    fn add(&mut self, bar: Option<Request>, submission: usize) -> Result<(), AllocError>
+        ensures bars { (page : spec.Page) → All (IsBar page) self.old.all.items → IfSome bar (IsBar page) → OnOk result (All (IsBar page) self.new.all.items) }
+        ensures few { OnOk result (length self.new.all.items ≤ length self.old.all.items + 1) }
+        ensures each { length self.old.submissions.items ≡ length self.old.all.items → OnOk result (length self.new.submissions.items ≡ length self.new.all.items) }
+    {
+        let Some(bar) = bar else {
+            return Ok(());
+        };
+        self.all.push(bar)?;
+        self.submissions.push(submission)?;
+        Ok(())
+    }
+}
+
+/// The bars of the requests that are shown.
+pub(crate) fn bars_of(
+    alloc: Global,
+    page: &Page<'_>,
+    before: &Option<Before>,
+    chosen: &[Chosen],
+) -> Result<Bars, AllocError>
+    requires expected { IfSome before.now (λ b. IfSome b.expected (IsExpected page.now.trace b.count)) }
+    requires few { length page.now.columns ≤ 40 }
+    ensures bars { IfOk result (λ b. All (IsBar page.now) b.all.items) }
+    ensures few { IfOk result (λ b. length b.all.items ≤ length chosen.now) }
+    ensures each { IfOk result (λ b. length b.submissions.items ≡ length b.all.items) }
+{
+    let mut bars = Bars {
+        all: Vec::new(alloc),
+        submissions: Vec::new(alloc),
+    };
+    for item in chosen {
+        let bar = bar_of(alloc, page, before, *item)?;
+        bars.add(bar, item.request.submission)?;
+    }
+    Ok(bars)
+}

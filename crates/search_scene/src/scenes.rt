@@ -1,0 +1,94 @@
+//! Whole scenes.
+ghost use Rattle.std.specs.Prelude.{◌≡◌, ◌≤◌, ◌-◌, IfOk, IfSome, length};
+ghost use Rattle.search_history.specs.Expected.{IsExpected};
+ghost use Rattle.search_reasons.specs.Lines.{lines_in};
+ghost use Rattle.search_scene.specs.Scenes.{IsHistoryOf, Shows, title_of};
+
+use crate::arrows::arrows_of;
+use crate::bars::bars_of;
+use crate::choosing::{Chosen, chosen_of, named_by};
+use crate::columns::columns_of;
+use crate::known::known_of;
+use crate::notes::notes_of;
+use crate::page::Page;
+use arrayvec::ArrayString;
+use log_requests::Requests;
+use operation_text::write_decimal;
+use search_picture::Scene;
+use search_reasons::{Case, Link, Reasons, Why, lines_of, reason_lines, reasons_of};
+use std::alloc::{AllocError, Global};
+
+/// The title: what the search answers.
+fn title_at(alloc: Global, place: usize) -> Result<Vec<u8>, AllocError>
+    ensures { IfOk result (λ v. v.items ≡ title_of place) }
+{
+    let mut text = ArrayString::new();
+    text.push_str("none ");
+    write_decimal(place as u64, &mut text);
+    let mut title = Vec::new(alloc);
+    title.extend_from_slice(text.as_bytes())?;
+    Ok(title)
+}
+
+/// The cycle that the reasons tell of.
+fn cycle_of(reasons: &Reasons) -> &[Link] {
+    match &reasons.why {
+        Why::Answers { cycle, .. } => cycle.as_slice(),
+        Why::Form => &[],
+    }
+}
+
+/// The requests that are shown for these reasons.
+fn chosen_for(alloc: Global, case: Case<'_>, reasons: &Reasons) -> Result<Vec<Chosen>, AllocError>
+    ensures { IfOk result (λ v. length v.items ≤ 20) }
+{
+    let named = named_by(alloc, case, reasons)?;
+    let requests = Requests::of(alloc, case.read)?;
+    chosen_of(alloc, &requests, &named)
+}
+
+/// The scene of a log for these reasons.
+fn scene_for(
+    alloc: Global,
+    text: &[u8],
+    case: Case<'_>,
+    reasons: &Reasons,
+    limit: u64,
+) -> Result<Scene, AllocError>
+    ensures { IfOk result (Shows case.entry.read.trace.now (case.entry.read.count - 1) (lines_in text.now)) }
+{
+    let told = reason_lines(alloc, text, case, reasons)?;
+    let notes = notes_of(alloc, &told)?;
+    let title = title_at(alloc, case.read.count.saturating_sub(1))?;
+    let lines = lines_of(alloc, text)?;
+    let chosen = chosen_for(alloc, case, reasons)?;
+    let columns = columns_of(alloc, &lines, &chosen)?;
+    let known = known_of(alloc, case, limit)?;
+    let page = Page {
+        trace: case.read.trace,
+        lines: &lines,
+        columns: &columns,
+        history: &known.history,
+    };
+    let bars = bars_of(alloc, &page, &known.before, &chosen)?;
+    let arrows = arrows_of(alloc, case, cycle_of(reasons), &bars.submissions)?;
+    Ok(Scene {
+        title,
+        note: notes.first,
+        columns,
+        requests: bars.all,
+        arrows,
+        lines: notes.others,
+    })
+}
+
+/// The scene of a log of which a prefix has no history, by the lines of its text: why it has none, and the requests that have
+/// to do with that. Looks at no more than `limit` choices for each thing that is told ([`reasons_of`]), and for each of two
+/// that are known of the records before the last one: the reply that is expected in its place, and a history of them.
+/// Fails where memory can't be allocated.
+pub fn scene_of(alloc: Global, text: &[u8], case: Case<'_>, limit: u64) -> Result<Scene, AllocError>
+    ensures { IfOk result (Shows case.entry.read.trace.now (case.entry.read.count - 1) (lines_in text.now)) }
+{
+    let reasons = reasons_of(alloc, case, limit)?;
+    scene_for(alloc, text, case, &reasons, limit)
+}
