@@ -1,7 +1,7 @@
 -- Digits in groups.
-use Rattle.std.proofs.Common.{◌≡◌, ℕ, List, [], ◌∷◌, ◌++◌, ◌-◌, ◌<◌, ◌≤◌, length, take, drop, refl, append_assoc, arith}
+use Rattle.std.proofs.Common.{◌≡◌, ◌∙◌, ℕ, zero, suc, List, [], ◌∷◌, ◌++◌, ◌+◌, ◌-◌, ◌*◌, ◌/◌, ◌%◌, ◌≤◌, length, take, drop, slice_index, ap, refl, append_assoc, arith}
 use Rattle.std.proofs.lemmas.Grind.{common_steps}
-use Rattle.hex.specs.Hex.{encode_upper, encode_with}
+use Rattle.hex.specs.Hex.{encode_upper, encode_with, upper_digits}
 use Rattle.hex_text.specs.Line.{spaced}
 
 -- four bytes at most: one group
@@ -14,22 +14,42 @@ last_group (a ∷ b ∷ c ∷ []) h = refl
 last_group (a ∷ b ∷ c ∷ d ∷ []) h = refl
 last_group (a ∷ b ∷ c ∷ d ∷ e ∷ rest) h = absurd (omega arith)
 
--- more than four bytes: the digits of four, a space, and the groups of the rest
-more : (bytes : List ℕ) → 4 < length bytes
-    → spaced (encode_upper bytes) ≡ (encode_upper (take 4 bytes) ++ 32 ∷ []) ++ spaced (encode_upper (drop 4 bytes))
+-- two digits a byte, and a space between each two groups
+pub length_of_groups : (bytes : List ℕ) → length (spaced (encode_upper bytes)) ≤ 3 * length bytes
 unfolding spaced encode_with
-more [] h = absurd (omega arith)
-more (a ∷ []) h = absurd (omega arith)
-more (a ∷ b ∷ []) h = absurd (omega arith)
-more (a ∷ b ∷ c ∷ []) h = absurd (omega arith)
-more (a ∷ b ∷ c ∷ d ∷ []) h = absurd (omega arith)
-more (a ∷ b ∷ c ∷ d ∷ e ∷ rest) h = refl
+length_of_groups [] = omega arith
+length_of_groups (a ∷ []) = omega arith
+length_of_groups (a ∷ b ∷ []) = omega arith
+length_of_groups (a ∷ b ∷ c ∷ []) = omega arith
+length_of_groups (a ∷ b ∷ c ∷ d ∷ []) = omega arith
+length_of_groups (a ∷ b ∷ c ∷ d ∷ e ∷ rest) = let i = length_of_groups (e ∷ rest) in omega arith
+
+-- the line feed is the last byte
+pub without_line_feed : (xs : List ℕ) → take (length (xs ++ 10 ∷ []) - 1) (xs ++ 10 ∷ []) ≡ xs
+without_line_feed xs = grind (arith, common_steps)
+
+one_more : (xs : List ℕ) → length (xs ++ 10 ∷ []) ≡ length xs + 1
+one_more [] = refl
+one_more (x ∷ xs) = let i = one_more xs in omega arith
+
+pub length_of_line : (bytes line : List ℕ) → line ≡ spaced (encode_upper bytes) ++ 10 ∷ [] → length line ≤ 3 * length bytes + 1
+length_of_line bytes line e =
+    let groups = length_of_groups bytes in
+    let all : length line ≡ length (spaced (encode_upper bytes)) + 1 = ap length e ∙ one_more (spaced (encode_upper bytes)) in
+    omega arith
+
+-- the digits of some bytes, and of those behind them
+pub digits_behind : (n : ℕ) (bytes : List ℕ) → encode_upper bytes ≡ encode_upper (take n bytes) ++ encode_upper (drop n bytes)
+unfolding encode_with
+digits_behind zero bytes = refl
+digits_behind (suc n) [] = refl
+digits_behind (suc n) (b ∷ rest) = ap (λ (digits : List ℕ). slice_index upper_digits (b / 16) ∷ slice_index upper_digits (b % 16) ∷ digits) (digits_behind n rest)
 
 -- all that is left behind a place
 left : (xs : List ℕ) (n : ℕ) → take (length xs - n) (drop n xs) ≡ drop n xs
 left xs n = grind (arith, common_steps)
 
-pub more_groups : (text between after bytes : List ℕ) → 4 < length bytes → between ≡ text ++ (encode_upper (take 4 bytes) ++ 32 ∷ [])
-    → after ≡ between ++ spaced (encode_upper (take (length bytes - 4) (drop 4 bytes))) → after ≡ text ++ spaced (encode_upper bytes)
-more_groups text between after bytes h e f =
-    rw (f, e, left bytes 4, more bytes h) (append_assoc text (encode_upper (take 4 bytes) ++ 32 ∷ []) (spaced (encode_upper (drop 4 bytes))))
+pub more_digits : (text between after bytes : List ℕ) → between ≡ text ++ encode_upper (take 4 bytes)
+    → after ≡ between ++ encode_upper (take (length bytes - 4) (drop 4 bytes)) → after ≡ text ++ encode_upper bytes
+more_digits text between after bytes e f =
+    rw (f, e, left bytes 4, digits_behind 4 bytes) (append_assoc text (encode_upper (take 4 bytes)) (encode_upper (drop 4 bytes)))

@@ -1,5 +1,6 @@
 pub mod Checking
 pub mod Coming
+pub mod Entering
 pub mod Groups
 pub mod Logging
 pub mod Reading

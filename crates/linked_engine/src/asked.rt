@@ -109,8 +109,9 @@ impl Asked {
         }
     }
 
-    /// Answers a line.
-    pub(crate) fn answer(&mut self, line: &[u8], out: &mut Vec<u8>) -> Result<Verdict, AllocError>
+    /// Answers a line, whatever it is.
+    #[inline(never)]
+    fn answer_other(&mut self, line: &[u8], out: &mut Vec<u8>) -> Result<Verdict, AllocError>
         requires { length line.now ≤ 512 }
         ensures ok { IfOk result (λ verdict. IsAnswer self.new out.old.items out.new.items verdict (spec.answer_line self.old line.now)) }
         ensures err { OnErr result (out.new.items ≡ out.old.items) }
@@ -124,6 +125,23 @@ impl Asked {
         match line.strip_prefix(b"dllp ") {
             Some(dllp) => self.answer_dllp(dllp, out),
             None => self.lines.answer_word(line, out),
+        }
+    }
+
+    /// Answers a line.
+    #[inline(always)]
+    pub(crate) fn answer(&mut self, line: &[u8], out: &mut Vec<u8>) -> Result<Verdict, AllocError>
+        requires { length line.now ≤ 512 }
+        ensures ok { IfOk result (λ verdict. IsAnswer self.new out.old.items out.new.items verdict (spec.answer_line self.old line.now)) }
+        ensures err { OnErr result (out.new.items ≡ out.old.items) }
+    {
+        match line {
+            [b'p', b'a', b'c', b'k', b'e', b't', b' ', packet @ ..] => {
+                self.answer_packet(packet, out)
+            }
+            [b'd', b'l', b'l', b'p', b' ', dllp @ ..] => self.answer_dllp(dllp, out),
+            [b'n', b'e', b'x', b't'] => self.lines.next(out),
+            _ => self.answer_other(line, out),
         }
     }
 }

@@ -31,13 +31,22 @@ impl<E> Model for Explained<E> {
 }
 
 impl<E: Write + Drop> Explained<E> {
+    /// Tells why the line is a fault.
+    #[inline(never)]
+    fn tell(&mut self, line: &[u8])
+        ensures { self.new ≡ self.old }
+    {
+        let has_crc = self.device.has_crc();
+        let _ = reason_of(line, has_crc).tell_at(self.count, &mut self.errors);
+    }
+
     /// Tells why the line is a fault, if it is one.
+    #[inline(always)]
     fn explain(&mut self, verdict: Verdict, line: &[u8])
         ensures { self.new ≡ self.old }
     {
         if verdict.is_fault() {
-            let has_crc = self.device.has_crc();
-            let _ = reason_of(line, has_crc).tell_at(self.count, &mut self.errors);
+            self.tell(line);
         }
     }
 }

@@ -4,8 +4,9 @@ ghost use Rattle.linked_engine.specs.Crcs as spec;
 
 use link_crc::{DllpCheck, check_dllp};
 
-/// The digits before the word of a check, and whether that was good.
-fn worded(line: &[u8]) -> Option<(&[u8], bool)>
+/// The digits before the word of a check, and whether that was good, whatever the line is.
+#[inline(never)]
+fn worded_each(line: &[u8]) -> Option<(&[u8], bool)>
     ensures value { spec.worded line.now ≡ option_map (λ m. (m.0.now, m.1)) result }
     ensures shorter { IfSome result (λ m. length m.0.now ≤ length line.now) }
 {
@@ -15,6 +16,18 @@ fn worded(line: &[u8]) -> Option<(&[u8], bool)>
     match line.strip_suffix(b" failed") {
         Some(digits) => Some((digits, false)),
         None => None,
+    }
+}
+
+/// The digits before the word of a check, and whether that was good.
+#[inline(always)]
+fn worded(line: &[u8]) -> Option<(&[u8], bool)>
+    ensures value { spec.worded line.now ≡ option_map (λ m. (m.0.now, m.1)) result }
+    ensures shorter { IfSome result (λ m. length m.0.now ≤ length line.now) }
+{
+    match line {
+        [digits @ .., b' ', b'g', b'o', b'o', b'd'] => Some((digits, true)),
+        _ => worded_each(line),
     }
 }
 

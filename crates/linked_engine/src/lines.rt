@@ -15,10 +15,11 @@ use arrayvec::ArrayVec;
 use endpoint_core::Room;
 use endpoint_engine::{new_log, no_line, record_acting, record_answer, record_reset};
 use endpoint_log::Log;
+use hex_text::HexText;
 use line_loop::Verdict;
 use link_crc::{LcrcCheck, check_packet};
 use linked_endpoint::{Arrived, LinkedEndpoint};
-use port_core::EnterRefusal;
+use port_core::{EnterRefusal, PACKET_BYTES};
 use std::alloc::{AllocError, Global};
 use std::marker::Model;
 use trace_engine::tell_trace;
@@ -36,11 +37,13 @@ pub(crate) struct Lines {
     rooms: Rooms,
 }
 
-/// Room for TLPs that are read and for completions. What it holds counts for nothing.
+/// Room for TLPs that are read, for completions, and for what is sent and its digits. What it holds counts for nothing.
 #[derive(Drop)]
 struct Rooms {
     device: Room,
     packet: endpoint_packets::Room,
+    sent: ArrayVec<u8, PACKET_BYTES>,
+    text: HexText,
 }
 
 impl Model for Lines {
@@ -82,19 +85,22 @@ impl Lines {
             rooms: Rooms {
                 device: Room::new(),
                 packet: endpoint_packets::Room::new(),
+                sent: ArrayVec::new(),
+                text: HexText::new(),
             },
         })
     }
 
-    /// The oldest request acts, and its completion is held.
-    #[tactic(auto, using(crate::proofs::Logging::acted_log))]
+    /// The oldest request acts, and its completion enters the replay buffer.
+    #[tactic(auto, using(crate::proofs::Logging::acted_log, crate::proofs::Entering::entered_at_last))]
     fn act(&mut self) -> Result<(), AllocError>
         requires { link.may_act self.old.linked ≡ true }
-        ensures { OnOk result (self.new ≡ spec.acted self.old) }
+        ensures { OnOk result (self.new ≡ spec.turned self.old) }
     {
         let number = record_acting(&mut self.log, self.linked.endpoint())?;
-        self.linked.act(&mut self.rooms.device);
-        record_answer(&mut self.log, number, &self.linked.held())
+        let completion = self.linked.complete(&mut self.rooms.device);
+        record_answer(&mut self.log, number, &completion)?;
+        enter(&mut self.linked)
     }
 
     /// The oldest request acts, if it may, and its completion enters the replay buffer. Returns whether it acted.
@@ -106,7 +112,6 @@ impl Lines {
             return Ok(false);
         }
         self.act()?;
-        enter(&mut self.linked)?;
         Ok(true)
     }
 
@@ -209,13 +214,13 @@ impl Lines {
     }
 
     /// What is sent next.
-    fn next(&mut self, out: &mut Vec<u8>) -> Result<Verdict, AllocError>
+    pub(crate) fn next(&mut self, out: &mut Vec<u8>) -> Result<Verdict, AllocError>
         ensures ok { IfOk result (λ verdict. IsAnswer self.new out.old.items out.new.items verdict (spec.answer_next self.old)) }
         ensures err { OnErr result (out.new.items ≡ out.old.items) }
     {
-        let mut bytes = ArrayVec::new();
-        let sent = self.linked.next(&mut bytes);
-        put_sent(self.has_crc, sent, bytes.as_slice(), out)?;
+        let sent = self.linked.next(&mut self.rooms.sent);
+        let bytes = self.rooms.sent.as_slice();
+        put_sent(self.has_crc, sent, bytes, &mut self.rooms.text, out)?;
         Ok(Verdict::Fine)
     }
 
