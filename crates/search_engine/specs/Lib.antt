@@ -2,3 +2,4 @@ pub mod Bounded
 pub mod Search
 pub mod Flaws
 pub mod Findings
+pub mod Drawn

@@ -13,8 +13,9 @@ ghost use Rattle.search_engine.specs.Search.{IsAnswerTo, OutSearch, OutSearchWit
 use crate::ending::Ending;
 use crate::flaws::judged;
 use crate::granularity::Pieces;
-use crate::lines::{bound_text, fault_text, flaw_text, none_text};
+use crate::lines::none_text;
 use crate::options::{SearchDemand, SearchOptions};
+use crate::outcomes::{fault_outcome, flaw_outcome, given_up_outcome};
 use crate::stages::{NoClock, Progress};
 use crate::telling::tell;
 use arrayvec::ArrayString;
@@ -188,31 +189,9 @@ pub(crate) fn outcome_of(
                 ending: None,
             })
         }
-        Finding::Limit { ending, .. } => {
-            let ending = *ending;
-            let line = bound_text(bounds, ending.bound);
-            Ok(Outcome {
-                text: OutcomeText::Line(line),
-                status: LIMIT_STATUS,
-                ending: Some(ending),
-            })
-        }
-        Finding::Flaw { flaw, .. } => {
-            let line = flaw_text(*flaw);
-            Ok(Outcome {
-                text: OutcomeText::Line(line),
-                status: 1,
-                ending: None,
-            })
-        }
-        Finding::Fault(misread) => {
-            let line = fault_text(misread.fault);
-            Ok(Outcome {
-                text: OutcomeText::Line(line),
-                status: 1,
-                ending: None,
-            })
-        }
+        Finding::Limit { ending, .. } => Ok(given_up_outcome(bounds, *ending)),
+        Finding::Flaw { flaw, .. } => Ok(flaw_outcome(*flaw)),
+        Finding::Fault(misread) => Ok(fault_outcome(misread.fault)),
     }
 }
 

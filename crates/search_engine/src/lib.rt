@@ -6,11 +6,13 @@
 //! [`run_search_with_reasons`] also says for people why there is no history, or why the input can't be
 //! read. [`run_search_with`] looks for a history of pieces, too, of reads and writes that don't act as a whole, and
 //! tells how far it is. [`run_search_for`] has a bound of work, too, and may write a log of few answers in place of `none`.
-//! Which of its bounds ended a search is what is answered, `limit` or `work`.
+//! Which of its bounds ended a search is what is answered, `limit` or `work`. [`run_search_drawn`] draws what it finds, and
+//! the log in place of `none`.
 #![tactic(auto)]
 
 mod answering;
 mod cores;
+mod drawing;
 mod ending;
 mod flaws;
 mod granularity;
@@ -18,11 +20,13 @@ mod input;
 pub mod laws;
 mod lines;
 mod options;
+mod outcomes;
 mod search;
 mod stages;
 mod telling;
 
 pub use answering::{LIMIT_STATUS, Outcome, OutcomeText, answer_of, answer_with_reasons};
+pub use drawing::run_search_drawn;
 pub use ending::Ending;
 pub use options::{SearchDemand, SearchOptions};
 pub use search::{

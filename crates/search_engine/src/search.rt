@@ -18,7 +18,7 @@ use std::io::{Read, Write, sink};
 use std::time::Clock;
 
 /// The text, if it is needed to tell why there is no history, how far the search came, or what is wrong with it.
-fn kept(text: Vec<u8>, finding: &Finding) -> Option<Vec<u8>> {
+pub(crate) fn kept(text: Vec<u8>, finding: &Finding) -> Option<Vec<u8>> {
     match finding {
         Finding::Found { .. } => None,
         _ => Some(text),
@@ -27,10 +27,10 @@ fn kept(text: Vec<u8>, finding: &Finding) -> Option<Vec<u8>> {
 
 /// The answer to a text, and what its reason is told by.
 #[derive(Drop)]
-struct Answer {
-    outcome: Outcome,
-    finding: Finding,
-    text: Option<Vec<u8>>,
+pub(crate) struct Answer {
+    pub(crate) outcome: Outcome,
+    pub(crate) finding: Finding,
+    pub(crate) text: Option<Vec<u8>>,
 }
 
 /// What is written of what came of a text: a log of few answers without a history in place of `none`, if it is asked for and
@@ -83,7 +83,7 @@ pub struct SearchTask<'c, C> {
 }
 
 /// Tells the reason of the answer.
-fn tell_reason<E: Write>(alloc: Global, answer: &Answer, limit: u64, errors: &mut E) {
+pub(crate) fn tell_reason<E: Write>(alloc: Global, answer: &Answer, limit: u64, errors: &mut E) {
     if let Some(text) = &answer.text {
         tell(alloc, text, &answer.finding, limit, errors);
     }

@@ -1,5 +1,7 @@
 //! Why there is no history, how far a search came that was given up, what is wrong with a log's form, or why the input
 //! can't be read, for people.
+ghost use Rattle.std.specs.Prelude.{◌≡◌};
+
 use crate::answering::Finding;
 use crate::granularity::Pieces;
 use history_check::Trace;
@@ -8,7 +10,10 @@ use std::alloc::Global;
 use std::io::Write;
 
 /// A log of which so many records are looked at, and where it was searched in pieces, those.
-pub(crate) fn case_of<'a>(trace: &'a Trace, prefix: usize, pieces: &'a Option<Pieces>) -> Case<'a> {
+pub(crate) fn case_of<'a>(trace: &'a Trace, prefix: usize, pieces: &'a Option<Pieces>) -> Case<'a>
+    ensures trace { result.read.trace.now ≡ trace.now }
+    ensures count { result.read.count ≡ prefix }
+{
     let read = Prefix {
         trace,
         count: prefix,
