@@ -194,7 +194,7 @@ for shell in bash fish; do
     if command -v $shell > /dev/null; then
         completes $shell "pciex st" step
         completes $shell "pciex step --k" --keep-going
-        completes $shell "pciex search --" "--core --granularity --help --limit --progress --work"
+        completes $shell "pciex search --" "--core --draw --granularity --help --limit --progress --work"
         completes $shell "pciex search --granularity 1" 16
         completes $shell "pciex tlp --block 1" 128
         completes $shell "pciex chart --lane i" in

@@ -1,7 +1,7 @@
 #!/bin/sh
 # Draws and charts the examples, and reads each picture with python's parser of XML, where there is python. Tells each
-# picture that is no XML, and whether docs/overlaps.svg, examples/lost_ack.svg and examples/first_script.svg are the
-# pictures of their examples: pictures.sh [PROGRAM], that of program.sh if none is named.
+# picture that is no XML, and whether docs/overlaps.svg, examples/lost_ack.svg, examples/first_script.svg and
+# examples/overtaken.svg are the pictures of their examples: pictures.sh [PROGRAM], that of program.sh if none is named.
 unset CDPATH
 pciex=$(sh "$(dirname "$0")/program.sh" "$@") || exit 1
 cd "$(dirname "$0")/.." || exit 1
@@ -60,6 +60,15 @@ for name in lost_ack write_passes_read credits stopped_link; do
     "$pciex" step --trace < examples/$name.txt > "$room/input"
     draws "the trace of $name.txt" 0
 done
+cp examples/overtaken.txt "$room/input"
+makes "the log overtaken.txt" 1 search --draw
+makes "the log overtaken.txt in pieces" 1 search --draw --granularity 4
+cp examples/trace.txt "$room/input"
+makes "what search finds of trace.txt" 0 search --draw
+"$pciex" search < examples/trace.txt 2> "$room/errors" | "$pciex" draw | cmp -s - "$room/picture" || {
+    echo "pictures: what search draws of trace.txt is not what draw draws of the trace that it finds"
+    failed=1
+}
 sed 's/^ans 1 0 2 data 01020304/ans 1 0 2 data 00000000/' examples/trace.txt > "$room/input"
 draws "a trace with a wrong reply" 1
 for text in "" "<&>\"" "pciex-trace 2"; do
@@ -117,6 +126,10 @@ for name in lost_ack first_script; do
 done
 "$pciex" draw < examples/overlaps.txt | cmp -s - docs/overlaps.svg || {
     echo "pictures: docs/overlaps.svg is not the picture of examples/overlaps.txt"
+    failed=1
+}
+"$pciex" search --draw < examples/overtaken.txt 2> "$room/errors" | cmp -s - examples/overtaken.svg || {
+    echo "pictures: examples/overtaken.svg is not the picture of examples/overtaken.txt"
     failed=1
 }
 command -v python3 > /dev/null || echo "pictures: not parsed, since there is no python3"

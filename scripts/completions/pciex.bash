@@ -31,7 +31,7 @@ _pciex() {
                 *" decode") words="--help" ;;
                 *" encode") words="--help" ;;
                 *" check") words="--clocked --help" ;;
-                *" search") words="--limit --work --granularity --core --progress --help" ;;
+                *" search") words="--limit --work --granularity --core --draw --progress --help" ;;
                 *" draw") words="--from --to --help" ;;
                 *" upgrade") words="--help" ;;
                 *" step") words="--trace --keep-going --echo --help" ;;

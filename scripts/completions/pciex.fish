@@ -35,6 +35,7 @@ complete -c pciex -n "__fish_seen_subcommand_from search" -l limit -x -d 'Number
 complete -c pciex -n "__fish_seen_subcommand_from search" -l work -x -d 'Work to do before giving up, 1 to 1000000000000: about as many steps, or requests looked at for one'
 complete -c pciex -n "__fish_seen_subcommand_from search" -l granularity -x -a '4 8 16 64 whole' -d 'Bytes of a read or a write that act at once, in naturally aligned pieces: 4, 8, 16, 64 or whole'
 complete -c pciex -n "__fish_seen_subcommand_from search" -l core -d 'Print, in place of \'none\', a short log of the answers that contradict each other and of the requests that have to do with them, if it is proved that this log has no history'
+complete -c pciex -n "__fish_seen_subcommand_from search" -l draw -d 'Print a picture, in SVG, in place of the answer: that of the trace and its history, as \'draw\' does, or of the log in place of \'none\', with the last answer, what is expected there, and what it contradicts'
 complete -c pciex -n "__fish_seen_subcommand_from search" -l progress -d 'Print on standard error how many records were read, and after two seconds, then ever more rarely, how many choices were looked at'
 complete -c pciex -n "__fish_seen_subcommand_from search" -l help -d 'Print help'
 complete -c pciex -n "__fish_seen_subcommand_from draw" -l from -x -d 'First point to draw, a length of the history'

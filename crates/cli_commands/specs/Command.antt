@@ -1,7 +1,9 @@
 -- What the program does for what its words ask for.
-use Rattle.std.specs.Prelude.{◌≡◌, ◌≢◌, ◌⊎◌, ℕ, List, [], ◌∷◌, Option}
+use Rattle.std.specs.Prelude.{◌≡◌, ◌≢◌, ◌⊎◌, ℕ, true, false, List, [], ◌∷◌, Option}
 use Rattle.clap.specs.Words.{Kinds}
 use Rattle.clap.specs.declared.error.kind.ErrorKind.TheVariants as kinds
+use Rattle.cli_words.specs.declared.outputs.SearchOutput.{SearchOutput}
+use Rattle.cli_words.specs.declared.outputs.SearchOutput.TheVariants as outputs
 use Rattle.cli_words.specs.declared.words.Request.{Request}
 use Rattle.cli_words.specs.declared.words.Request.TheVariants.{Tlp, Endpoint, Linked, Decode, Encode, Check, Search, Draw, Upgrade, Step, Chart, Generate, Sweep, Run}
 use Rattle.parameters.specs.Ranges.{IsCounting}
@@ -15,7 +17,10 @@ use Rattle.linked_engine.specs.Lines.{out_linked}
 use Rattle.generate_engine.specs.Script.{IsWhole, IsPart}
 use Rattle.packet_engine.specs.Lines.{out_decode, out_encode}
 use Rattle.run_engine.specs.Text.{IsRan}
-use Rattle.search_engine.specs.Search.{IsSearchedFor}
+use Rattle.log_pieces.specs.declared.Granularity.{Granularity}
+use Rattle.search_run.specs.declared.exploring.Bounds.{Bounds}
+use Rattle.search_engine.specs.Search.{IsWholeFor, IsPartFor}
+use Rattle.search_engine.specs.Drawn.{IsWholeDrawn, IsPartDrawn}
 use Rattle.sweep_engine.specs.Ranges.{IsSweep}
 use Rattle.sweep_engine.specs.Sweep.{IsSwept}
 use Rattle.tlp_engine.specs.Tlp.{out_tlp}
@@ -29,6 +34,20 @@ use Rattle.parameters.specs.Ranges.{IsStorm}
 abbrev pub IsGenerated : Storm → Option (List ℕ) → Option (List ℕ) → ℕ → Type 0
 IsGenerated storm out out' exit = ((exit ≡ 0) × IsWhole storm out out') ⊎ ((exit ≡ 1) × IsPart storm out out')
 
+-- a search wrote the whole answer, or part of it, by what it is to write
+abbrev pub IsWholeAs : SearchOutput → Granularity → Bounds → Option (List ℕ) → Option (List ℕ) → Option (List ℕ) → Option (List ℕ) → ℕ → Type 0
+IsWholeAs outputs.Answer size bounds input rest out out' exit = IsWholeFor false size bounds input rest out out' exit
+IsWholeAs outputs.Core size bounds input rest out out' exit = IsWholeFor true size bounds input rest out out' exit
+IsWholeAs outputs.Picture size bounds input rest out out' exit = IsWholeDrawn size bounds input rest out out' exit
+
+abbrev pub IsPartAs : SearchOutput → Granularity → Bounds → Option (List ℕ) → Option (List ℕ) → Option (List ℕ) → Option (List ℕ) → Type 0
+IsPartAs outputs.Answer size bounds input rest out out' = IsPartFor false size bounds input rest out out'
+IsPartAs outputs.Core size bounds input rest out out' = IsPartFor true size bounds input rest out out'
+IsPartAs outputs.Picture size bounds input rest out out' = IsPartDrawn size bounds input rest out out'
+
+abbrev pub IsSearchedAs : SearchOutput → Granularity → Bounds → Option (List ℕ) → Option (List ℕ) → Option (List ℕ) → Option (List ℕ) → ℕ → Type 0
+IsSearchedAs output size bounds input rest out out' exit = IsWholeAs output size bounds input rest out out' exit ⊎ ((exit ≡ 1) × IsPartAs output size bounds input rest out out')
+
 -- the run of the subcommand, on the streams as they were and are, with its exit status
 abbrev pub IsDone : Request → Option (List ℕ) → Option (List ℕ) → Option (List ℕ) → Option (List ℕ) → ℕ → Type 0
 IsDone (Tlp x) input rest out out' exit = IsRun (out_tlp x) input rest out out' exit
@@ -37,7 +56,7 @@ IsDone (Linked s is_traced ours has_crc) input rest out out' exit = IsRun (out_l
 IsDone Decode input rest out out' exit = IsRun out_decode input rest out out' exit
 IsDone Encode input rest out out' exit = IsRun out_encode input rest out out' exit
 IsDone (Check is_clocked) input rest out out' exit = IsRun (out_check_with is_clocked) input rest out out' exit
-IsDone (Search limit work size has_core is_told) input rest out out' exit = IsSearchedFor has_core size (record { choices = limit; work = work }) input rest out out' exit
+IsDone (Search limit work size output is_told) input rest out out' exit = IsSearchedAs output size (record { choices = limit; work = work }) input rest out out' exit
 IsDone (Draw from to) input rest out out' exit = IsRun (out_draw (record { from = from; to = to })) input rest out out' exit
 IsDone Upgrade input rest out out' exit = IsRun out_upgrade input rest out out' exit
 IsDone (Step is_traced keeps_going echoes) input rest out out' exit =

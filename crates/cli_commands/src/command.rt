@@ -9,6 +9,7 @@ ghost use Rattle.cli_words.specs.declared.words.Request.{Request};
 
 use crate::hints::hint;
 use crate::noted::Fallible;
+use crate::searching::{Search, run_search_as, stages_of};
 use chart_engine::run_chart_with_reasons;
 use chart_links::ChartWindow;
 use clap::error::ErrorKind;
@@ -21,7 +22,7 @@ use line_loop::EngineFault;
 use linked_engine::{LinkedOptions, run_linked_with_reasons};
 use packet_engine::{run_decode_with_reasons, run_encode_with_reasons};
 use parameters::Counting;
-use search_engine::{SearchDemand, SearchOptions, SearchTask, Stages, run_search_for};
+use search_engine::SearchOptions;
 use std::alloc::Global;
 use std::convert::AsStr;
 use std::io;
@@ -144,17 +145,6 @@ pub struct Host<'h, C> {
     pub clock: &'h C,
 }
 
-/// Whether it is told how far a search is.
-fn stages_of(is_told: bool, is_terminal: bool) -> Stages {
-    if is_told {
-        Stages::Shown
-    } else if is_terminal {
-        Stages::OfLongLogs
-    } else {
-        Stages::Hidden
-    }
-}
-
 /// Does what is asked for, but for a run and a sweep, and gives the exit status.
 fn begin<C: Clock, R: Read + Fallible, W: Write + Fallible, E: Write>(
     alloc: Global,
@@ -208,7 +198,7 @@ fn begin<C: Clock, R: Read + Fallible, W: Write + Fallible, E: Write>(
             limit,
             work,
             granularity,
-            has_core,
+            output,
             is_told,
         } => {
             let options = SearchOptions {
@@ -216,16 +206,13 @@ fn begin<C: Clock, R: Read + Fallible, W: Write + Fallible, E: Write>(
                 granularity,
                 stages: stages_of(is_told, host.is_terminal),
             };
-            let demand = SearchDemand {
+            let search = Search {
                 options,
                 work,
-                has_core,
-            };
-            let task = SearchTask {
-                demand,
+                output,
                 clock: host.clock,
             };
-            let run = run_search_for(alloc, task, reader, writer, errors);
+            let run = run_search_as(alloc, search, reader, writer, errors);
             Outcome::Ended(ended(run, reader, writer, errors))
         }
         Request::Draw { from, to } => {

@@ -8,6 +8,7 @@ mod command;
 mod files;
 mod hints;
 mod noted;
+mod searching;
 #[cfg(test)]
 mod tests;
 

@@ -212,7 +212,7 @@ type Given = (&'static [&'static str], &'static str);
 
 /// Words that give status 2, and which option is told with what is allowed, none where
 /// they have no form of the grammar.
-static WRONG: [Given; 52] = [
+static WRONG: [Given; 53] = [
     (
         &["pciex", "endpoint", "--size", "2048", "--id", "1"],
         "invalid value '2048' for --size: expected a power of two from 4096 to 1048576",
@@ -292,6 +292,10 @@ static WRONG: [Given; 52] = [
     (
         &["pciex", "tlp", "--block", "65600"],
         "invalid value '65600' for --block: expected 64 or 128",
+    ),
+    (
+        &["pciex", "search", "--core", "--draw"],
+        "--draw doesn't go with --core",
     ),
     (
         &["pciex", "search", "--limit", "0"],

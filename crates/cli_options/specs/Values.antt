@@ -9,7 +9,7 @@ use Rattle.parameters.specs.declared.storm.TheConstants.{MOST_EVENTS}
 use Rattle.cli_options.specs.declared.options.TheConstants.{MOST_CHOICES, MOST_WORK}
 use Rattle.cli_options.specs.declared.options.Allowed.{Allowed}
 use Rattle.cli_options.specs.declared.options.ValueOption.{ValueOption}
-use Rattle.cli_options.specs.declared.options.ValueOption.TheVariants.{Base, Size, Block, Requesters, Each, Lose, Corrupt, Turns, Workers, From, To, Seed, Seeds, Events, Lane, Limit, Work, Granularity, EndpointSize, Id, Crc, Credits}
+use Rattle.cli_options.specs.declared.options.ValueOption.TheVariants.{Base, Size, Block, Requesters, Each, Lose, Corrupt, Turns, Workers, From, To, Seed, Seeds, Events, Lane, Limit, Work, Granularity, EndpointSize, Id, Crc, Credits, Draw}
 
 abbrev pub name_of : ValueOption → List ℕ
 name_of Base = codes "base"
@@ -34,12 +34,13 @@ name_of EndpointSize = codes "size"
 name_of Id = codes "id"
 name_of Crc = codes "crc"
 name_of Credits = codes "credits"
+name_of Draw = codes "draw"
 
 -- the multiples of a unit from one number to another
 abbrev pub multiples : ℕ → ℕ → ℕ → Allowed
 multiples unit least most = record { least = least; most = most; unit = unit }
 
--- the numbers that an option may have; for a lane, a granularity, and what an endpoint is made with no number counts
+-- the numbers that an option may have; for a lane, a granularity, what an endpoint is made with and a flag no number counts
 abbrev pub allowed_of : ValueOption → Allowed
 allowed_of Base = multiples ALIGNMENT 0 18446744073709551615
 allowed_of Size = multiples ALIGNMENT MIN_SIZE MAX_SIZE
@@ -63,6 +64,7 @@ allowed_of EndpointSize = multiples 1 0 0
 allowed_of Id = multiples 1 0 0
 allowed_of Crc = multiples 1 0 0
 allowed_of Credits = multiples 1 0 0
+allowed_of Draw = multiples 1 0 0
 
 pub record IsAmong (a : Allowed) (n : ℕ) : Type 0 where
   pub least : a.least ≤ n

@@ -60,6 +60,8 @@ pub enum ValueOption {
     Crc,
     /// The credits of an endpoint behind a link.
     Credits,
+    /// The flag that a search draws a picture, which doesn't go with a short log.
+    Draw,
 }
 
 /// The numbers that an option may have: the multiples of the unit from the least to the most.
@@ -132,6 +134,7 @@ impl ValueOption {
             ValueOption::Id => "id",
             ValueOption::Crc => "crc",
             ValueOption::Credits => "credits",
+            ValueOption::Draw => "draw",
         }
     }
 
@@ -169,7 +172,8 @@ impl ValueOption {
             | ValueOption::EndpointSize
             | ValueOption::Id
             | ValueOption::Crc
-            | ValueOption::Credits => from_to(0, 0),
+            | ValueOption::Credits
+            | ValueOption::Draw => from_to(0, 0),
             ValueOption::From | ValueOption::To | ValueOption::Seed | ValueOption::Seeds => {
                 from_to(0, u64::MAX)
             }

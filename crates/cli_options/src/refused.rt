@@ -42,6 +42,9 @@ impl fmt::Display for RefusedValue<'_> {
         if option == ValueOption::Crc {
             return write!(f, "--{name} goes with --link");
         }
+        if option == ValueOption::Draw {
+            return write!(f, "--{name} doesn't go with --core");
+        }
         match given {
             Some(value) => {
                 f.write_str("invalid value '")?;

@@ -14,11 +14,12 @@ use Rattle.fc_credit.specs.declared.limits.LaneCredits.{LaneCredits}
 use Rattle.cli_words.specs.Links.{IsLinked, IsUnlinked}
 use Rattle.fabric_events.specs.declared.event.LaneName.{LaneName}
 use Rattle.log_pieces.specs.declared.Granularity.{Granularity}
+use Rattle.cli_words.specs.declared.outputs.SearchOutput.{SearchOutput}
 use Rattle.cli_words.specs.declared.words.Request.{Request}
 use Rattle.cli_words.specs.declared.words.Request.TheVariants.{Tlp, Endpoint, Linked, Search, Draw, Chart, Generate, Sweep, Run}
-use Rattle.cli_words.specs.Options.{Asks, AsksTlp, AsksEndpoint, AsksSearch, AsksDraw, AsksChart, AsksGenerate, AsksSweep, AsksRun}
+use Rattle.cli_words.specs.Options.{Asks, AsksTlp, AsksEndpoint, AsksSearch, WritesOutput, AsksDraw, AsksChart, AsksGenerate, AsksSweep, AsksRun}
 use Rattle.cli_words.specs.Refusals.{AreRight, IsFirstWrong, Refuses, RefusesOption, RefusesTlp, RefusesDevice, RefusesWithoutLink, RefusesLink, RefusesEndpoint, RefusesSearch, RefusesDraw, RefusesChart, RefusesSweep, RefusesRun, tlp_values, search_values, draw_values, chart_values, generate_values, sweep_values, run_values}
-use Rattle.cli_words.proofs.RequestsAsked.{name_of, asks_name, differ, true_or_false}
+use Rattle.cli_words.proofs.RequestsAsked.{name_of, asks_name, differ, not_both, true_or_false}
 
 -- where each is right, none is the first that is wrong
 none_wrong : (rows : List Row) (ps : List (ValueOption × Option ℕ)) (option : ValueOption) → AreRight rows ps → IsFirstWrong rows ps option → ⊥
@@ -124,9 +125,10 @@ refused_tlp rows option x (inr (inl h)) a = none_wrong rows tlp_values option (t
 refused_tlp rows option x (inr (inr h)) a =
     h.3 x.base x.size (tlp_base rows x a) (tlp_size rows x a) a.memory.in_base.1
 
-refused_search : (rows : List Row) (option : ValueOption) (limit work : ℕ) (size : Granularity) → RefusesSearch rows option → AsksSearch rows limit work size → ⊥
-refused_search rows option limit work size (inl h) a = none_wrong rows search_values option (search_right rows limit work size a) h
-refused_search rows option limit work size (inr h) a = h.2 size a.granularity_read
+refused_search : (rows : List Row) (option : ValueOption) (limit work : ℕ) (size : Granularity) (output : SearchOutput) → RefusesSearch rows option → AsksSearch rows limit work size → WritesOutput rows output → ⊥
+refused_search rows option limit work size output (inl h) a o = none_wrong rows search_values option (search_right rows limit work size a) h
+refused_search rows option limit work size output (inr (inl h)) a o = h.2 size a.granularity_read
+refused_search rows option limit work size output (inr (inr h)) a o = not_both rows output o h.2.1 h.2.2
 
 refused_draw : (rows : List Row) (option : ValueOption) (from to : ℕ) → RefusesDraw rows option → AsksDraw rows from to → ⊥
 refused_draw rows option from to (inl h) a = none_wrong rows draw_values option (draw_right rows from to a) h
@@ -177,7 +179,7 @@ endpoint_nothing p option e (inr h) (Linked s t c crc) a = refused_linked p.1 op
 endpoint_nothing p option e h r a = differ (codes "endpoint") (name_of r) refl (sym e ∙ asks_name p r a)
 
 search_nothing : (p : Text × List Row) (option : ValueOption) → p.0 ≡ codes "search" → RefusesSearch p.1 option → (r : Request) → Asks (Some p) r → ⊥
-search_nothing p option e h (Search limit work size core told) a = refused_search p.1 option limit work size h a.1
+search_nothing p option e h (Search limit work size output told) a = refused_search p.1 option limit work size output h a.1 a.2
 search_nothing p option e h r a = differ (codes "search") (name_of r) refl (sym e ∙ asks_name p r a)
 
 draw_nothing : (p : Text × List Row) (option : ValueOption) → p.0 ≡ codes "draw" → RefusesDraw p.1 option → (r : Request) → Asks (Some p) r → ⊥

@@ -2,11 +2,13 @@
 use Rattle.std.proofs.Common.{◌≡◌, ◌∙◌, ℕ, Bool, true, false, List, refl, sym, ap, arith, codes, Option, Some, None, IfNone}
 use Rattle.std.specs.Prelude.{bytes_eq}
 use Rattle.std.proofs.lemmas.Slice.Eq.{bytes_eq-Decides}
-use Rattle.clap.specs.Words.{Row, Text}
+use Rattle.clap.specs.Words.{Row, Text, first_of}
 use Rattle.parameters.specs.declared.counting.Counting.{Counting}
 use Rattle.parameters.specs.declared.storm.Storm.{Storm}
 use Rattle.seq_memory.specs.Limits.{Extent, IsBlock}
 use Rattle.cli_words.specs.declared.words.Request.{Request}
+use Rattle.cli_words.specs.declared.outputs.SearchOutput.{SearchOutput}
+use Rattle.cli_words.specs.declared.outputs.SearchOutput.TheVariants as outputs
 use Rattle.cli_words.specs.declared.words.Request.TheVariants.{Tlp, Endpoint, Linked, Decode, Encode, Check, Search, Draw, Upgrade, Step, Chart, Generate, Sweep, Run}
 use Rattle.cli_options.specs.Values.{IsAmong, multiples, WritesBase, WritesNumber, WritesGiven, WritesOptional, WritesFlag}
 use Rattle.fabric_events.specs.declared.event.LaneName.{LaneName}
@@ -18,7 +20,7 @@ use Rattle.cli_values.specs.Endpoints.{WritesId, WritesSize}
 use Rattle.cli_values.specs.Granularities.{WritesGranularity}
 use Rattle.cli_values.specs.Lanes.{WritesLane}
 use Rattle.cli_values.specs.Seeds.{first_digits, last_digits, WritesSeeds}
-use Rattle.cli_words.specs.Options.{Asks}
+use Rattle.cli_words.specs.Options.{Asks, WritesOutput}
 
 pub if_none : {T P : Type 0} (o : Option T) → P → IfNone o P
 if_none None p = p
@@ -65,7 +67,7 @@ name_of (Linked s is_traced ours has_crc) = codes "endpoint"
 name_of Decode = codes "decode"
 name_of Encode = codes "encode"
 name_of (Check is_clocked) = codes "check"
-name_of (Search limit work size has_core is_told) = codes "search"
+name_of (Search limit work size output is_told) = codes "search"
 name_of (Draw from to) = codes "draw"
 name_of Upgrade = codes "upgrade"
 name_of (Step is_traced keeps_going echoes) = codes "step"
@@ -81,7 +83,7 @@ asks_name p (Linked s is_traced ours has_crc) a = a.0
 asks_name p Decode a = a
 asks_name p Encode a = a
 asks_name p (Check is_clocked) a = a.0
-asks_name p (Search limit work size has_core is_told) a = a.0
+asks_name p (Search limit work size output is_told) a = a.0
 asks_name p (Draw from to) a = a.0
 asks_name p Upgrade a = a
 asks_name p (Step is_traced keeps_going echoes) a = a.0
@@ -102,6 +104,51 @@ same_flag (Some t) a b h k = h ∙ sym k
 
 pub true_or_false : (t : Option Text) → WritesFlag t true → WritesFlag t false → ⊥
 true_or_false t h k = let e : true ≡ false = same_flag t true false h k in absurd (cc)
+
+-- ---- what a search writes
+
+cored : SearchOutput → Bool
+cored outputs.Answer = false
+cored outputs.Core = true
+cored outputs.Picture = false
+
+drawn : SearchOutput → Bool
+drawn outputs.Answer = false
+drawn outputs.Core = false
+drawn outputs.Picture = true
+
+core_flag : (rows : List Row) (o : SearchOutput) → WritesOutput rows o → WritesFlag (first_of (codes "core") rows) (cored o)
+unfolding cored
+core_flag rows outputs.Answer h = h.0
+core_flag rows outputs.Core h = h.0
+core_flag rows outputs.Picture h = h.0
+
+draw_flag : (rows : List Row) (o : SearchOutput) → WritesOutput rows o → WritesFlag (first_of (codes "draw") rows) (drawn o)
+unfolding drawn
+draw_flag rows outputs.Answer h = h.1
+draw_flag rows outputs.Core h = h.1
+draw_flag rows outputs.Picture h = h.1
+
+by_flags : (a b : SearchOutput) → cored a ≡ cored b → drawn a ≡ drawn b → a ≡ b
+unfolding cored drawn
+by_flags outputs.Answer outputs.Answer c d = refl
+by_flags outputs.Answer outputs.Core c d = absurd (cc)
+by_flags outputs.Answer outputs.Picture c d = absurd (cc)
+by_flags outputs.Core outputs.Answer c d = absurd (cc)
+by_flags outputs.Core outputs.Core c d = refl
+by_flags outputs.Core outputs.Picture c d = absurd (cc)
+by_flags outputs.Picture outputs.Answer c d = absurd (cc)
+by_flags outputs.Picture outputs.Core c d = absurd (cc)
+by_flags outputs.Picture outputs.Picture c d = refl
+
+same_output : (rows : List Row) (a b : SearchOutput) → WritesOutput rows a → WritesOutput rows b → a ≡ b
+same_output rows a b h k = by_flags a b (same_flag _ (cored a) (cored b) (core_flag rows a h) (core_flag rows b k)) (same_flag _ (drawn a) (drawn b) (draw_flag rows a h) (draw_flag rows b k))
+
+-- no output is of both flags
+pub not_both : (rows : List Row) (o : SearchOutput) → WritesOutput rows o → WritesFlag (first_of (codes "core") rows) true → WritesFlag (first_of (codes "draw") rows) true → ⊥
+not_both rows outputs.Answer h c d = true_or_false _ c h.0
+not_both rows outputs.Core h c d = true_or_false _ d h.1
+not_both rows outputs.Picture h c d = true_or_false _ c h.0
 
 same_credits : (t : Option Text) (a b : LaneCredits) → WritesCredits t a → WritesCredits t b → a ≡ b
 same_credits None a b h k = h ∙ sym k
@@ -171,7 +218,7 @@ asks_one (Some p) (Search limit work g k t) (Search limit' work' g' l u) a b =
     ap (λ (n : ℕ). Search n work g k t) (same_number 1000000 _ limit limit' a.1.limit_read b.1.limit_read)
     ∙ ap (λ (n : ℕ). Search limit' n g k t) (same_number 300000000 _ work work' a.1.work_read b.1.work_read)
     ∙ ap (λ (size : Granularity). Search limit' work' size k t) (same_granularity _ g g' a.1.granularity_read b.1.granularity_read)
-    ∙ ap (λ (z : Bool). Search limit' work' g' z t) (same_flag _ k l a.2 b.2) ∙ ap (Search limit' work' g' l) (same_flag _ t u a.3 b.3)
+    ∙ ap (λ (z : SearchOutput). Search limit' work' g' z t) (same_output p.1 k l a.2 b.2) ∙ ap (Search limit' work' g' l) (same_flag _ t u a.3 b.3)
 asks_one (Some p) (Draw from to) (Draw from' to') a b =
     let e = same_number 0 _ from from' a.1.from_read b.1.from_read in
     let f = same_number 18446744073709551615 _ to to' a.1.to_read b.1.to_read in

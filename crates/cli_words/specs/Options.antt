@@ -1,5 +1,5 @@
 -- What the words of a command line ask for.
-use Rattle.std.specs.Prelude.{◌≡◌, ◌≤◌, ◌<◌, ◌^◌, ℕ, Bool, true, List, Option, Some, None, IfSome, codes}
+use Rattle.std.specs.Prelude.{◌≡◌, ◌≤◌, ◌<◌, ◌^◌, ℕ, Bool, true, false, List, Option, Some, None, IfSome, codes}
 use Rattle.clap.specs.declared.builder.action.ArgAction.TheVariants.{SetTrue}
 use Rattle.clap.specs.Words.{App, Row, Rule, Text, first_of, new_app, new_rule, with_rule, with_subcommand}
 use Rattle.parameters.specs.declared.counting.Counting.{Counting}
@@ -17,6 +17,8 @@ use Rattle.cli_values.specs.Endpoints.{WritesId, WritesSize}
 use Rattle.cli_values.specs.Granularities.{WritesGranularity}
 use Rattle.cli_values.specs.Lanes.{WritesLane}
 use Rattle.cli_values.specs.Seeds.{WritesSeeds}
+use Rattle.cli_words.specs.declared.outputs.SearchOutput.{SearchOutput}
+use Rattle.cli_words.specs.declared.outputs.SearchOutput.TheVariants as outputs
 use Rattle.cli_words.specs.declared.words.Request.{Request}
 use Rattle.cli_words.specs.declared.subcommands.Subcommand.{Subcommand}
 use Rattle.cli_words.specs.declared.subcommands.Subcommand.TheVariants as kinds
@@ -63,8 +65,8 @@ check_app = with_rule (new_app (codes "check")) (flag (codes "clocked"))
 
 abbrev pub search_app : App
 search_app =
-    with_rule (with_rule (with_rule (with_rule (with_rule (new_app (codes "search")) (option (codes "limit"))) (option (codes "work"))) (option (codes "granularity"))) (flag (codes "core")))
-    (flag (codes "progress"))
+    with_rule (with_rule (with_rule (with_rule (with_rule (with_rule (new_app (codes "search")) (option (codes "limit"))) (option (codes "work"))) (option (codes "granularity"))) (flag (codes "core")))
+    (flag (codes "draw"))) (flag (codes "progress"))
 
 abbrev pub draw_app : App
 draw_app = with_rule (with_rule (new_app (codes "draw")) (option (codes "from"))) (option (codes "to"))
@@ -139,6 +141,12 @@ pub record AsksSearch (rows : List Row) (limit work : ℕ) (size : Granularity) 
   pub most_work : work ≤ MOST_WORK
   pub granularity_read : WritesGranularity (first_of (codes "granularity") rows) size
 
+-- the flags of `search` ask for the answer; for a short log in place of `none`; or for a picture
+abbrev pub WritesOutput : List Row → SearchOutput → Type 0
+WritesOutput rows outputs.Answer = WritesFlag (first_of (codes "core") rows) false × WritesFlag (first_of (codes "draw") rows) false
+WritesOutput rows outputs.Core = WritesFlag (first_of (codes "core") rows) true × WritesFlag (first_of (codes "draw") rows) false
+WritesOutput rows outputs.Picture = WritesFlag (first_of (codes "core") rows) false × WritesFlag (first_of (codes "draw") rows) true
+
 -- the values of `draw` ask for the points from one to another, numbers of 64 bits
 pub record AsksDraw (rows : List Row) (from to : ℕ) : Type 0 where
   pub from_read : WritesNumber 0 (first_of (codes "from") rows) from
@@ -207,8 +215,8 @@ Asks (Some p) (Linked s is_traced ours has_crc) =
 Asks (Some p) Decode = p.0 ≡ codes "decode"
 Asks (Some p) Encode = p.0 ≡ codes "encode"
 Asks (Some p) (Check is_clocked) = (p.0 ≡ codes "check") × WritesFlag (first_of (codes "clocked") p.1) is_clocked
-Asks (Some p) (Search limit work size has_core is_told) =
-    (p.0 ≡ codes "search") × AsksSearch p.1 limit work size × WritesFlag (first_of (codes "core") p.1) has_core × WritesFlag (first_of (codes "progress") p.1) is_told
+Asks (Some p) (Search limit work size output is_told) =
+    (p.0 ≡ codes "search") × AsksSearch p.1 limit work size × WritesOutput p.1 output × WritesFlag (first_of (codes "progress") p.1) is_told
 Asks (Some p) (Draw from to) = (p.0 ≡ codes "draw") × AsksDraw p.1 from to
 Asks (Some p) Upgrade = p.0 ≡ codes "upgrade"
 Asks (Some p) (Step is_traced keeps_going echoes) = (p.0 ≡ codes "step") × AsksStep p.1 is_traced keeps_going echoes

@@ -9,7 +9,7 @@ use Rattle.cli_values.specs.Granularities.{WritesGranularity}
 use Rattle.cli_values.specs.Lanes.{WritesLane}
 use Rattle.cli_values.specs.Seeds.{WritesSeeds}
 use Rattle.cli_options.specs.declared.options.ValueOption.{ValueOption}
-use Rattle.cli_options.specs.declared.options.ValueOption.TheVariants.{Base, Size, Block, Requesters, Each, Lose, Corrupt, Turns, Workers, From, To, Seed, Seeds, Events, Lane, Limit, Work, Granularity as the_granularity, EndpointSize, Id, Crc, Credits}
+use Rattle.cli_options.specs.declared.options.ValueOption.TheVariants.{Base, Size, Block, Requesters, Each, Lose, Corrupt, Turns, Workers, From, To, Seed, Seeds, Events, Lane, Limit, Work, Granularity as the_granularity, EndpointSize, Id, Crc, Credits, Draw}
 use Rattle.cli_values.specs.Links.{WritesCredits}
 use Rattle.cli_options.specs.declared.refused.RefusedValue.{RefusedValue}
 use Rattle.fc_credit.specs.declared.limits.LaneCredits.{LaneCredits}
@@ -144,8 +144,14 @@ RefusesDevice rows option = (option ≡ EndpointSize) × IsWrongSize rows ⊎ (o
 abbrev pub RefusesEndpoint : List Row → ValueOption → Type 0
 RefusesEndpoint rows option = RefusesDevice rows option ⊎ IsRightSize rows × IsRightId rows × RefusesLink rows option
 
+-- a picture and a short log
+abbrev pub RefusesOutput : List Row → ValueOption → Type 0
+RefusesOutput rows option = (option ≡ Draw) × WritesFlag (first_of (codes "core") rows) true × WritesFlag (first_of (codes "draw") rows) true
+
 abbrev pub RefusesSearch : List Row → ValueOption → Type 0
-RefusesSearch rows option = IsFirstWrong rows search_values option ⊎ (option ≡ the_granularity) × AreRight rows search_values × IsWrongGranularity rows
+RefusesSearch rows option =
+    IsFirstWrong rows search_values option ⊎ (option ≡ the_granularity) × AreRight rows search_values × IsWrongGranularity rows
+    ⊎ AreRight rows search_values × IsRightGranularity rows × RefusesOutput rows option
 
 abbrev pub RefusesRun : List Row → ValueOption → Type 0
 RefusesRun rows option = IsFirstWrong rows run_values option ⊎ (option ≡ Workers) × AreRight rows run_values × IsWrongOptional rows Workers

@@ -2,9 +2,11 @@
 #![tactic(auto)]
 
 mod devices;
+mod outputs;
 mod reading;
 mod subcommands;
 mod texts;
 mod words;
 
+pub use outputs::SearchOutput;
 pub use words::{Request, RequestFault, options};

@@ -207,7 +207,8 @@ fn search_command<'a>(alloc: Global) -> Result<Command<'a>, AllocError>
         option_of(alloc, "granularity", "BYTES", texts::GRANULARITY),
     )?;
     let core = with_arg(granularity, flag_of(alloc, "core", texts::CORE))?;
-    with_arg(core, flag_of(alloc, "progress", texts::STAGES))
+    let drawn = with_arg(core, flag_of(alloc, "draw", texts::PICTURE))?;
+    with_arg(drawn, flag_of(alloc, "progress", texts::STAGES))
 }
 
 /// The subcommand `draw`.

@@ -249,6 +249,11 @@ pub(crate) static CORE: &str =
 and of the requests that have to do with them, if it is proved that this log has no
 history";
 
+pub(crate) static PICTURE: &str =
+    "Print a picture, in SVG, in place of the answer: that of the trace and its history,
+as 'draw' does, or of the log in place of 'none', with the last answer, what is expected
+there, and what it contradicts; not with '--core'";
+
 pub(crate) static GRANULARITY: &str =
     "Bytes of a read or a write that act at once, in naturally aligned pieces: 4, 8,
 16, 64 or whole; the history that is printed is one of pieces [default: whole]";

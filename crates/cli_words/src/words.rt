@@ -9,6 +9,7 @@ ghost use Rattle.cli_words.specs.Options.{the_app, text_of, Asks, AsksEndpoint};
 ghost use Rattle.cli_words.specs.Refusals.{Refuses, RefusesLink};
 
 use crate::devices::{credits_in, device_in, no_link_in};
+use crate::outputs::{SearchOutput, output_in};
 use crate::reading::{base_in, flag_in, granularity_in, lane_in, number_in, optional_in, seeds_in};
 use crate::subcommands::{Subcommand, grammar, subcommand_named};
 use clap::ArgMatches;
@@ -50,12 +51,12 @@ pub enum Request {
         is_clocked: bool,
     },
     /// The subcommand `search`, which looks at so many choices and does so much work at most, lets reads and writes act in
-    /// pieces, and may write a log of few answers that has no history, and tell how far it is.
+    /// pieces, and may write other than the answer, and tell how far it is.
     Search {
         limit: u64,
         work: u64,
         granularity: Granularity,
-        has_core: bool,
+        output: SearchOutput,
         is_told: bool,
     },
     /// The subcommand `draw`, of the points of a history from one to another.
@@ -195,11 +196,12 @@ fn search_of<'a>(search: &ArgMatches<'a>) -> Result<Request, RefusedValue<'a>>
     let limit = number_in(search, ValueOption::Limit, Some(1_000_000))?;
     let work = number_in(search, ValueOption::Work, Some(300_000_000))?;
     let granularity = granularity_in(search)?;
+    let output = output_in(search)?;
     Ok(Request::Search {
         limit,
         work,
         granularity,
-        has_core: is_set(search.get_str("core")),
+        output,
         is_told: is_set(search.get_str("progress")),
     })
 }

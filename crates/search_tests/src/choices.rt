@@ -183,7 +183,7 @@ static ROWS: [Row; 33] = [
     Row {
         name: "a cell without a run beside one with many orders",
         lines: "sub 6 0 add 80 02000000\nsub 6 1 cas 80 02000000 01000000\nsub 5 0 add 80 03000000\nsub 5 1 cas 80 02000000 03000000\nsub 5 2 add 80 03000000\nsub 5 3 add 80 03000000\nans 5 2 data 06000000\nsub 4 0 add 80 01000000\nans 4 0 data 09000000\nsub 2 0 read 40 1 F 0\nsub 2 1 add 40 01000000\nsub 1 0 read 40 1 F 0\nsub 3 0 swap 40 03000000\nans 1 0 data 02000000\n",
-        choices: 80,
+        choices: 66,
         answer: "none 13\n",
     },
     Row {

@@ -15,7 +15,7 @@ struct Row(u64, Granularity, &'static str);
 
 static ROWS: [Row; 4] = [
     Row(
-        79,
+        65,
         Granularity::Whole,
         "pciex: given up at line 16 (open requests: 3)\npciex: lines 3 to 15 have a history\n",
     ),

@@ -6,6 +6,8 @@ mod choices;
 #[cfg(test)]
 mod cores;
 #[cfg(test)]
+mod drawn;
+#[cfg(test)]
 mod flaws;
 #[cfg(test)]
 mod given_up;

@@ -1,11 +1,11 @@
-use Rattle.std.proofs.Common.{◌≡◌, ◌∙◌, Bool, List, ℕ, Option, Result, Ok, Err, IfOk, OnOk, OnErr, sym, subst, inl, inr, refl}
+use Rattle.std.proofs.Common.{◌≡◌, ◌∙◌, List, ℕ, Option, Result, Ok, Err, IfOk, OnOk, OnErr, sym, subst, inl, inr, refl}
 use Rattle.line_loop.specs.declared.fault.EngineFault.{EngineFault}
 use Rattle.parameters.specs.declared.storm.Storm.{Storm}
 use Rattle.generate_engine.specs.Script.{IsWhole as IsWholeScript, IsPart as IsPartOfScript}
 use Rattle.line_loop.specs.Run.{Run, IsRun, IsWhole, IsPart as IsPartOf}
 use Rattle.log_pieces.specs.declared.Granularity.{Granularity}
-use Rattle.search_engine.specs.Search.{IsWholeFor as IsWholeSearch, IsPartFor as IsPartOfSearch, IsSearchedFor}
-use Rattle.cli_commands.specs.Command.{IsGenerated}
+use Rattle.cli_words.specs.declared.outputs.SearchOutput.{SearchOutput}
+use Rattle.cli_commands.specs.Command.{IsGenerated, IsWholeAs, IsPartAs, IsSearchedAs}
 use Rattle.cli_commands.proofs.command.begin.Goals as goal
 
 -- an engine's run, whole or stopped
@@ -22,12 +22,12 @@ generated s (Ok status) out out' exit ok err is whole part = inl (ok ∙ is, who
 generated s (Err fault) out out' exit ok err is whole part = inr (err, part)
 
 -- a search, whole or stopped
-searched : (core : Bool) (size : Granularity) (limit work : ℕ) (r : Result ℕ EngineFault) (input rest out out' : Option (List ℕ)) (exit : ℕ)
+searched : (output : SearchOutput) (size : Granularity) (limit work : ℕ) (r : Result ℕ EngineFault) (input rest out out' : Option (List ℕ)) (exit : ℕ)
     → IfOk r (λ status. exit ≡ status) → OnErr r (exit ≡ 1)
-    → IfOk r (IsWholeSearch core size (record { choices = limit; work = work }) input rest out out') → OnErr r (IsPartOfSearch core size (record { choices = limit; work = work }) input rest out out')
-    → IsSearchedFor core size (record { choices = limit; work = work }) input rest out out' exit
-searched core size limit work (Ok status) input rest out out' exit ok err whole part = inl (subst (λ (n : ℕ). IsWholeSearch core size (record { choices = limit; work = work }) input rest out out' n) (sym ok) whole)
-searched core size limit work (Err fault) input rest out out' exit ok err whole part = inr (err, part)
+    → IfOk r (IsWholeAs output size (record { choices = limit; work = work }) input rest out out') → OnErr r (IsPartAs output size (record { choices = limit; work = work }) input rest out out')
+    → IsSearchedAs output size (record { choices = limit; work = work }) input rest out out' exit
+searched output size limit work (Ok status) input rest out out' exit ok err whole part = inl (subst (λ (n : ℕ). IsWholeAs output size (record { choices = limit; work = work }) input rest out out' n) (sym ok) whole)
+searched output size limit work (Err fault) input rest out out' exit ok err whole part = inr (err, part)
 
 pub returns-in-Tlp : goal.returns-in-Tlp
 returns-in-Tlp g c = record {
@@ -55,7 +55,7 @@ returns-in-Check g c = record {
 
 pub returns-in-Search : goal.returns-in-Search
 returns-in-Search g c = record {
-  begun = rw c.in-Search.is (searched c.in-Search.has_core c.in-Search.granularity c.in-Search.limit c.in-Search.work c.run_search_for-run.result _ _ _ _ _ c.ended-in-Search.ensures.ok c.ended-in-Search.ensures.err c.run_search_for-run.ensures.ok c.run_search_for-run.ensures.err);
+  begun = rw c.in-Search.is (searched c.in-Search.output c.in-Search.granularity c.in-Search.limit c.in-Search.work c.run_search_as-run.result _ _ _ _ _ c.ended-in-Search.ensures.ok c.ended-in-Search.ensures.err c.run_search_as-run.ensures.ok c.run_search_as-run.ensures.err);
   right = tt;
 }
 

@@ -18,6 +18,6 @@ returns-clause-ok c =
         most_work = work.1.most;
         granularity_read = c.in_ok-granularity.ensures.ok;
       },
-      subst (λ (t : Option Text). WritesFlag t c.is_set.result) (c.get_str.ensures ∙ first_value-rows (found_of c.args.search.now) (codes "core")) c.is_set.ensures,
-      subst (λ (t : Option Text). WritesFlag t c.is_set-2.result) (c.get_str-2.ensures ∙ first_value-rows (found_of c.args.search.now) (codes "progress")) c.is_set-2.ensures,
+      c.in_ok-output.ensures.ok,
+      subst (λ (t : Option Text). WritesFlag t c.is_set.result) (c.get_str.ensures ∙ first_value-rows (found_of c.args.search.now) (codes "progress")) c.is_set.ensures,
     )
