@@ -4,11 +4,11 @@
 // How long a run may take, in milliseconds.
 let longest = 10000;
 
-// Each kind of text, with its subcommand and the one that draws it.
+// Each kind of text, with its subcommand and the one that draws it. A search draws with its own options.
 const KINDS = {
     step: "chart",
     check: "draw",
-    search: null,
+    search: "search",
     tlp: null,
     decode: null,
     encode: null,
@@ -56,8 +56,10 @@ function run() {
     if (worker === null) startWorker();
     number += 1;
     const kind = at("kind").value;
-    const lines = [[kind, ...words(at("options").value)]];
-    if (KINDS[kind]) lines.push([KINDS[kind], ...words(at("drawing").value)]);
+    const options = words(at("options").value);
+    const lines = [[kind, ...options]];
+    if (KINDS[kind] === kind) lines.push([kind, ...options, "--draw"]);
+    else if (KINDS[kind]) lines.push([KINDS[kind], ...words(at("drawing").value)]);
     timer = setTimeout(() => {
         worker.terminate();
         worker = null;
@@ -93,7 +95,8 @@ function show(data) {
 }
 
 function changed() {
-    at("drawn").hidden = !KINDS[at("kind").value];
+    const kind = at("kind").value;
+    at("drawn").hidden = !KINDS[kind] || KINDS[kind] === kind;
     clearTimeout(pause);
     pause = setTimeout(() => {
         history.replaceState(null, "", link());

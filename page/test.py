@@ -14,7 +14,7 @@ import subprocess
 import sys
 
 HERE = os.path.dirname(os.path.abspath(__file__))
-DRAWN = {"step": "chart", "check": "draw"}
+DRAWN = {"step": "chart", "check": "draw", "search": "search"}
 
 
 def cases(program):
@@ -34,7 +34,7 @@ def cases(program):
                 count += 1
                 options = " ".join([*given, *mutate.random.choice(choices)])
                 made.append({"kind": name, "options": options, "drawing": "", "text": text.decode()})
-    return [case for case in made if case["kind"] not in DRAWN.values()]
+    return [case for case in made if case["kind"] not in ("chart", "draw")]
 
 
 def write(page, test, program):
@@ -69,7 +69,8 @@ def read(dom, program):
         status, output, errors = run(program, words, result["text"])
         drawn = ""
         if result["kind"] in DRAWN:
-            drawn = run(program, [DRAWN[result["kind"]]], result["text"])[1]
+            drawing = [*words, "--draw"] if result["kind"] == "search" else [DRAWN[result["kind"]]]
+            drawn = run(program, drawing, result["text"])[1]
             drawn = drawn if drawn.startswith("<svg") else ""
             pictures += drawn != ""
         wanted = {"said": f"Exit status {status}.", "output": output, "errors": errors, "drawn": drawn}
