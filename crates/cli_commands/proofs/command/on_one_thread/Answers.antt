@@ -4,6 +4,8 @@ use Rattle.std.specs.Io.KnownBytes.{Appends, Consumes}
 use Rattle.clap.specs.Words.{HasKind, IsAmong, Kinds, Row, Text, kind_of, subcommand_of}
 use Rattle.clap.specs.declared.error.kind.ErrorKind.{ErrorKind}
 use Rattle.clap.specs.declared.error.kind.ErrorKind.TheVariants as kinds
+use Rattle.cli_words.specs.declared.outputs.SearchOutput.{SearchOutput}
+use Rattle.cli_words.specs.declared.outputs.SearchOutput.TheVariants as outputs
 use Rattle.cli_words.specs.declared.words.Request.{Request}
 use Rattle.cli_words.specs.declared.words.Request.TheVariants.{Tlp, Endpoint, Linked, Decode, Encode, Check, Search, Draw, Upgrade, Step, Chart, Generate, Sweep, Run as run_words}
 use Rattle.cli_words.specs.declared.words.RequestFault.{RequestFault}
@@ -15,10 +17,9 @@ use Rattle.parameters.specs.declared.counting.Counting.{Counting}
 use Rattle.worker_report.specs.declared.halt.RunHalt.TheVariants as halts
 use Rattle.run_engine.specs.Text.{IsPart, halt_text}
 use Rattle.log_pieces.specs.declared.Granularity.{Granularity}
-use Rattle.search_engine.specs.Search.{IsPartFor as IsPartOfSearch}
 use Rattle.sweep_engine.specs.declared.options.Sweep.{Sweep as SweepAsked}
 use Rattle.sweep_engine.specs.Sweep.{IsPart as IsPartOfSweep, none_said, whole_text}
-use Rattle.cli_commands.specs.Command.{IsBegun, IsDone, IsRightRequest, AskForNoText, AreRefused}
+use Rattle.cli_commands.specs.Command.{IsBegun, IsDone, IsPartAs, IsRightRequest, AskForNoText, AreRefused}
 use Rattle.cli_commands.proofs.command.on_one_thread.Goals as goal
 
 -- words that `clap` takes and that ask for something are refused for being out of memory alone
@@ -69,8 +70,10 @@ nothing-swept : (o : SweepAsked) (w : Option (List ℕ)) → IsPartOfSweep o w w
 nothing-swept o w = record { saids = []; said = tt; few = omega arith; done = []; begins = (whole_text none_said, refl); written = appends w }
 
 -- nothing was read, and nothing written
-nothing-searched : (core : Bool) (size : Granularity) (limit work : ℕ) (u w : Option (List ℕ)) → IsPartOfSearch core size (record { choices = limit; work = work }) u u w w
-nothing-searched core size limit work u w = record { read = []; consumed = consumes-nothing u; done = []; begins = inl refl; written = appends w }
+nothing-searched : (output : SearchOutput) (size : Granularity) (limit work : ℕ) (u w : Option (List ℕ)) → IsPartAs output size (record { choices = limit; work = work }) u u w w
+nothing-searched outputs.Answer size limit work u w = record { read = []; consumed = consumes-nothing u; done = []; begins = inl refl; written = appends w }
+nothing-searched outputs.Core size limit work u w = record { read = []; consumed = consumes-nothing u; done = []; begins = inl refl; written = appends w }
+nothing-searched outputs.Picture size limit work u w = record { read = []; consumed = consumes-nothing u; done = []; begins = inl refl; written = appends w }
 
 -- nothing was done, and status 1 tells it
 undone : (r : Request) (input out : Option (List ℕ)) (exit : ℕ) → exit ≡ 1 → IsDone r input input out out exit
@@ -80,7 +83,7 @@ undone (Linked setup is_traced ours has_crc) input out exit e = inr (e, nothing-
 undone Decode input out exit e = inr (e, nothing-done _ input out)
 undone Encode input out exit e = inr (e, nothing-done _ input out)
 undone (Check is_clocked) input out exit e = inr (e, nothing-done _ input out)
-undone (Search limit work size has_core is_told) input out exit e = inr (e, nothing-searched has_core size limit work input out)
+undone (Search limit work size output is_told) input out exit e = inr (e, nothing-searched output size limit work input out)
 undone Upgrade input out exit e = inr (e, nothing-done _ input out)
 undone (Draw from to) input out exit e = inr (e, nothing-done _ input out)
 undone (Step is_traced keeps_going echoes) input out exit e = inr (e, nothing-done _ input out)
