@@ -127,6 +127,9 @@ fn told(alloc: Global, row: &Row) -> Result<bool, Fail> {
     match search(alloc, &mut trace, 1000)? {
         (Sought::Found(_), _) => Ok(row.none.is_none()),
         (Sought::None { prefix }, _) => {
+            if prefix > trace.records.len() {
+                return Ok(false);
+            }
             let explained = match explained_before(alloc, &trace, prefix, 1000)? {
                 Some(before) => Some(before.count),
                 None => None,
