@@ -8,12 +8,14 @@ ghost use Rattle.atomic_op.specs.declared.AtomicOp.TheVariants as atomics;
 /// A sum that fits the width is the sum, and one that does not loses 2 to the number of bits, once.
 pub fn fetch_add_wraps()
     ensures fits { (w : Width) (old x : ℕ) → old + x < 2 ^ (8 * size_of w) → new_value (atomics.FetchAdd x) w old ≡ old + x }
-    ensures wraps { (w : Width) (old x : ℕ) → old < 2 ^ (8 * size_of w) → x < 2 ^ (8 * size_of w) → 2 ^ (8 * size_of w) ≤ old + x → new_value (atomics.FetchAdd x) w old + 2 ^ (8 * size_of w) ≡ old + x }
+    ensures wraps { (w : Width) (old x : ℕ) → old < 2 ^ (8 * size_of w) → x < 2 ^ (8 * size_of w) → 2 ^ (8 * size_of w) ≤ old + x →
+        new_value (atomics.FetchAdd x) w old + 2 ^ (8 * size_of w) ≡ old + x }
 {}
 
 /// The order of two additions makes no difference.
 pub fn fetch_adds_commute()
-    ensures { (w : Width) (old x y : ℕ) → new_value (atomics.FetchAdd y) w (new_value (atomics.FetchAdd x) w old) ≡ new_value (atomics.FetchAdd x) w (new_value (atomics.FetchAdd y) w old) }
+    ensures { (w : Width) (old x y : ℕ) →
+        new_value (atomics.FetchAdd y) w (new_value (atomics.FetchAdd x) w old) ≡ new_value (atomics.FetchAdd x) w (new_value (atomics.FetchAdd y) w old) }
 {}
 
 /// Compare and swap writes the swap value if the location holds the compare value, and only then.

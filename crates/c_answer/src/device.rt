@@ -7,9 +7,10 @@ ghost use Rattle.c_answer.specs.Call.{served, call};
 
 use c_buffer::{Failure, Length, tell};
 use completer_core::answer_lent;
-use completion_bytes::{HEADER, put_header};
 use seq_memory::ReplyData;
-use tlp_core::{MAX_TLP, TlpRef, decode_lent, encode_lent};
+use tlp_core::{
+    COMPLETION_HEADER, MAX_TLP, TlpRef, decode_lent, encode_lent, put_completion_header,
+};
 
 /// The bytes of buffer that a call asks for, whatever its completion has.
 pub const MAX_COMPLETION: usize = MAX_TLP;
@@ -22,11 +23,11 @@ pub fn tell_completion(completion: &TlpRef<'_>, buffer: &mut [u8]) -> Length
     ensures length { result ≡ length (canonical completion.now) }
     ensures buffer { buffer.new ≡ filled buffer.old (canonical completion.now) }
 {
-    let mut header = [0; HEADER];
-    if put_header(completion, &mut header) {
-        let end = HEADER + completion.payload.len();
-        buffer[..HEADER].copy_from_slice(&header);
-        buffer[HEADER..end].copy_from_slice(completion.payload);
+    let mut header = [0; COMPLETION_HEADER];
+    if put_completion_header(completion, &mut header) {
+        let end = COMPLETION_HEADER + completion.payload.len();
+        buffer[..COMPLETION_HEADER].copy_from_slice(&header);
+        buffer[COMPLETION_HEADER..end].copy_from_slice(completion.payload);
         return Length::new(end);
     }
     let mut room = [0; MAX_TLP];

@@ -1,10 +1,10 @@
 -- The verdict on the text of a trace: what is returned, and the line of `pciex check` in the caller's buffer.
 use Rattle.std.specs.Prelude.{ℕ, ⊤, ◌≡◌, ◌≤◌, ◌⊎◌, Bool, true, false, nat_lt, if◌then◌else◌, List, length, Option, Some, None, Result, Ok, Err}
-use Rattle.history_check.specs.declared.flaws.FlawKind.{FlawKind}
-use Rattle.history_check.specs.Claim.{Claim}
-use Rattle.history_check.specs.Clocks.{IsClocked, KeepsRealTimeOrder}
-use Rattle.history_check.specs.Flaws.{first_flaw, first_flaw_clocked}
-use Rattle.history_check.specs.Trace.{Explains}
+use Rattle.history_words.specs.declared.flaws.FlawKind.{FlawKind}
+use Rattle.history_words.specs.Claim.{Claim}
+use Rattle.history_words.specs.Clocks.{IsClocked, KeepsRealTimeOrder}
+use Rattle.history_words.specs.Flaws.{first_flaw, first_flaw_clocked}
+use Rattle.history_words.specs.Trace.{Explains}
 use Rattle.record_text.specs.declared.fault.ReadFault.{ReadFault}
 use Rattle.trace_text.specs.TraceReaderView.{read_of, IsRefused}
 use Rattle.record_text.specs.Names.{fault_line}

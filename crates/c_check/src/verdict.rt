@@ -1,8 +1,8 @@
 //! The verdict on the text of a trace.
 ghost use Rattle.std.specs.Prelude.{◌≡◌, ◌≤◌, ◌⊎◌, length, true, None, Ok, Err, IsOk, OnOk, IfErr};
-ghost use Rattle.history_check.specs.Claim.{Claim};
-ghost use Rattle.history_check.specs.Trace.{Explains};
-ghost use Rattle.history_check.specs.Flaws.{Tells};
+ghost use Rattle.history_words.specs.Claim.{Claim};
+ghost use Rattle.history_words.specs.Trace.{Explains};
+ghost use Rattle.history_words.specs.Flaws.{Tells};
 ghost use Rattle.trace_text.specs.TraceReaderView.{read_of};
 ghost use Rattle.record_text.specs.Names.{fault_line};
 ghost use Rattle.flaw_places.specs.Places.{flaw_line};
@@ -13,7 +13,8 @@ ghost use Rattle.c_check.specs.Verdict.{judged, verdict, flaw_by, IsOrdered, IsR
 use arrayvec::ArrayString;
 use c_buffer::{Failure, LINE_BUFFER, tell_fault};
 use flaw_places::write_flaw;
-use history_check::{Flaw, FlawKind, check_claim, check_claim_clocked};
+use history_check::{check_claim, check_claim_clocked};
+use history_words::{Flaw, FlawKind};
 use log_text::no_fault_is_out_of_memory;
 use record_text::{ReadFault, ReadFaultKind, write_fault};
 use std::alloc::Global;

@@ -21,7 +21,7 @@ fn write_entry(entry: &Entry, text: &mut ArrayString<512>)
     text.push_str(" ");
     write_decimal(u64::from(entry.number), text);
     text.push_str(" ");
-    write_op(&entry.op, text);
+    write_op(&entry.op.lend(), text);
 }
 
 /// Puts the text of an entry to the front of the buffer.

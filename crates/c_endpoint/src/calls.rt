@@ -59,7 +59,8 @@ pub fn take_tlp(slot: Slot, tlp: &[u8], back: &mut Slot) -> Result<Handled, Fail
     ghost session: { SessionView }
     requires { slot.session ≡ Some session }
     ensures outcome { ¬ (result ≡ Err NoMemory) → result ≡ Ok (steps.handled session.endpoint tlp.now) }
-    ensures session { ¬ (result ≡ Err NoMemory) → Holds back.new.session (steps.taken session.endpoint tlp.now) (came session.endpoint tlp.now session.recording) }
+    ensures session { ¬ (result ≡ Err NoMemory) →
+        Holds back.new.session (steps.taken session.endpoint tlp.now) (came session.endpoint tlp.now session.recording) }
     ensures no_memory { result ≡ Err NoMemory → steps.handled session.endpoint tlp.now ≡ Waits }
     ensures unchanged { IsErr result → back.new.session ≡ Some session }
 {

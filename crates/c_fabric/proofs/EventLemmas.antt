@@ -1,6 +1,6 @@
 -- What a session holds after an event.
 use Rattle.std.proofs.Common.{ℕ, ◌≡◌, ◌⊎◌, inl, inr, Bool, true, false, List, ◌++◌, length, sym, ap, refl, subst, Result, Ok, Err, IsOk, IfErr, OnOk, OnErr}
-use Rattle.history_check.specs.declared.Record.{Record}
+use Rattle.history_words.specs.Records.{Record}
 use Rattle.fabric_laws.specs.Fabric.{Fabric, whole_of}
 use Rattle.fabric_laws.specs.Sound.{Sound}
 use Rattle.fabric_laws.specs.Steps.{Step, Run, stays, goes}

@@ -1,6 +1,6 @@
 -- The calls of a fabric: what it and the caller's buffer hold after them, and what they return.
 use Rattle.std.specs.Prelude.{ℕ, ⊤, ◌≡◌, ◌≤◌, ◌⊎◌, nat_lt, Bool, true, if◌then◌else◌, List, ◌++◌, length, fold, Option, Some, None, Result, Ok, Err, IsOk}
-use Rattle.history_check.specs.declared.Record.{Record}
+use Rattle.history_words.specs.Records.{Record}
 use Rattle.fabric_laws.specs.Fabric.{Fabric}
 use Rattle.fabric_core.specs.declared.config.Config.{Config}
 use Rattle.fabric_core.specs.declared.config.ConfigFault.{ConfigFault}

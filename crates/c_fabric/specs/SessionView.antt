@@ -1,7 +1,7 @@
 -- A fabric that scripts' lines drive one by one.
 use Rattle.std.specs.Prelude.{ℕ, ◌≡◌, Bool, true, if◌then◌else◌, List, [], ◌∷◌, ◌++◌, fold, Option, IfSome}
-use Rattle.history_check.specs.declared.Record.{Record}
-use Rattle.history_check.specs.Claim.{Claim}
+use Rattle.history_words.specs.Records.{Record}
+use Rattle.history_words.specs.Claim.{Claim}
 use Rattle.fabric_laws.specs.Fabric.{Fabric, whole_of}
 use Rattle.fabric_laws.specs.Trace.{Belongs}
 use Rattle.fabric_core.specs.declared.config.Config.{Config}

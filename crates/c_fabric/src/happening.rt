@@ -1,6 +1,6 @@
 //! Events.
 ghost use Rattle.std.specs.Prelude.{◌≡◌, ◌≤◌, List, Some, Err, IsErr, true, false, length, IfErr, OnOk, OnErr};
-ghost use Rattle.history_check.specs.declared.Record as records;
+ghost use Rattle.history_words.specs.Records as records;
 ghost use Rattle.fabric_core.specs.Answers.{answer};
 ghost use Rattle.fabric_events.specs.Faults.{is_memory, IsTold};
 ghost use Rattle.script_text.specs.Names.{refusal_text};
@@ -18,7 +18,8 @@ use fabric_core::laws::{each_event_has_one_answer, each_event_keeps_it_sound};
 use fabric_core::{EventRef, Fabric, Refusal};
 use fabric_laws::laws::the_trace_belongs;
 use fabric_settle::happen;
-use script_text::{LineForm, ROOM, read_line_lent, write_refusal};
+use script_text::{Line, read_line, write_refusal};
+use tlp_core::MAX_PAYLOAD;
 
 /// Puts the name of a refusal other than out of memory to the front of the buffer.
 fn put_refusal(refusal: Refusal, buffer: &mut [u8]) -> Failure
@@ -133,8 +134,8 @@ pub(crate) fn happen_by(
     if buffer.len() < LINE_BUFFER {
         return Err(Failure::SmallBuffer);
     }
-    let mut room = ROOM;
-    let Ok(LineForm::Event(event)) = read_line_lent(line, &mut room) else {
+    let mut room = [0; MAX_PAYLOAD];
+    let Ok(Line::Event(event)) = read_line(line, &mut room) else {
         return Err(Failure::NoLine);
     };
     happen_to(session, &event, buffer)

@@ -1,7 +1,7 @@
 //! What a fabric holds.
 ghost use Rattle.std.specs.Prelude.{◌≡◌, ◌↔◌, IsTrue, true, Some, Err, IsErr, length, string_bytes, IfOk};
 ghost use Rattle.seq_memory.specs.History.{bytes_of};
-ghost use Rattle.history_check.specs.Trace.{Explains};
+ghost use Rattle.history_words.specs.Trace.{Explains};
 ghost use Rattle.trace_text.specs.Texts.{trace_text};
 ghost use Rattle.fabric_laws.specs.Trace.{submitted_by};
 ghost use Rattle.fabric_core.specs.Quiet.{IsQuiet};

@@ -114,9 +114,11 @@ pub fn tell_script(
     ghost session: { SessionView }
     requires { slot.session ≡ Some session }
     ensures outcome { ¬ (result ≡ Err NoMemory) → result ≡ (script_call session text.now buffer.old).outcome }
-    ensures left { ¬ (result ≡ Err NoMemory) → (s : SessionView) × (back.new.session ≡ Some s) × IsLeftBy (script_call session text.now buffer.old) s buffer.new done.new size.new }
+    ensures left { ¬ (result ≡ Err NoMemory) →
+        (s : SessionView) × (back.new.session ≡ Some s) × IsLeftBy (script_call session text.now buffer.old) s buffer.new done.new size.new }
     ensures whole { IsOk result → done.new ≡ length text.now }
-    ensures no_memory { result ≡ Err NoMemory → (s : SessionView) × (back.new.session ≡ Some s) × IsCutShort session text.now buffer.old s buffer.new done.new size.new }
+    ensures no_memory { result ≡ Err NoMemory →
+        (s : SessionView) × (back.new.session ≡ Some s) × IsCutShort session text.now buffer.old s buffer.new done.new size.new }
 {
     let mut held = open(slot);
     let outcome = happen_lines(&mut held, text, buffer, done, size);

@@ -1,7 +1,7 @@
 //! A fabric and its trace.
 use crate::witness::SessionWitness;
 use fabric_core::Fabric;
-use history_check::Record;
+use history_words::Record;
 use std::marker::Model;
 
 /// A fabric, the records of its trace where it keeps one, what the last settlement collected, and the text of the trace

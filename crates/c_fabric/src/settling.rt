@@ -18,7 +18,7 @@ use fabric_core::Fabric;
 use fabric_core::laws::each_event_keeps_it_sound;
 use fabric_laws::laws::the_trace_belongs;
 use fabric_settle::settle;
-use history_check::Record;
+use history_words::Record;
 use script_text::write_told;
 use std::alloc::{AllocError, Global};
 use std::mem;

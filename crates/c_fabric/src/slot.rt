@@ -18,6 +18,7 @@ use fabric_core::{Config, ConfigFault, Fabric};
 use script_text::{Line, read_line, write_config_fault};
 use std::alloc::Global;
 use std::marker::Model;
+use tlp_core::MAX_PAYLOAD;
 
 /// A fabric, or nothing. Where it is dropped, the fabric isn't freed.
 #[repr(C)]
@@ -159,7 +160,7 @@ pub fn new_fabric(
     if buffer.len() < LINE_BUFFER {
         return Err(Failure::SmallBuffer);
     }
-    match read_line(line) {
+    match read_line(line, &mut [0; MAX_PAYLOAD]) {
         Ok(Line::Fabric(config)) => make_in(alloc, config, is_traced, buffer, slot),
         _ => Err(Failure::NoLine),
     }

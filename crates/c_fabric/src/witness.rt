@@ -2,7 +2,7 @@
 use arrayvec::ArrayString;
 use fabric_core::{EventRef, Fabric, SeenRef};
 use fabric_settle::Witness;
-use history_check::Record;
+use history_words::Record;
 use script_text::write_seen;
 use std::alloc::AllocError;
 

@@ -1,7 +1,7 @@
 -- What is recorded of a packet that arrived: that of the device before it and that of the device after it are the same.
 use Rattle.std.proofs.Common.{◌≡◌, ℕ, Bool, true, false, cond, List, Option, Some, None, refl, sym, ap}
 use Rattle.std.specs.Prelude.{is_some}
-use Rattle.tlp_core.specs.declared.operation.Op.{Op}
+use Rattle.tlp_core.specs.Ops.{Op}
 use Rattle.tlp_core.specs.Operation.{op_of}
 use Rattle.endpoint_packets.specs.Classes.{becomes}
 use Rattle.endpoint_packets.specs.declared.received.Received.{Received}

@@ -1,7 +1,7 @@
 -- The trace and the history of an endpoint behind its link.
 use Rattle.std.specs.Prelude.{List}
 use Rattle.fc_credit.specs.declared.limits.LaneCredits.{LaneCredits}
-use Rattle.history_check.specs.Claim.{Claim}
+use Rattle.history_words.specs.Claim.{Claim}
 use Rattle.config_space.specs.SetupView.{SetupView}
 use Rattle.endpoint_log.specs.Steps.{new_log}
 use Rattle.linked_endpoint.specs.Linked.{new_linked}

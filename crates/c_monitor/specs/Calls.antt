@@ -1,7 +1,7 @@
 -- The calls of a monitor: what it and the caller's buffer hold after them, and what they return.
 use Rattle.std.specs.Prelude.{ℕ, ⊤, ◌≡◌, ◌≤◌, true, nat_lt, if◌then◌else◌, List, length, Option, Some, None, Result, Ok, Err, IsOk}
-use Rattle.seq_memory.specs.declared.Entry.{Entry}
-use Rattle.history_check.specs.declared.Record.{Record}
+use Rattle.seq_memory.specs.Entries.{Entry}
+use Rattle.history_words.specs.Records.{Record}
 use Rattle.operation_text.specs.Words.{words}
 use Rattle.trace_text.specs.Texts.{entry_line}
 use Rattle.monitor_ports.specs.declared.head.Head.{Head}

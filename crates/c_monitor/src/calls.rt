@@ -11,7 +11,7 @@ use crate::failures::failure;
 use crate::slot::{Slot, close, open};
 use arrayvec::ArrayString;
 use c_buffer::{Failure, LINE_BUFFER, Length, tell};
-use history_check::Record;
+use history_words::Record;
 use monitor_ports::{Monitor, write_entry, write_record};
 use seq_memory::Entry;
 

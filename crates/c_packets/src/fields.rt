@@ -122,7 +122,8 @@ fn fields_of(tlp: &TlpRef<'_>, payload_start: usize) -> TlpFields
 pub fn decode_tlp(packet: &[u8], fields: &mut TlpFields) -> Result<(), Failure>
     ensures outcome { result ≡ (in_fields packet.now fields.old).outcome }
     ensures fields { fields.new ≡ (in_fields packet.now fields.old).fields }
-    ensures payload { IsOk result → (t : TlpView) × (reading packet.now ≡ Ok t) × (t.payload ≡ take fields.new.payload_length (drop fields.new.payload_start packet.now)) }
+    ensures payload { IsOk result →
+        (t : TlpView) × (reading packet.now ≡ Ok t) × (t.payload ≡ take fields.new.payload_length (drop fields.new.payload_start packet.now)) }
     ensures unchanged { IsErr result → fields.new ≡ fields.old }
 {
     match decode_lent(packet) {

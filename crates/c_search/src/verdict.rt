@@ -105,7 +105,8 @@ pub fn search_with_reasons(
     sizes: &mut Sizes,
 ) -> Result<u8, Failure>
     ensures wrong { granularity_of question.entry.bytes ≡ None → result ≡ Err WrongGranularity }
-    ensures answered { ¬ (result ≡ Err NoMemory) → (g : granularities.Granularity) → granularity_of question.entry.bytes ≡ Some g → IsSearchedIn g question.entry.limit question.entry.text.now buffer.old buffer.new sizes.new.answer result }
+    ensures answered { ¬ (result ≡ Err NoMemory) → (g : granularities.Granularity) → granularity_of question.entry.bytes ≡ Some g →
+        IsSearchedIn g question.entry.limit question.entry.text.now buffer.old buffer.new sizes.new.answer result }
     ensures reasons { IsOk result → (lines : List ℕ) × (sizes.new.reasons ≡ length lines) × (reasons.new ≡ cut reasons.old lines) }
     ensures no_memory { result ≡ Err NoMemory → WantsMemory question.entry.text.now }
     ensures unchanged_sizes { (result ≡ Err NoMemory) ⊎ (result ≡ Err WrongGranularity) → sizes.new ≡ sizes.old }

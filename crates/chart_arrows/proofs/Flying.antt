@@ -5,10 +5,10 @@ use Rattle.std.specs.Option.{option_map}
 use Rattle.std.proofs.lemmas.List.{length-append}
 use Rattle.std.proofs.lemmas.Bool.{leb-true}
 use Rattle.std.proofs.lemmas.Bool.Decides.{eqb_tells}
-use Rattle.tlp_core.specs.declared.operation.Op.{Op}
+use Rattle.tlp_core.specs.Ops.{Op}
 use Rattle.seq_memory.specs.History.{MemoryView}
 use Rattle.requester_core.specs.RequesterView.{RequesterView}
-use Rattle.requester_core.specs.declared.requester.Answer.{Answer}
+use Rattle.requester_core.specs.Answers.{Answer}
 use Rattle.replay_sender.specs.CargoView.{CargoView}
 use Rattle.replay_sender.specs.SenderView.{next_item, number_at}
 use Rattle.lane_ends.specs.declared.packet.WirePacket.{WirePacket}

@@ -1,8 +1,8 @@
 -- What a chart keeps of each lane, beside the lane of the fabric.
 use Rattle.std.specs.Prelude.{ℕ, ◌≡◌, true, List, [], ◌∷◌, map, Option, Some, None, slice_get, Ok}
-use Rattle.tlp_core.specs.declared.operation.Op.{Op}
+use Rattle.tlp_core.specs.Ops.{Op}
 use Rattle.tlp_core.specs.Operation.{op_of}
-use Rattle.seq_memory.specs.declared.Entry.{Entry}
+use Rattle.seq_memory.specs.Entries.{Entry}
 use Rattle.replay_sender.specs.CargoView.{CargoView}
 use Rattle.switch_core.specs.Routing.{port_of}
 use Rattle.vc_queue.specs.Queue.{Item}

@@ -18,11 +18,12 @@ use fabric_core::{Config, ConfigFault, EventRef, Fabric, Refusal};
 use fabric_settle::{happen, settle};
 use line_loop::{Responder, Verdict};
 use operation_text::write_decimal;
-use script_text::{LineForm, ROOM, read_line_lent, write_config_fault, write_refusal};
+use script_text::{Line, read_line, write_config_fault, write_refusal};
 use std::alloc::{AllocError, Global};
 use std::marker::Model;
 use std::mem;
 use text_lines::is_skipped;
+use tlp_core::MAX_PAYLOAD;
 
 /// A fabric and its chart.
 #[derive(Drop)]
@@ -282,12 +283,12 @@ impl Responder for Charter {
             self.count();
             return Ok(Verdict::Fine);
         }
-        let mut room = ROOM;
-        match read_line_lent(line, &mut room) {
+        let mut room = [0; MAX_PAYLOAD];
+        match read_line(line, &mut room) {
             Err(_) => Ok(self.no_line()),
-            Ok(LineForm::Fabric(config)) => self.make(config),
-            Ok(LineForm::Event(event)) => self.happen(&event),
-            Ok(LineForm::Settle) => self.settle(),
+            Ok(Line::Fabric(config)) => self.make(config),
+            Ok(Line::Event(event)) => self.happen(&event),
+            Ok(Line::Settle) => self.settle(),
         }
     }
 

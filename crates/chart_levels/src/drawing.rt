@@ -1,5 +1,6 @@
 //! What is drawn of a step line.
 ghost use Rattle.std.specs.Prelude.{◌≡◌, ◌≤◌, ◌<◌, ◌+◌, ◌++◌, ◌∷◌, [], drop, length, OnOk};
+ghost use Rattle.chart_rows.specs.Sizes.{AreRows, IsOnPage};
 ghost use Rattle.std.specs.Fmt.{decimal};
 ghost use Rattle.arrayvec.specs.ArrayString.{array_string_len};
 ghost use Rattle.script_text.specs.LineTexts.{lane_text};
@@ -37,7 +38,7 @@ fn share_of(value: u64, greatest: u64) -> u64
 
 /// Where a value is drawn; infinite credits stand at the right.
 fn value_x(strip: Strip, value: Option<u64>) -> u64
-    requires { strip.left ≤ 3000000 }
+    requires { IsOnPage strip.left }
     ensures value { result ≡ spec.value_x strip value }
 {
     match value {
@@ -78,7 +79,7 @@ fn axis(strip: Strip) -> Rule
 
 /// The value of a step, down to the end of its rows.
 fn upright(strip: Strip, step: Step, end: u64) -> Rule
-    requires { strip.left ≤ 3000000 }
+    requires { IsOnPage strip.left }
     ensures { result ≡ spec.upright strip step end }
 {
     let x = value_x(strip, step.value);
@@ -87,7 +88,7 @@ fn upright(strip: Strip, step: Step, end: u64) -> Rule
 
 /// From the value of a step to that of the next.
 fn across(strip: Strip, step: Step, next: Step) -> Rule
-    requires { strip.left ≤ 3000000 }
+    requires { IsOnPage strip.left }
     ensures { result ≡ spec.across strip step next }
 {
     let y = top_of(next.row);
@@ -133,7 +134,7 @@ fn put_step_lines(
     next: Option<Step>,
     out: &mut Vec<u8>,
 ) -> Result<(), AllocError>
-    requires { strip.left ≤ 3000000 }
+    requires { IsOnPage strip.left }
     ensures { OnOk result (out.new.items ≡ out.old.items ++ shape_text (spec.step_drawn strip step next)) }
 {
     let mut words = ArrayString::new();
@@ -166,7 +167,7 @@ fn label_at(x: u64, y: u64, colour: Colour) -> Label
 
 /// Adds the value of a step, in its row.
 fn put_step_value(strip: Strip, step: Step, out: &mut Vec<u8>) -> Result<(), AllocError>
-    requires { strip.left ≤ 3000000 }
+    requires { IsOnPage strip.left }
     ensures { OnOk result (out.new.items ≡ out.old.items ++ shape_text (spec.step_said strip step)) }
 {
     let mut words = ArrayString::new();
@@ -183,7 +184,7 @@ fn put_step(
     next: Option<Step>,
     out: &mut Vec<u8>,
 ) -> Result<(), AllocError>
-    requires { strip.left ≤ 3000000 }
+    requires { IsOnPage strip.left }
     ensures { OnOk result (out.new.items ≡ out.old.items ++ shapes_text (spec.step_shapes strip step next)) }
 {
     put_step_lines(strip, step, next, out)?;
@@ -202,7 +203,7 @@ fn step_at(steps: &[Step], place: usize) -> Option<Step>
 
 /// Adds the steps.
 pub(crate) fn put_steps(strip: Strip, steps: &[Step], out: &mut Vec<u8>) -> Result<(), AllocError>
-    requires { strip.left ≤ 3000000 }
+    requires { IsOnPage strip.left }
     ensures { OnOk result (out.new.items ≡ out.old.items ++ shapes_text (spec.steps_shapes strip steps.now)) }
 {
     for place in 0..steps.len() {
@@ -261,8 +262,8 @@ pub(crate) fn put_head(strip: Strip, out: &mut Vec<u8>) -> Result<(), AllocError
 
 /// Adds white below the names in the stripe that ends at y.
 fn put_plate(strip: Strip, y: u64, out: &mut Vec<u8>) -> Result<(), AllocError>
-    requires left { strip.left ≤ 3000000 }
-    requires y { y ≤ 3000000 }
+    requires left { IsOnPage strip.left }
+    requires y { IsOnPage y }
     ensures { OnOk result (out.new.items ≡ out.old.items ++ shape_text (spec.plate strip y)) }
 {
     let block = Block {
@@ -281,8 +282,8 @@ fn put_plate(strip: Strip, y: u64, out: &mut Vec<u8>) -> Result<(), AllocError>
 /// Adds the names in the stripe that ends at y.
 #[tactic(auto, unfolding(svg_text::specs::Shapes::shapes_text))]
 fn put_names(strip: Strip, y: u64, out: &mut Vec<u8>) -> Result<(), AllocError>
-    requires left { strip.left ≤ 3000000 }
-    requires y { y ≤ 3000000 }
+    requires left { IsOnPage strip.left }
+    requires y { IsOnPage y }
     ensures { OnOk result (out.new.items ≡ out.old.items ++ shapes_text (spec.names strip y)) }
 {
     put_plate(strip, y, out)?;
@@ -292,7 +293,7 @@ fn put_names(strip: Strip, y: u64, out: &mut Vec<u8>) -> Result<(), AllocError>
 
 /// Adds the names in the stripe of this number, from 0.
 fn put_stripe(strip: Strip, stripe: u16, out: &mut Vec<u8>) -> Result<(), AllocError>
-    requires left { strip.left ≤ 3000000 }
+    requires left { IsOnPage strip.left }
     requires stripe { stripe < 1000 }
     ensures { OnOk result (out.new.items ≡ out.old.items ++ shapes_text (spec.stripe strip stripe)) }
 {
@@ -301,8 +302,8 @@ fn put_stripe(strip: Strip, stripe: u16, out: &mut Vec<u8>) -> Result<(), AllocE
 
 /// Adds the names again in so many stripes.
 pub(crate) fn put_stripes(strip: Strip, count: u16, out: &mut Vec<u8>) -> Result<(), AllocError>
-    requires left { strip.left ≤ 3000000 }
-    requires count { count ≤ 1000 }
+    requires left { IsOnPage strip.left }
+    requires count { AreRows count }
     ensures { OnOk result (out.new.items ≡ out.old.items ++ shapes_text (spec.stripes strip count)) }
 {
     for stripe in 0..count {

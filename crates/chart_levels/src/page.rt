@@ -1,5 +1,6 @@
 //! The page of a chart with step lines.
 ghost use Rattle.std.specs.Prelude.{◌≡◌, ◌≤◌, ◌+◌, ◌/◌, ◌++◌, List, drop, length, OnOk, OnErr};
+ghost use Rattle.chart_rows.specs.Sizes.{AreRows, IsOnPage};
 ghost use Rattle.svg_text.specs.Shapes.{Shape, shapes_text};
 ghost use Rattle.chart_levels.specs.Pages as spec;
 
@@ -32,8 +33,8 @@ fn strip_of(line: &StepLine, left: u64, rows: u16) -> Strip
 
 /// Adds a step line beside so many rows.
 fn put_line(line: &StepLine, left: u64, rows: u16, out: &mut Vec<u8>) -> Result<(), AllocError>
-    requires left { left ≤ 3000000 }
-    requires rows { rows ≤ 1000 }
+    requires left { IsOnPage left }
+    requires rows { AreRows rows }
     ensures { OnOk result (out.new.items ≡ out.old.items ++ shapes_text (spec.line_shapes left rows line.now)) }
 {
     let strip = strip_of(line, left, rows);
@@ -46,7 +47,7 @@ fn put_line(line: &StepLine, left: u64, rows: u16, out: &mut Vec<u8>) -> Result<
 /// Adds step lines beside so many rows, the first of them here.
 fn put_all(lines: &[StepLine], left: u64, rows: u16, out: &mut Vec<u8>) -> Result<(), AllocError>
     requires left { left ≤ 1000000 }
-    requires rows { rows ≤ 1000 }
+    requires rows { AreRows rows }
     ensures { OnOk result (out.new.items ≡ out.old.items ++ shapes_text (spec.beside left rows 0 lines.now)) }
 {
     for place in 0..lines.len() {
@@ -64,7 +65,7 @@ pub fn put_levelled_page(
     mut shapes: Vec<u8>,
     out: &mut Vec<u8>,
 ) -> Result<(), AllocError>
-    requires { length page.now.rows ≤ 1000 }
+    requires { AreRows (length page.now.rows) }
     ensures ok { OnOk result ((ss : List Shape) → shapes.items ≡ shapes_text ss → out.new.items ≡ out.old.items ++ spec.levelled_page page.now lines.now ss) }
     ensures err { OnErr result (out.new.items ≡ out.old.items) }
 {

@@ -1,6 +1,6 @@
 -- What each event does on the lanes, and what is drawn of it.
 use Rattle.std.specs.Prelude.{ℕ, ◌+◌, ◌%◌, ◌==◌, nat_lt, Bool, true, false, if◌then◌else◌, List, Option, Some, None, slice_get, slice_set}
-use Rattle.tlp_core.specs.declared.operation.Op.{Op}
+use Rattle.tlp_core.specs.Ops.{Op}
 use Rattle.lane_ends.specs.declared.packet.Fate.{Fate}
 use Rattle.lane_ends.specs.declared.packet.Arrival.{Arrival}
 use Rattle.lane_ends.specs.declared.packet.Arrival.TheVariants as arrivals

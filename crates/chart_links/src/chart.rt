@@ -1,5 +1,6 @@
 //! The chart, event by event.
 ghost use Rattle.std.specs.Prelude.{◌≡◌, ◌≤◌, ◌<◌, ◌++◌, length, replicate, IsSome, OnOk, OnErr, IfOk};
+ghost use Rattle.chart_rows.specs.Sizes.{AreRows};
 ghost use Rattle.chart_links.specs.Levels.{levelled_text};
 ghost use Rattle.chart_links.specs.CourseView.{quiet};
 ghost use Rattle.chart_links.specs.Window.{absent_words};
@@ -94,10 +95,10 @@ fn row_at(place: Place, rows: usize) -> Option<u16>
 
 /// An event gets a row, or it ends what was sent in one.
 fn draw(row: Option<u16>, of: Row, page: &mut Page) -> Result<(), AllocError>
-    requires few { length page.old.rows ≤ 1000 }
+    requires few { AreRows (length page.old.rows) }
     requires room { IsSome row → length page.old.rows < 1000 }
     ensures page { OnOk result (page.new ≡ spec.drawn row of page.old) }
-    ensures few { length page.new.rows ≤ 1000 }
+    ensures few { AreRows (length page.new.rows) }
 {
     match row {
         Some(_) => {
@@ -110,9 +111,9 @@ fn draw(row: Option<u16>, of: Row, page: &mut Page) -> Result<(), AllocError>
 
 /// Adds what is still on the wires.
 fn add_rest(courses: &[Course], page: &mut Page) -> Result<(), AllocError>
-    requires { length page.old.rows ≤ 1000 }
+    requires { AreRows (length page.old.rows) }
     ensures page { OnOk result (page.new ≡ spec.with_left courses.now page.old) }
-    ensures few { OnOk result (length page.new.rows ≤ 1000) }
+    ensures few { OnOk result (AreRows (length page.new.rows)) }
 {
     add_left(courses, &mut page.opens)
 }

@@ -9,7 +9,8 @@ ghost use Rattle.chart_links.specs.Levels.{levelled_text};
 /// An event that is shown gets the next row, and one that isn't adds none.
 pub fn events_get_the_next_row()
     ensures next { (v : ChartView) (line : ℕ) (event : Event) (what : Seen) (row : ℕ) → row_for v line event what ≡ Some row → row ≡ length v.page.rows }
-    ensures rows { (v : ChartView) (line : ℕ) (event : Event) (what : Seen) → length (charted v line event what).page.rows ≡ rows_with (row_for v line event what) (length v.page.rows) }
+    ensures rows { (v : ChartView) (line : ℕ) (event : Event) (what : Seen) →
+        length (charted v line event what).page.rows ≡ rows_with (row_for v line event what) (length v.page.rows) }
 {}
 
 /// A chart with no step lines is the chart alone.

@@ -1,5 +1,6 @@
 //! Arrows.
 ghost use Rattle.std.specs.Prelude.{◌≡◌, ◌≤◌, ◌+◌, ◌*◌, ◌++◌, ◌∷◌, [], OnOk};
+ghost use Rattle.chart_rows.specs.Sizes.{IsAcross, IsColumn, IsDown};
 ghost use Rattle.svg_text.specs.Shapes.{Shape, shape_text, shapes_text};
 ghost use Rattle.chart_page.specs.Look as look;
 ghost use Rattle.chart_page.specs.Shapes as spec;
@@ -65,8 +66,8 @@ fn whole(pen: Pen) -> Pen
 
 /// The tip of an arrow that is rather flat.
 fn flat_tip(pen: Pen, is_right: bool, to: Point) -> (Rule, Rule)
-    requires x { to.x ≤ 300000 }
-    requires y { to.y ≤ 2000100 }
+    requires x { IsAcross to.x }
+    requires y { IsDown to.y }
     ensures { result ≡ look.flat_tip pen is_right to }
 {
     let x = behind(is_right, to.x, 9);
@@ -80,8 +81,8 @@ fn flat_tip(pen: Pen, is_right: bool, to: Point) -> (Rule, Rule)
 
 /// The tip of an arrow that is neither flat nor steep.
 fn slanted_tip(pen: Pen, is_right: bool, to: Point) -> (Rule, Rule)
-    requires x { to.x ≤ 300000 }
-    requires y { to.y ≤ 2000100 }
+    requires x { IsAcross to.x }
+    requires y { IsDown to.y }
     ensures { result ≡ look.slanted_tip pen is_right to }
 {
     let low = Point {
@@ -97,8 +98,8 @@ fn slanted_tip(pen: Pen, is_right: bool, to: Point) -> (Rule, Rule)
 
 /// The tip of an arrow that is rather steep.
 fn steep_tip(pen: Pen, to: Point) -> (Rule, Rule)
-    requires x { to.x ≤ 300000 }
-    requires y { to.y ≤ 2000100 }
+    requires x { IsAcross to.x }
+    requires y { IsDown to.y }
     ensures { result ≡ look.steep_tip pen to }
 {
     let y = to.y.saturating_sub(9);
@@ -112,8 +113,8 @@ fn steep_tip(pen: Pen, to: Point) -> (Rule, Rule)
 
 /// How far it is from one point to the other, from left to right.
 fn across(from: Point, to: Point) -> u64
-    requires from { from.x ≤ 300000 }
-    requires to { to.x ≤ 300000 }
+    requires from { IsAcross from.x }
+    requires to { IsAcross to.x }
     ensures value { result ≡ look.across from to }
     ensures range { result ≤ 600000 }
 {
@@ -122,9 +123,9 @@ fn across(from: Point, to: Point) -> u64
 
 /// The tip of an arrow.
 fn tip(pen: Pen, is_right: bool, from: Point, to: Point) -> (Rule, Rule)
-    requires from { from.x ≤ 300000 }
-    requires x { to.x ≤ 300000 }
-    requires y { to.y ≤ 2000100 }
+    requires from { IsAcross from.x }
+    requires x { IsAcross to.x }
+    requires y { IsDown to.y }
     ensures { result ≡ look.tip pen is_right from to }
 {
     let across = across(from, to);
@@ -140,8 +141,8 @@ fn tip(pen: Pen, is_right: bool, from: Point, to: Point) -> (Rule, Rule)
 
 /// A cross.
 pub(crate) fn cross(at: Point) -> (Rule, Rule)
-    requires x { at.x ≤ 300000 }
-    requires y { at.y ≤ 2000100 }
+    requires x { IsAcross at.x }
+    requires y { IsDown at.y }
     ensures { result ≡ look.cross at }
 {
     let red = pen(Colour::Red, 2, 0);
@@ -165,8 +166,8 @@ pub(crate) fn cross(at: Point) -> (Rule, Rule)
 
 /// Adds a red square where something failed its check.
 fn put_failed(at: Point, out: &mut Vec<u8>) -> Result<(), AllocError>
-    requires x { at.x ≤ 300000 }
-    requires y { at.y ≤ 2000100 }
+    requires x { IsAcross at.x }
+    requires y { IsDown at.y }
     ensures { OnOk result (out.new.items ≡ out.old.items ++ shape_text (look.failed at)) }
 {
     put_square(at, Colour::Red, b"failed", out)
@@ -188,8 +189,8 @@ fn put_three(
 /// Adds a line that ends in a red square.
 #[tactic(auto, unfolding(svg_text::specs::Shapes::shapes_text))]
 fn put_failing(shaft: Rule, to: Point, title: &[u8], out: &mut Vec<u8>) -> Result<(), AllocError>
-    requires x { to.x ≤ 300000 }
-    requires y { to.y ≤ 2000100 }
+    requires x { IsAcross to.x }
+    requires y { IsDown to.y }
     ensures { OnOk result (out.new.items ≡ out.old.items ++ shapes_text (Shape.Lined (shaft ∷ []) title.now ∷ look.failed to ∷ [])) }
 {
     put_lines(&[shaft], title, out)?;
@@ -207,8 +208,8 @@ pub(crate) fn is_lost(fate: Fate) -> bool
 
 /// Adds an arrow with its title.
 fn put_arrow(arrow: Arrow, title: &[u8], out: &mut Vec<u8>) -> Result<(), AllocError>
-    requires from { arrow.way.from ≤ 70000 }
-    requires to { arrow.way.to ≤ 70000 }
+    requires from { IsColumn arrow.way.from }
+    requires to { IsColumn arrow.way.to }
     ensures { OnOk result (out.new.items ≡ out.old.items ++ shapes_text (spec.arrow arrow title.now)) }
 {
     let from = start_of(arrow.way, arrow.sent, arrow.row);
@@ -324,8 +325,8 @@ fn is_dllp(what: Flying) -> bool
 
 /// Adds the first third of a way.
 fn put_open_line(way: Way, row: u16, title: &[u8], out: &mut Vec<u8>) -> Result<(), AllocError>
-    requires from { way.from ≤ 70000 }
-    requires to { way.to ≤ 70000 }
+    requires from { IsColumn way.from }
+    requires to { IsColumn way.to }
     ensures { OnOk result (out.new.items ≡ out.old.items ++ shape_text (look.open_line way row title.now)) }
 {
     let y = departure(row);

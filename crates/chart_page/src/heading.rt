@@ -1,5 +1,6 @@
 //! What stands above the rows.
 ghost use Rattle.std.specs.Prelude.{◌≡◌, ◌<◌, ◌≤◌, ◌+◌, ◌-◌, ◌*◌, ◌++◌, codes, OnOk};
+ghost use Rattle.chart_rows.specs.Sizes.{IsColumn, IsRowTop};
 ghost use Rattle.svg_text.specs.Shapes.{Shape, shape_text, shapes_text};
 ghost use Rattle.chart_rows.specs.Layout as layout;
 ghost use Rattle.chart_page.specs.Look as look;
@@ -228,8 +229,8 @@ pub(crate) fn put_columns(parts: Parts, bottom: u64, out: &mut Vec<u8>) -> Resul
 /// Adds a name, on white, in the stripe that ends at y.
 #[tactic(auto, unfolding(svg_text::specs::Shapes::shapes_text))]
 fn put_name(x: u64, y: u64, words: &[u8], out: &mut Vec<u8>) -> Result<(), AllocError>
-    requires x { x ≤ 70000 }
-    requires y { y ≤ 2000000 }
+    requires x { IsColumn x }
+    requires y { IsRowTop y }
     ensures { OnOk result (out.new.items ≡ out.old.items ++ shapes_text (look.name x y words.now)) }
 {
     let block = Block {
@@ -255,7 +256,7 @@ fn put_name(x: u64, y: u64, words: &[u8], out: &mut Vec<u8>) -> Result<(), Alloc
 
 /// Adds the name of the requester at a port.
 fn put_requester_name(parts: Parts, port: u8, y: u64, out: &mut Vec<u8>) -> Result<(), AllocError>
-    requires { y ≤ 2000000 }
+    requires { IsRowTop y }
     ensures { OnOk result (out.new.items ≡ out.old.items ++ shapes_text (look.requester_name parts port y)) }
 {
     let mut name = ArrayString::new();
@@ -270,7 +271,7 @@ fn put_requester_names(
     y: u64,
     out: &mut Vec<u8>,
 ) -> Result<(), AllocError>
-    requires { y ≤ 2000000 }
+    requires { IsRowTop y }
     ensures { OnOk result (out.new.items ≡ out.old.items ++ shapes_text (look.requester_names parts requesters y)) }
 {
     for place in 0..requesters {
@@ -282,7 +283,7 @@ fn put_requester_names(
 /// Adds the names of the requesters that have a line.
 #[tactic(auto, unfolding(svg_text::specs::Shapes::shapes_text))]
 fn put_left_names(parts: Parts, y: u64, out: &mut Vec<u8>) -> Result<(), AllocError>
-    requires { y ≤ 2000000 }
+    requires { IsRowTop y }
     ensures { OnOk result (out.new.items ≡ out.old.items ++ shapes_text (look.left_names parts y)) }
 {
     match parts {
@@ -294,7 +295,7 @@ fn put_left_names(parts: Parts, y: u64, out: &mut Vec<u8>) -> Result<(), AllocEr
 
 /// Adds the name of the switch.
 fn put_switch_name(parts: Parts, y: u64, out: &mut Vec<u8>) -> Result<(), AllocError>
-    requires { y ≤ 2000000 }
+    requires { IsRowTop y }
     ensures { OnOk result (out.new.items ≡ out.old.items ++ shapes_text (look.name (layout.switch_x parts) y (codes "switch"))) }
 {
     put_name(switch_x(parts), y, b"switch", out)
@@ -302,7 +303,7 @@ fn put_switch_name(parts: Parts, y: u64, out: &mut Vec<u8>) -> Result<(), AllocE
 
 /// Adds the name of the memory.
 fn put_memory_name(parts: Parts, y: u64, out: &mut Vec<u8>) -> Result<(), AllocError>
-    requires { y ≤ 2000000 }
+    requires { IsRowTop y }
     ensures { OnOk result (out.new.items ≡ out.old.items ++ shapes_text (look.name (layout.memory_x parts) y (codes "memory"))) }
 {
     put_name(memory_x(parts), y, b"memory", out)
@@ -311,7 +312,7 @@ fn put_memory_name(parts: Parts, y: u64, out: &mut Vec<u8>) -> Result<(), AllocE
 /// Adds the name of the memory, if it has a line.
 #[tactic(auto, unfolding(svg_text::specs::Shapes::shapes_text))]
 fn put_right_name(parts: Parts, y: u64, out: &mut Vec<u8>) -> Result<(), AllocError>
-    requires { y ≤ 2000000 }
+    requires { IsRowTop y }
     ensures { OnOk result (out.new.items ≡ out.old.items ++ shapes_text (look.right_name parts y)) }
 {
     match parts {
@@ -322,7 +323,7 @@ fn put_right_name(parts: Parts, y: u64, out: &mut Vec<u8>) -> Result<(), AllocEr
 
 /// Adds the names of the lines in the stripe that ends at y.
 fn put_names(parts: Parts, y: u64, out: &mut Vec<u8>) -> Result<(), AllocError>
-    requires { y ≤ 2000000 }
+    requires { IsRowTop y }
     ensures { OnOk result (out.new.items ≡ out.old.items ++ shapes_text (look.names parts y)) }
 {
     put_left_names(parts, y, out)?;

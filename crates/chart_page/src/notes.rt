@@ -1,5 +1,6 @@
 //! What is said of an event at the line of a part.
 ghost use Rattle.std.specs.Prelude.{◌≡◌, ◌≤◌, ◌++◌, [], length, Some, None, OnOk};
+ghost use Rattle.chart_rows.specs.Sizes.{IsColumn};
 ghost use Rattle.svg_text.specs.Shapes.{shapes_text};
 ghost use Rattle.svg_text.specs.declared.colour.Colour.TheVariants as colours;
 ghost use Rattle.chart_rows.specs.Layout as layout;
@@ -30,7 +31,7 @@ fn put_mark(
     words: &[u8],
     out: &mut Vec<u8>,
 ) -> Result<(), AllocError>
-    requires x { x ≤ 70000 }
+    requires x { IsColumn x }
     requires words { length words.now ≤ 512 }
     ensures { OnOk result (out.new.items ≡ out.old.items ++ shapes_text (look.mark x row kind words.now)) }
 {
@@ -54,7 +55,7 @@ fn put_departing(
     words: &[u8],
     out: &mut Vec<u8>,
 ) -> Result<(), AllocError>
-    requires way { way.from ≤ 70000 }
+    requires way { IsColumn way.from }
     requires words { length words.now ≤ 512 }
     ensures { OnOk result (out.new.items ≡ out.old.items ++ shapes_text (look.departing way row kind words.now)) }
 {
@@ -71,7 +72,7 @@ fn put_departing(
 /// Adds a grey square at the beginning of a way, and a text on that side.
 #[tactic(auto, unfolding(svg_text::specs::Shapes::shapes_text))]
 fn put_notice(way: Way, row: u16, words: &[u8], out: &mut Vec<u8>) -> Result<(), AllocError>
-    requires way { way.from ≤ 70000 }
+    requires way { IsColumn way.from }
     requires words { length words.now ≤ 512 }
     ensures { OnOk result (out.new.items ≡ out.old.items ++ shapes_text (look.notice way row words.now)) }
 {
@@ -104,7 +105,7 @@ fn put_remark(
     words: &[u8],
     out: &mut Vec<u8>,
 ) -> Result<(), AllocError>
-    requires way { way.to ≤ 70000 }
+    requires way { IsColumn way.to }
     requires words { length words.now ≤ 512 }
     ensures { OnOk result (out.new.items ≡ out.old.items ++ shapes_text (look.remark way row fate colour words.now)) }
 {
@@ -138,7 +139,8 @@ fn put_submitted_note(
     carried: Carried,
     out: &mut Vec<u8>,
 ) -> Result<(), AllocError>
-    ensures { OnOk result (out.new.items ≡ out.old.items ++ shapes_text (look.mark (layout.requester_x parts port) row (Some carried.kind) (said.submitted_words carried))) }
+    ensures { OnOk result (out.new.items ≡ out.old.items ++
+        shapes_text (look.mark (layout.requester_x parts port) row (Some carried.kind) (said.submitted_words carried))) }
 {
     let mut text = ArrayString::new();
     write_submitted(carried, &mut text);
@@ -153,7 +155,7 @@ fn put_sent_note(
     carried: Option<Carried>,
     out: &mut Vec<u8>,
 ) -> Result<(), AllocError>
-    requires { way.from ≤ 70000 }
+    requires { IsColumn way.from }
     ensures { OnOk result (out.new.items ≡ out.old.items ++ shapes_text (look.departing way row (look.kind_in carried) (said.sent_words number carried))) }
 {
     let mut text = ArrayString::new();
@@ -168,7 +170,7 @@ fn put_arrival_note(
     arrival: Arrival,
     out: &mut Vec<u8>,
 ) -> Result<(), AllocError>
-    requires { way.to ≤ 70000 }
+    requires { IsColumn way.to }
     ensures { OnOk result (out.new.items ≡ out.old.items ++ shapes_text (look.remark way row fate colours.Red (said.arrival_words fate arrival))) }
 {
     let words = arrival_words(fate, arrival);
@@ -207,7 +209,7 @@ fn put_far_note(
     sent: Option<PacketSent>,
     out: &mut Vec<u8>,
 ) -> Result<(), AllocError>
-    requires { way.to ≤ 70000 }
+    requires { IsColumn way.to }
     ensures { OnOk result (out.new.items ≡ out.old.items ++ shapes_text (look.far_remark way row fate arrival sent)) }
 {
     if !arrival_words(fate, arrival).is_empty() {
@@ -227,7 +229,7 @@ fn put_arrived(
     sent: Option<PacketSent>,
     out: &mut Vec<u8>,
 ) -> Result<(), AllocError>
-    requires { way.to ≤ 70000 }
+    requires { IsColumn way.to }
     ensures { OnOk result (out.new.items ≡ out.old.items ++ shapes_text (
         look.remark way row fate colours.Red (said.arrival_words fate arrival) ++ look.far_remark way row fate arrival sent)) }
 {
@@ -237,7 +239,7 @@ fn put_arrived(
 }
 
 fn put_dllp_note(way: Way, row: u16, dllp: Dllp, out: &mut Vec<u8>) -> Result<(), AllocError>
-    requires { way.from ≤ 70000 }
+    requires { IsColumn way.from }
     ensures { OnOk result (out.new.items ≡ out.old.items ++ shapes_text (look.departing way row None (said.dllp_words dllp))) }
 {
     let mut text = ArrayString::new();
@@ -252,8 +254,9 @@ fn put_dllp_arrival_note(
     replay: Replay,
     out: &mut Vec<u8>,
 ) -> Result<(), AllocError>
-    requires { way.to ≤ 70000 }
-    ensures { OnOk result (out.new.items ≡ out.old.items ++ shapes_text (look.remark way row fate (look.remark_colour fate) (said.dllp_arrival_words fate replay))) }
+    requires { IsColumn way.to }
+    ensures { OnOk result (out.new.items ≡ out.old.items ++
+        shapes_text (look.remark way row fate (look.remark_colour fate) (said.dllp_arrival_words fate replay))) }
 {
     let mut text = ArrayString::new();
     write_dllp_arrival(fate, replay, &mut text);
@@ -261,7 +264,7 @@ fn put_dllp_arrival_note(
 }
 
 fn put_expired_note(way: Way, row: u16, replay: Replay, out: &mut Vec<u8>) -> Result<(), AllocError>
-    requires { way.from ≤ 70000 }
+    requires { IsColumn way.from }
     ensures { OnOk result (out.new.items ≡ out.old.items ++ shapes_text (look.notice way row (said.expired_words replay))) }
 {
     let mut text = ArrayString::new();
@@ -275,7 +278,8 @@ fn put_forwarded_note(
     carried: Option<Carried>,
     out: &mut Vec<u8>,
 ) -> Result<(), AllocError>
-    ensures { OnOk result (out.new.items ≡ out.old.items ++ shapes_text (look.mark (layout.switch_x parts) row (look.kind_in carried) (said.forwarded_words carried))) }
+    ensures { OnOk result (out.new.items ≡ out.old.items ++
+        shapes_text (look.mark (layout.switch_x parts) row (look.kind_in carried) (said.forwarded_words carried))) }
 {
     let mut text = ArrayString::new();
     write_forwarded(carried, &mut text);
@@ -290,7 +294,8 @@ fn put_served_note(
     index: usize,
     out: &mut Vec<u8>,
 ) -> Result<(), AllocError>
-    ensures { OnOk result (out.new.items ≡ out.old.items ++ shapes_text (look.mark (layout.memory_x parts) row (look.kind_in carried) (said.served_words carried index))) }
+    ensures { OnOk result (out.new.items ≡ out.old.items ++
+        shapes_text (look.mark (layout.memory_x parts) row (look.kind_in carried) (said.served_words carried index))) }
 {
     let mut text = ArrayString::new();
     write_served(carried, index, &mut text);
@@ -305,7 +310,8 @@ fn put_collected_note(
     carried: Option<Carried>,
     out: &mut Vec<u8>,
 ) -> Result<(), AllocError>
-    ensures { OnOk result (out.new.items ≡ out.old.items ++ shapes_text (look.mark (layout.requester_x parts port) row (look.kind_in carried) (said.collected_words carried))) }
+    ensures { OnOk result (out.new.items ≡ out.old.items ++
+        shapes_text (look.mark (layout.requester_x parts port) row (look.kind_in carried) (said.collected_words carried))) }
 {
     let mut text = ArrayString::new();
     write_collected(carried, &mut text);

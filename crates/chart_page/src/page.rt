@@ -1,5 +1,6 @@
 //! The whole page.
-ghost use Rattle.std.specs.Prelude.{◌≡◌, ◌≤◌, ◌+◌, ◌++◌, length, OnOk, OnErr};
+ghost use Rattle.std.specs.Prelude.{◌≡◌, ◌+◌, ◌++◌, length, OnOk, OnErr};
+ghost use Rattle.chart_rows.specs.Sizes.{AreRows, IsRowTop};
 ghost use Rattle.svg_text.specs.Shapes.{shape_text, shapes_text};
 ghost use Rattle.chart_page.specs.Look as look;
 ghost use Rattle.chart_page.specs.Shapes as spec;
@@ -107,7 +108,7 @@ fn put_band(
 
 /// Adds what stands below the arrows of each row.
 fn put_bands(alloc: Global, parts: Parts, rows: &[Row], out: &mut Vec<u8>) -> Result<(), AllocError>
-    requires { length rows.now ≤ 1000 }
+    requires { AreRows (length rows.now) }
     ensures { OnOk result (out.new.items ≡ out.old.items ++ shapes_text (spec.each (spec.band parts) 0 rows.now)) }
 {
     let mut row = 0;
@@ -120,7 +121,7 @@ fn put_bands(alloc: Global, parts: Parts, rows: &[Row], out: &mut Vec<u8>) -> Re
 
 /// Adds the arrows that end in each row.
 fn put_all_strokes(parts: Parts, rows: &[Row], out: &mut Vec<u8>) -> Result<(), AllocError>
-    requires { length rows.now ≤ 1000 }
+    requires { AreRows (length rows.now) }
     ensures { OnOk result (out.new.items ≡ out.old.items ++ shapes_text (spec.each (spec.row_strokes parts) 0 rows.now)) }
 {
     let mut row = 0;
@@ -133,7 +134,7 @@ fn put_all_strokes(parts: Parts, rows: &[Row], out: &mut Vec<u8>) -> Result<(), 
 
 /// Adds the marks and texts of each row.
 fn put_notes(parts: Parts, rows: &[Row], out: &mut Vec<u8>) -> Result<(), AllocError>
-    requires { length rows.now ≤ 1000 }
+    requires { AreRows (length rows.now) }
     ensures { OnOk result (out.new.items ≡ out.old.items ++ shapes_text (spec.each (spec.row_note parts) 0 rows.now)) }
 {
     let mut row = 0;
@@ -210,9 +211,9 @@ fn put_cuts(
 
 /// Where the rows end.
 fn bottom_of(rows: &[Row]) -> u64
-    requires { length rows.now ≤ 1000 }
+    requires { AreRows (length rows.now) }
     ensures value { result ≡ spec.bottom_of rows.now }
-    ensures range { result ≤ 2000000 }
+    ensures range { IsRowTop result }
 {
     top_of(rows.len() as u16)
 }
@@ -226,7 +227,7 @@ fn put_body(
     cut: (u64, u64, u64),
     out: &mut Vec<u8>,
 ) -> Result<(), AllocError>
-    requires { length rows.now ≤ 1000 }
+    requires { AreRows (length rows.now) }
     ensures { OnOk result (out.new.items ≡ out.old.items ++ shapes_text (spec.body
         (record { parts = parts; rows = rows.now; opens = opens.now; before = cut.0; after = cut.1; omitted = cut.2 }))) }
 {
@@ -258,7 +259,7 @@ pub fn put_chart_shapes(
     title: &[u8],
     out: &mut Vec<u8>,
 ) -> Result<(), AllocError>
-    requires { length page.now.rows ≤ 1000 }
+    requires { AreRows (length page.now.rows) }
     ensures { OnOk result (out.new.items ≡ out.old.items ++ shapes_text (spec.shapes page.now is_red title.now)) }
 {
     put_title(is_red, title, out)?;

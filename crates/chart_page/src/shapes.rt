@@ -1,5 +1,6 @@
 //! Lines, squares and texts in their places.
 ghost use Rattle.std.specs.Prelude.{◌≡◌, ◌≤◌, ◌+◌, ◌++◌, length, OnOk};
+ghost use Rattle.chart_rows.specs.Sizes.{IsOnPage};
 ghost use Rattle.svg_text.specs.Shapes.{shape_text, shapes_text};
 ghost use Rattle.chart_page.specs.Look as look;
 
@@ -44,8 +45,8 @@ pub(crate) fn rule(pen: Pen, from: Point, to: Point) -> Rule
 }
 
 fn square_block(at: Point, fill: Colour) -> Block
-    requires x { at.x ≤ 3000000 }
-    requires y { at.y ≤ 3000000 }
+    requires x { IsOnPage at.x }
+    requires y { IsOnPage at.y }
     ensures { result ≡ look.square_block at fill }
 {
     Block {
@@ -67,8 +68,8 @@ pub(crate) fn put_square(
     words: &[u8],
     out: &mut Vec<u8>,
 ) -> Result<(), AllocError>
-    requires x { at.x ≤ 3000000 }
-    requires y { at.y ≤ 3000000 }
+    requires x { IsOnPage at.x }
+    requires y { IsOnPage at.y }
     ensures { OnOk result (out.new.items ≡ out.old.items ++ shape_text (look.square at fill words.now)) }
 {
     put_block(&square_block(at, fill), words, out)
@@ -108,7 +109,7 @@ fn indent(kind: Option<Kind>) -> u64
 
 /// Where a text begins.
 fn text_left(tag: Tag, words: &[u8]) -> u64
-    requires x { tag.x ≤ 3000000 }
+    requires x { IsOnPage tag.x }
     requires words { length words.now ≤ 512 }
     ensures value { result ≡ look.text_left tag words.now }
     ensures range { result ≤ 3000100 }
@@ -124,7 +125,7 @@ fn text_left(tag: Tag, words: &[u8]) -> u64
 
 /// White below a text.
 fn plate(tag: Tag, words: &[u8]) -> Block
-    requires x { tag.x ≤ 3000000 }
+    requires x { IsOnPage tag.x }
     requires words { length words.now ≤ 512 }
     ensures { result ≡ look.plate tag words.now }
 {
@@ -143,7 +144,7 @@ fn plate(tag: Tag, words: &[u8]) -> Block
 fn kind_x(tag: Tag) -> u64
     requires { tag.x ≤ 2999000 }
     ensures value { result ≡ look.kind_x tag }
-    ensures range { result ≤ 3000000 }
+    ensures range { IsOnPage result }
 {
     if tag.is_right {
         tag.x + 18

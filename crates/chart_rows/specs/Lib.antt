@@ -1,3 +1,4 @@
+pub mod Sizes
 pub mod Layout
 pub mod Words
 pub mod Titles

@@ -1,5 +1,6 @@
 //! Where the parts of a fabric and the rows of a chart stand, in pixels from the left and from the top.
 ghost use Rattle.std.specs.Prelude.{◌≡◌, ◌≤◌};
+ghost use Rattle.chart_rows.specs.Sizes.{IsAcross, IsColumn, IsDown, IsOnPage, IsRowTop};
 ghost use Rattle.chart_rows.specs.Layout as layout;
 
 use fabric_core::LaneName;
@@ -33,7 +34,7 @@ pub enum Parts {
 /// Where the line of the requester at a port stands.
 pub fn requester_x(parts: Parts, port: u8) -> u64
     ensures value { result ≡ layout.requester_x parts port }
-    ensures range { result ≤ 70000 }
+    ensures range { IsColumn result }
 {
     match parts {
         Parts::All(_) => 560 + 240 * u64::from(port).saturating_sub(1),
@@ -56,7 +57,7 @@ pub fn switch_x(parts: Parts) -> u64
 /// Where the line of the memory stands.
 pub fn memory_x(parts: Parts) -> u64
     ensures value { result ≡ layout.memory_x parts }
-    ensures range { result ≤ 70000 }
+    ensures range { IsColumn result }
 {
     switch_x(parts) + 240
 }
@@ -75,7 +76,7 @@ pub fn width_of(parts: Parts) -> u64
 /// Where a row begins. Below each 40 rows there is a stripe with the names of the lines.
 pub fn top_of(row: u16) -> u64
     ensures value { result ≡ layout.top_of row }
-    ensures range { result ≤ 2000000 }
+    ensures range { IsRowTop result }
 {
     let row = u64::from(row);
     104 + 26 * (row + row / 40)
@@ -84,7 +85,7 @@ pub fn top_of(row: u16) -> u64
 /// Where in its row an arrow begins.
 pub fn departure(row: u16) -> u64
     ensures value { result ≡ layout.departure row }
-    ensures range { result ≤ 2000100 }
+    ensures range { IsDown result }
 {
     top_of(row) + 19
 }
@@ -92,7 +93,7 @@ pub fn departure(row: u16) -> u64
 /// Where in its row an arrow ends, and a mark stands.
 pub fn middle(row: u16) -> u64
     ensures value { result ≡ layout.middle row }
-    ensures range { result ≤ 2000100 }
+    ensures range { IsDown result }
 {
     top_of(row) + 13
 }
@@ -100,8 +101,8 @@ pub fn middle(row: u16) -> u64
 /// The way of packets on a lane.
 fn packet_way(parts: Parts, lane: LaneName) -> Way
     ensures value { result ≡ layout.packet_way parts lane }
-    ensures from { result.from ≤ 70000 }
-    ensures to { result.to ≤ 70000 }
+    ensures from { IsColumn result.from }
+    ensures to { IsColumn result.to }
 {
     match lane {
         LaneName::Up(port) => Way {
@@ -137,8 +138,8 @@ pub fn other(is_right: bool) -> bool
 /// The way of DLLPs on a lane, or of packets.
 pub fn way_of(parts: Parts, lane: LaneName, is_dllp: bool) -> Way
     ensures value { result ≡ layout.way_of parts lane is_dllp }
-    ensures from { result.from ≤ 70000 }
-    ensures to { result.to ≤ 70000 }
+    ensures from { IsColumn result.from }
+    ensures to { IsColumn result.to }
 {
     let way = packet_way(parts, lane);
     if !is_dllp {
@@ -153,8 +154,8 @@ pub fn way_of(parts: Parts, lane: LaneName, is_dllp: bool) -> Way
 
 /// A place that lies so far behind x for one who goes that way.
 pub fn behind(is_right: bool, x: u64, distance: u64) -> u64
-    requires x { x ≤ 3000000 }
-    requires distance { distance ≤ 3000000 }
+    requires x { IsOnPage x }
+    requires distance { IsOnPage distance }
     ensures { result ≡ layout.behind is_right x distance }
 {
     if is_right {
@@ -166,11 +167,11 @@ pub fn behind(is_right: bool, x: u64, distance: u64) -> u64
 
 /// The place so many thirds of the way from its beginning.
 pub fn thirds(way: Way, count: u64) -> u64
-    requires from { way.from ≤ 70000 }
-    requires to { way.to ≤ 70000 }
+    requires from { IsColumn way.from }
+    requires to { IsColumn way.to }
     requires count { count ≤ 3 }
     ensures value { result ≡ layout.thirds way count }
-    ensures range { result ≤ 300000 }
+    ensures range { IsAcross result }
 {
     if way.is_right {
         way.from + way.to.saturating_sub(way.from) / 3 * count
@@ -182,11 +183,11 @@ pub fn thirds(way: Way, count: u64) -> u64
 
 /// Where an arrow begins that ends in a row.
 pub fn start_of(way: Way, sent: Option<u16>, row: u16) -> Point
-    requires from { way.from ≤ 70000 }
-    requires to { way.to ≤ 70000 }
+    requires from { IsColumn way.from }
+    requires to { IsColumn way.to }
     ensures value { result ≡ layout.start_of way sent row }
-    ensures x { result.x ≤ 300000 }
-    ensures y { result.y ≤ 2000100 }
+    ensures x { IsAcross result.x }
+    ensures y { IsDown result.y }
 {
     match sent {
         Some(sent) => Point {
@@ -202,11 +203,11 @@ pub fn start_of(way: Way, sent: Option<u16>, row: u16) -> Point
 
 /// Where an arrow ends.
 pub fn finish_of(way: Way, is_lost: bool, row: u16) -> Point
-    requires from { way.from ≤ 70000 }
-    requires to { way.to ≤ 70000 }
+    requires from { IsColumn way.from }
+    requires to { IsColumn way.to }
     ensures value { result ≡ layout.finish_of way is_lost row }
-    ensures x { result.x ≤ 300000 }
-    ensures y { result.y ≤ 2000100 }
+    ensures x { IsAcross result.x }
+    ensures y { IsDown result.y }
 {
     Point {
         x: if is_lost {

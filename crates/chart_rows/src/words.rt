@@ -243,7 +243,7 @@ fn put_event(event: &Event, most: usize, out: &mut Vec<u8>) -> Result<(), AllocE
     ensures { OnOk result (out.new.items ≡ out.old.items ++ said.shortened most (lines.event_line event.now)) }
 {
     let mut text = ArrayString::new();
-    write_event(event, &mut text);
+    write_event(&event.lend(), &mut text);
     put_shortened(text.as_bytes(), most, out)
 }
 

@@ -71,8 +71,10 @@ pub fn ended<R: Fallible, W: Fallible, E: Write>(
 fn told<W: Write + Fallible, E: Write>(error: &clap::Error, writer: &mut W, errors: &mut E) -> u8
     ensures status { kind_of error.now ≡ ErrorKind.OutOfMemory → result ≡ 1 }
     ensures same { kind_of error.now ≡ ErrorKind.OutOfMemory → W.contents writer.new ≡ W.contents writer.old }
-    ensures wrong { kind_of error.now ≢ ErrorKind.OutOfMemory → kind_of error.now ≢ ErrorKind.DisplayHelp → kind_of error.now ≢ ErrorKind.DisplayVersion → result ≡ 2 }
-    ensures wrong_same { kind_of error.now ≢ ErrorKind.DisplayHelp → kind_of error.now ≢ ErrorKind.DisplayVersion → W.contents writer.new ≡ W.contents writer.old }
+    ensures wrong { kind_of error.now ≢ ErrorKind.OutOfMemory → kind_of error.now ≢ ErrorKind.DisplayHelp → kind_of error.now ≢ ErrorKind.DisplayVersion →
+        result ≡ 2 }
+    ensures wrong_same { kind_of error.now ≢ ErrorKind.DisplayHelp → kind_of error.now ≢ ErrorKind.DisplayVersion →
+        W.contents writer.new ≡ W.contents writer.old }
 {
     if error.kind() == ErrorKind::OutOfMemory {
         return stopped(EngineFault::Memory, None, errors);

@@ -21,7 +21,8 @@ fn size_in<'a>(values: &ArgMatches<'a>) -> Result<u32, RefusedValue<'a>>
     ensures ok { IfOk result (WritesSize (first_of (codes "size") (rows_of (found_of values.now)))) }
     ensures right { IfOk result (λ n. is_size n ≡ true) }
     ensures err { OnErr result (IsWrongSize (rows_of (found_of values.now))) }
-    ensures refused { IfErr result (λ e. (e.option ≡ EndpointSize) × (option_map (λ t. t.now) e.given ≡ first_of (codes "size") (rows_of (found_of values.now)))) }
+    ensures refused { IfErr result (λ e. (e.option ≡ EndpointSize) ×
+        (option_map (λ t. t.now) e.given ≡ first_of (codes "size") (rows_of (found_of values.now)))) }
 {
     size_of(values.get_str("size"))
 }
@@ -47,7 +48,8 @@ fn setup_of(size: u32, ids: (u16, u16)) -> Setup
 pub(crate) fn credits_in<'a>(values: &ArgMatches<'a>) -> Result<FiniteCredits, RefusedValue<'a>>
     ensures ok { IfOk result (WritesCredits (first_of (codes "credits") (rows_of (found_of values.now)))) }
     ensures err { OnErr result (IsWrongCredits (rows_of (found_of values.now))) }
-    ensures refused { IfErr result (λ e. (e.option ≡ Credits) × (option_map (λ t. t.now) e.given ≡ first_of (codes "credits") (rows_of (found_of values.now)))) }
+    ensures refused { IfErr result (λ e. (e.option ≡ Credits) ×
+        (option_map (λ t. t.now) e.given ≡ first_of (codes "credits") (rows_of (found_of values.now)))) }
 {
     credits_of(given_in(values, "credits"))
 }

@@ -66,7 +66,8 @@ pub(crate) fn optional_in<'a>(
 pub(crate) fn granularity_in<'a>(values: &ArgMatches<'a>) -> Result<Granularity, RefusedValue<'a>>
     ensures ok { IfOk result (WritesGranularity (first_of (codes "granularity") (rows_of (found_of values.now)))) }
     ensures err { OnErr result (IsWrongGranularity (rows_of (found_of values.now))) }
-    ensures refused { IfErr result (λ e. (e.option ≡ the_granularity) × (option_map (λ t. t.now) e.given ≡ first_of (codes "granularity") (rows_of (found_of values.now)))) }
+    ensures refused { IfErr result (λ e. (e.option ≡ the_granularity) ×
+        (option_map (λ t. t.now) e.given ≡ first_of (codes "granularity") (rows_of (found_of values.now)))) }
 {
     granularity_of(values.get_str("granularity"))
 }

@@ -3,8 +3,8 @@ use Rattle.std.proofs.Common.{◌≡◌, ℕ, suc, ◌+◌, ◌-◌, ◌*◌, �
 use Rattle.std.specs.Prelude.{◌||◌, ◌==◌, nat_lt, replicate, option_map, option_and_then, IsSomeAnd}
 use Rattle.std.proofs.lemmas.Bool.Decides.{nat_tests}
 use Rattle.std.proofs.lemmas.List.{length-replicate}
-use Rattle.tlp_core.specs.declared.operation.Op.{Op}
-use Rattle.tlp_core.specs.declared.operation.Op.TheVariants as ops
+use Rattle.tlp_core.specs.Ops.{Op}
+use Rattle.tlp_core.specs.declared.operation.OpOf.TheVariants as ops
 use Rattle.tlp_core.specs.declared.operation.Width.{Width}
 use Rattle.tlp_core.specs.declared.operation.Width.TheVariants as widths
 use Rattle.tlp_core.specs.declared.packet.Status.TheVariants as statuses
@@ -19,7 +19,7 @@ use Rattle.tlp_core.specs.TlpView.{TlpView}
 use Rattle.tlp_core.specs.Operation.{op_of, op_at, op_fault, is_posted, address_of, count_of, size_of}
 use Rattle.seq_memory.specs.declared.Refusal.{Refusal}
 use Rattle.seq_memory.specs.declared.Refusal.TheVariants as refusals
-use Rattle.seq_memory.specs.declared.Reply.{Reply}
+use Rattle.seq_memory.specs.Entries.{Reply}
 use Rattle.seq_memory.specs.Step.{is_inside, refusal, answer, answer_by, read_back, merged, bytes_at, data_of}
 use Rattle.seq_memory.specs.History.{MemoryView, bytes_of}
 use Rattle.completer_core.specs.Completion.{completion, completion_of, completion_for, unless_posted}

@@ -8,8 +8,8 @@ use Rattle.tlp_core.specs.declared.packet.Status.{Status}
 use Rattle.tlp_core.specs.declared.packet.Status.TheVariants as statuses
 use Rattle.tlp_core.specs.Enables.{enables}
 use Rattle.tlp_core.specs.TlpView.{TlpView}
-use Rattle.seq_memory.specs.declared.Reply.{Reply}
-use Rattle.seq_memory.specs.declared.Reply.TheVariants as replies
+use Rattle.seq_memory.specs.Entries.{Reply}
+use Rattle.seq_memory.specs.declared.reply.ReplyOf.TheVariants as replies
 use Rattle.completer_core.specs.Span.{span, low_address}
 
 -- Byte Count: of a read the span of its enabled bytes, of an AtomicOp the operand's size

@@ -1,10 +1,10 @@
 -- A request is served: one step of the memory, one entry, and one completion or none.
 use Rattle.std.specs.Prelude.{ℕ, ◌/◌, List, [], ◌∷◌, ◌++◌, Option, option_and_then}
 use Rattle.std.specs.Option.{option_map_or}
-use Rattle.tlp_core.specs.declared.operation.Op.{Op}
+use Rattle.tlp_core.specs.Ops.{Op}
 use Rattle.tlp_core.specs.TlpView.{TlpView}
 use Rattle.tlp_core.specs.Operation.{op_of}
-use Rattle.seq_memory.specs.declared.Entry.{Entry}
+use Rattle.seq_memory.specs.Entries.{Entry}
 use Rattle.seq_memory.specs.Step.{after, answer}
 use Rattle.seq_memory.specs.History.{MemoryView, bytes_of}
 use Rattle.completer_core.specs.Completion.{completion_of}

@@ -1,14 +1,13 @@
 //! The completion that carries a reply.
 ghost use Rattle.std.specs.Prelude.{◌≡◌, ◌*◌, ◌/◌, ◌<◌, ◌≤◌, length, Some};
-ghost use Rattle.tlp_core.specs.declared.operation.Op.{Op};
+ghost use Rattle.tlp_core.specs.Ops.{Op};
 ghost use Rattle.tlp_core.specs.TlpView.{FitsKind};
 ghost use Rattle.tlp_core.specs.Operation.{op_of};
 ghost use Rattle.seq_memory.specs.Step.{IsSizedFor};
-ghost use Rattle.seq_memory.specs.Outcome.{reply_of};
 ghost use Rattle.completer_core.specs.Completion.{byte_count, lower_address, completion, completion_of};
 
 use crate::span;
-use seq_memory::{Outcome, Reply};
+use seq_memory::{Reply, ReplyRef};
 use tlp_core::{Body, Header, Kind, Status, Tlp, TlpRef};
 
 /// The Completer ID of port 0.
@@ -64,17 +63,11 @@ fn carry<'r>(
     TlpRef { header, payload }
 }
 
-/// The completion of a request with the reply of that outcome and those bytes, none for a posted
-/// write.
+/// The completion of a request with that reply, whose data it lends; none for a posted write.
 #[inline(always)]
-pub(crate) fn completion_lent<'r>(
-    request: &TlpRef<'_>,
-    outcome: Outcome,
-    bytes: &'r [u8],
-) -> Option<TlpRef<'r>>
-    requires few { length bytes.now ≤ 128 }
-    requires sized { (op : Op) × (op_of request.now ≡ Some op) × IsSizedFor op (reply_of outcome bytes.now) }
-    ensures { result ≡ completion_of request.now (reply_of outcome bytes.now) }
+pub(crate) fn completion_lent<'r>(request: &TlpRef<'_>, reply: &ReplyRef<'r>) -> Option<TlpRef<'r>>
+    requires { (op : Op) × (op_of request.now ≡ Some op) × IsSizedFor op reply.now }
+    ensures { result ≡ completion_of request.now reply.now }
 {
     let Body::Request {
         address,
@@ -88,42 +81,23 @@ pub(crate) fn completion_lent<'r>(
         return None;
     }
     let counts = counts(request, address, first, last);
-    match outcome {
-        Outcome::Done => None,
-        Outcome::Data => Some(carry(
+    match reply {
+        ReplyRef::Done => None,
+        ReplyRef::Data(bytes) => Some(carry(
             request,
             counts,
             Kind::CompletionData,
             Status::Success,
-            bytes,
+            bytes.as_slice(),
         )),
-        Outcome::Unsupported => Some(carry(
+        ReplyRef::Unsupported => Some(carry(
             request,
             counts,
             Kind::Completion,
             Status::Unsupported,
-            &bytes[..0],
+            &[],
         )),
-        Outcome::Aborted => Some(carry(
-            request,
-            counts,
-            Kind::Completion,
-            Status::Aborted,
-            &bytes[..0],
-        )),
-    }
-}
-
-/// The outcome and the data of a reply.
-fn parts_of(reply: &Reply) -> (Outcome, &[u8])
-    ensures whole { reply_of result.0 result.1.now ≡ reply.now }
-    ensures few { length result.1.now ≤ 128 }
-{
-    match reply {
-        Reply::Done => (Outcome::Done, &[]),
-        Reply::Data(bytes) => (Outcome::Data, bytes.as_slice()),
-        Reply::Unsupported => (Outcome::Unsupported, &[]),
-        Reply::Aborted => (Outcome::Aborted, &[]),
+        ReplyRef::Aborted => Some(carry(request, counts, Kind::Completion, Status::Aborted, &[])),
     }
 }
 
@@ -133,7 +107,6 @@ pub(crate) fn completion_with(request: &Tlp, reply: &Reply) -> Option<Tlp>
     requires { (op : Op) × (op_of request.now ≡ Some op) × IsSizedFor op reply.now }
     ensures { result ≡ completion_of request.now reply.now }
 {
-    let (outcome, bytes) = parts_of(reply);
-    let completion = completion_lent(&request.lend(), outcome, bytes)?;
+    let completion = completion_lent(&request.lend(), &reply.lend())?;
     Some(completion.to_owned())
 }

@@ -67,8 +67,8 @@ pub fn answer_lent<'r>(
     ensures completion { result ≡ completion_over base block bytes.old request.now }
 {
     let op = op_lent(request)?;
-    let outcome = perform_lent(base, block, bytes, &op, room);
-    completion_lent(request, outcome, room.as_slice())
+    let reply = perform_lent(base, block, bytes, &op, room);
+    completion_lent(request, &reply)
 }
 
 /// As [`answer_lent`], but the completion has a payload of its own.

@@ -11,7 +11,8 @@ ghost use Rattle.config_space.specs.Changes.{Change, after_changes, leaves, writ
 /// their sum has 32. So are the read-only bits of each register of the table, after any writes and any errors.
 #[tactic(auto, using(crate::proofs::Bits::read_only, crate::proofs::Kept::stays))]
 pub fn what_is_read_only_stays()
-    ensures one_write { (r : Register) (enables new old j : ℕ) → j < 32 → r.written + r.cleared < 2 ^ 32 → bit_and r.written (2 ^ j) ≡ 0 → bit_and r.cleared (2 ^ j) ≡ 0 →
+    ensures one_write { (r : Register) (enables new old j : ℕ) → j < 32 → r.written + r.cleared < 2 ^ 32 → bit_and r.written (2 ^ j) ≡ 0 →
+        bit_and r.cleared (2 ^ j) ≡ 0 →
         bit_and (after_write r enables new old) (2 ^ j) ≡ bit_and old (2 ^ j) }
     ensures any { (r : RegistersView) (changes : List Change) (offset mask : ℕ) → is_size r.setup.size ≡ true → mask < 2 ^ 32 →
         bit_and (register_at r.setup offset).written mask ≡ 0 → bit_and (register_at r.setup offset).cleared mask ≡ 0 →

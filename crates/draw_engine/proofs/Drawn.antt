@@ -4,8 +4,8 @@ use Rattle.std.proofs.lemmas.List.{append-nil}
 use Rattle.std.proofs.lemmas.Result.{IfOk-weaker}
 use Rattle.std.specs.Io.KnownBytes.{Appends}
 use Rattle.std.specs.Prelude.{nat_lt, is_some, Option}
-use Rattle.history_check.specs.Claim.{Claim}
-use Rattle.history_check.specs.Flaws.{first_flaw}
+use Rattle.history_words.specs.Claim.{Claim}
+use Rattle.history_words.specs.Flaws.{first_flaw}
 use Rattle.history_picture.specs.Picture.{picture_text, line_text}
 use Rattle.record_text.specs.Names.{fault_line}
 use Rattle.history_picture.specs.declared.scale.Window.{Window}

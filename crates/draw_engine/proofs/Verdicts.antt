@@ -2,9 +2,9 @@
 use Rattle.std.proofs.Common.{◌≡◌, ◌∙◌, ◌+◌, ◌++◌, ℕ, Bool, true, false, List, [], ◌∷◌, length, sym, ap, refl, subst, drop, fold, cond, Result, Ok, Err}
 use Rattle.std.proofs.lemmas.List.{append-nil}
 use Rattle.std.specs.Prelude.{nat_lt, codes, Option, Some, None, is_some}
-use Rattle.history_check.specs.declared.flaws.FlawKind.{FlawKind}
-use Rattle.history_check.specs.Claim.{Claim}
-use Rattle.history_check.specs.Flaws.{first_flaw}
+use Rattle.history_words.specs.declared.flaws.FlawKind.{FlawKind}
+use Rattle.history_words.specs.Claim.{Claim}
+use Rattle.history_words.specs.Flaws.{first_flaw}
 use Rattle.history_picture.specs.declared.scale.Window.{Window}
 use Rattle.history_picture.specs.Picture.{picture_text, line_text, view_of, width_of, bottom_of}
 use Rattle.history_picture.specs.Words.{flaw_words}

@@ -1,10 +1,10 @@
 -- What `draw` answers to the text of a trace.
 use Rattle.std.specs.Prelude.{ℕ, ◌≡◌, List, [], ◌∷◌, ◌++◌, if◌then◌else◌, Bool, true, false, Option, Result, Ok, Err, option_map, is_some}
 use Rattle.std.specs.Io.KnownBytes.{Appends}
-use Rattle.history_check.specs.declared.flaws.Flaw.{Flaw}
-use Rattle.history_check.specs.declared.flaws.FlawKind.{FlawKind}
-use Rattle.history_check.specs.Claim.{Claim}
-use Rattle.history_check.specs.Flaws.{first_flaw}
+use Rattle.history_words.specs.declared.flaws.Flaw.{Flaw}
+use Rattle.history_words.specs.declared.flaws.FlawKind.{FlawKind}
+use Rattle.history_words.specs.Claim.{Claim}
+use Rattle.history_words.specs.Flaws.{first_flaw}
 use Rattle.history_picture.specs.declared.scale.Window.{Window}
 use Rattle.history_picture.specs.Picture.{title_label, picture_text, line_text}
 use Rattle.svg_text.specs.Shapes.{Shape, page_text}

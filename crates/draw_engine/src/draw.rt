@@ -1,6 +1,6 @@
 //! The subcommand `draw`: a picture of a history.
 ghost use Rattle.std.specs.Prelude.{◌≡◌, ◌++◌, IfOk, OnErr, OnOk, is_some};
-ghost use Rattle.history_check.specs.Flaws.{first_flaw};
+ghost use Rattle.history_words.specs.Flaws.{first_flaw};
 ghost use Rattle.history_picture.specs.Picture.{picture_text, line_text};
 ghost use Rattle.trace_text.specs.TraceReaderView.{nothing_read};
 ghost use Rattle.record_text.specs.Names.{fault_line};
@@ -9,8 +9,9 @@ ghost use Rattle.draw_engine.specs.Draw.{DrawerView, WritesDocument, flaw_of, ou
 
 use crate::laws::pictures_are_well_formed;
 use arrayvec::ArrayString;
-use history_check::{Flaw, FlawKind, check_claim};
+use history_check::check_claim;
 use history_picture::{Window, put_line_picture, put_picture};
+use history_words::{Flaw, FlawKind};
 use line_loop::{EngineFault, Responder, Verdict, run};
 use record_text::{ReadFault, write_fault};
 use std::alloc::{AllocError, Global};

@@ -1,9 +1,11 @@
 -- The parts of a read are packets.
 use Rattle.std.proofs.Common.{◌≡◌, ℕ, zero, suc, ◌+◌, ◌-◌, ◌*◌, ◌%◌, ◌^◌, ◌<◌, ◌≤◌, Bool, true, false, List, [], ◌∷◌, length, Option, Some, None, refl, ap, sym, subst, inl, inr, cond, arith, length-drop}
-use Rattle.std.specs.Prelude.{◌⊎◌, ◌/◌, nat_le, option_map}
+use Rattle.std.specs.Prelude.{◌⊎◌, ◌/◌, ◌&&◌, nat_le, option_map, is_none}
+use Rattle.std.specs.List.{list_all}
 use Rattle.std.proofs.lemmas.Bool.Decides.{nat_tests}
-use Rattle.tlp_core.specs.declared.operation.Op.{Op}
-use Rattle.tlp_core.specs.declared.operation.Op.TheVariants as ops
+use Rattle.tlp_core.specs.declared.fault.TlpFault.{TlpFault}
+use Rattle.tlp_core.specs.Ops.{Op}
+use Rattle.tlp_core.specs.declared.operation.OpOf.TheVariants as ops
 use Rattle.tlp_core.specs.declared.packet.Kind.{Kind}
 use Rattle.tlp_core.specs.declared.packet.Kind.TheVariants as kinds
 use Rattle.tlp_core.specs.declared.packet.Body.{Body}
@@ -11,7 +13,7 @@ use Rattle.tlp_core.specs.declared.packet.Body.TheVariants as bodies
 use Rattle.tlp_core.specs.TlpView.{TlpView, IsPacket, FitsKind}
 use Rattle.tlp_core.specs.Operation.{op_at, op_of, op_fault, address_of, count_of}
 use Rattle.seq_memory.specs.Step.{after}
-use Rattle.op_pieces.specs.Pieces.{inner, rest_first, rest_last, dw_of, dw_to, front, back, cut}
+use Rattle.op_pieces.specs.Pieces.{inner, rest_first, rest_last, dw_of, dw_to, front, back, cut, is_faultless}
 use Rattle.endpoint_core.specs.Steps.{after_all, blocks_of, dw_before_end, dw_in_front, behind, body_behind}
 use Rattle.endpoint_core.specs.Blocks.{body_in_front, in_front, IsCut, IsCutAt, IsNonPosted}
 use Rattle.endpoint_core.proofs.Enables.{front_enabled, behind_enabled}
@@ -202,9 +204,37 @@ one_block base m op le =
     let fits : nat_le (dw_of op) (dw_to 128 (address_of op)) ≡ true = grind (arith, nat_tests) in
     ap (after_all base m) (one_by (dw_of op) op fits)
 
-pub two_blocks : (base n : ℕ) (m : List ℕ) (op : Op) → op_fault op ≡ None → dw_of op ≤ 32 → n ≡ dw_to 128 (address_of op) → n < dw_of op → after_all base m (blocks_of op) ≡ after base 128 (after base 128 m (front n op)) (back n op)
-two_blocks base n m op sound few is less =
-    let dw : ℕ = dw_of op in
+halves : (op : Op) → op_fault op ≡ None → dw_of op ≤ 32 → dw_to 128 (address_of op) < dw_of op → blocks_of op ≡ front (dw_to 128 (address_of op)) op ∷ back (dw_to 128 (address_of op)) op ∷ []
+halves op sound few less =
     let over : nat_le (dw_of op) (dw_to 128 (address_of op)) ≡ false = grind (arith, nat_tests) in
     let some : 1 ≤ dw_to 128 (address_of op) = some_dw op sound (omega (arith, less)) in
-    rw (is) (ap (after_all base m) (two_by (dw_of op) (dw_to 128 (address_of op)) op (omega (arith, some, is, less)) refl over (back_fits op sound few (subst (λ (x : ℕ). x < dw_of op) is less))))
+    two_by (dw_of op) (dw_to 128 (address_of op)) op (omega (arith, some, less)) refl over (back_fits op sound few less)
+
+pub two_blocks : (base n : ℕ) (m : List ℕ) (op : Op) → op_fault op ≡ None → dw_of op ≤ 32 → n ≡ dw_to 128 (address_of op) → n < dw_of op → after_all base m (blocks_of op) ≡ after base 128 (after base 128 m (front n op)) (back n op)
+two_blocks base n m op sound few is less = rw (is) (ap (after_all base m) (halves op sound few (subst (λ (x : ℕ). x < dw_of op) is less)))
+
+-- neither has a fault
+no_fault : (o : Option TlpFault) → is_none o ≡ true → o ≡ None
+no_fault None e = refl
+no_fault (Some fault) e = absurd cc
+
+both_true : (x y : Bool) → (x && (y && true)) ≡ true → (x ≡ true) × (y ≡ true)
+both_true true true h = (refl, refl)
+both_true true false h = absurd cc
+both_true false y h = absurd cc
+
+both : (a b : Op) → list_all is_faultless (a ∷ b ∷ []) ≡ true → (op_fault a ≡ None) × (op_fault b ≡ None)
+both a b e =
+    let h = both_true (is_none (op_fault a)) (is_none (op_fault b)) e in
+    (no_fault (op_fault a) h.0, no_fault (op_fault b) h.1)
+
+sound_halves : (n : ℕ) (op : Op) → list_all is_faultless (blocks_of op) ≡ true → op_fault op ≡ None → dw_of op ≤ 32 → n ≡ dw_to 128 (address_of op) → n < dw_of op → (op_fault (front n op) ≡ None) × (op_fault (back n op) ≡ None)
+sound_halves n op all sound few is less =
+    rw (is) (both (front (dw_to 128 (address_of op)) op) (back (dw_to 128 (address_of op)) op)
+    (subst (λ (xs : List Op). list_all is_faultless xs ≡ true) (halves op sound few (subst (λ (x : ℕ). x < dw_of op) is less)) all))
+
+pub front_sound : (n : ℕ) (op : Op) → list_all is_faultless (blocks_of op) ≡ true → op_fault op ≡ None → dw_of op ≤ 32 → n ≡ dw_to 128 (address_of op) → n < dw_of op → op_fault (front n op) ≡ None
+front_sound n op all sound few is less = (sound_halves n op all sound few is less).0
+
+pub back_sound : (n : ℕ) (op : Op) → list_all is_faultless (blocks_of op) ≡ true → op_fault op ≡ None → dw_of op ≤ 32 → n ≡ dw_to 128 (address_of op) → n < dw_of op → op_fault (back n op) ≡ None
+back_sound n op all sound few is less = (sound_halves n op all sound few is less).1

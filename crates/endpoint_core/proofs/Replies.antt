@@ -1,9 +1,10 @@
 -- Completions with another Completer ID, Byte Count and Lower Address.
-use Rattle.std.proofs.Common.{◌≡◌, ◌∙◌, ℕ, ◌-◌, ◌<◌, ◌≤◌, Bool, true, false, List, [], length, Option, Some, None, refl, ap, sym, subst, arith}
-use Rattle.std.specs.Prelude.{◌||◌, not, is_some, option_map, option_and_then, if◌then◌else◌}
+use Rattle.std.proofs.Common.{◌≡◌, ◌∙◌, ℕ, zero, suc, ◌-◌, ◌<◌, ◌≤◌, Bool, true, false, List, [], length, Option, Some, None, refl, ap, sym, subst, inl, inr, arith}
+use Rattle.std.specs.Prelude.{◌||◌, ◌⊎◌, ◌==◌, not, is_some, option_map, option_and_then, if◌then◌else◌}
+use Rattle.std.specs.Option.{option_map_or}
 use Rattle.std.proofs.lemmas.Bool.Decides.{nat_tests}
-use Rattle.tlp_core.specs.declared.operation.Op.{Op}
-use Rattle.tlp_core.specs.declared.operation.Op.TheVariants as ops
+use Rattle.tlp_core.specs.Ops.{Op}
+use Rattle.tlp_core.specs.declared.operation.OpOf.TheVariants as ops
 use Rattle.tlp_core.specs.declared.operation.Width.TheVariants as widths
 use Rattle.tlp_core.specs.declared.packet.Kind.{Kind}
 use Rattle.tlp_core.specs.declared.packet.Kind.TheVariants as kinds
@@ -13,11 +14,11 @@ use Rattle.tlp_core.specs.declared.packet.Status.{Status}
 use Rattle.tlp_core.specs.TlpView.{TlpView, IsPacket, FitsKind}
 use Rattle.tlp_core.specs.Operation.{op_of, op_fault, address_of, count_of}
 use Rattle.seq_memory.specs.declared.Refusal.TheVariants as refusals
-use Rattle.seq_memory.specs.declared.Reply.{Reply}
-use Rattle.seq_memory.specs.declared.Reply.TheVariants as replies
-use Rattle.seq_memory.specs.Step.{answer, answer_by, read_back, bytes_at, is_in_block, is_inside}
+use Rattle.seq_memory.specs.Entries.{Reply}
+use Rattle.seq_memory.specs.declared.reply.ReplyOf.TheVariants as replies
+use Rattle.seq_memory.specs.Step.{after, answer, answer_by, read_back, bytes_at, is_in_block, is_inside}
 use Rattle.completer_core.specs.Completion.{byte_count, lower_address, completion_for, completion_of, unless_posted}
-use Rattle.completer_core.specs.Serving.{completion_over}
+use Rattle.completer_core.specs.Serving.{bytes_after, completion_over}
 use Rattle.endpoint_core.specs.EndpointView.{DeviceView}
 use Rattle.endpoint_core.specs.Steps.{from, body_from, base_of_op, memory_done, done_at, dw_in_front, first_block, memory_completion, completion_at}
 use Rattle.endpoint_core.specs.Blocks.{counted, body_counted, in_front, IsCut}
@@ -137,6 +138,24 @@ pub front_completion : (id base n : ℕ) (m : List ℕ) (t : TlpView) (op : Op) 
 front_completion id base n m t op cut is =
     ap (λ (o : Option Op). option_map (counted id (byte_count t.kind t.body t.length) (lower_address t.kind t.body t.length)) (option_and_then (λ op. completion_of (in_front n t) (answer base 128 m op)) o)) (front_op n t op cut is)
     ∙ counted_from id n t (answer base 128 m (front n op))
+
+-- they act as the first of its block requests
+first_at : (n : ℕ) (op : Op) → (n ≡ 0 → ⊥) → (if n == 0 then op else front n op) ≡ front n op
+first_at zero op some = absurd (some refl)
+first_at (suc n) op some =
+    let more : (suc n == 0) ≡ false = grind (arith, nat_tests) in
+    rw (more) refl
+
+first_is : (n : ℕ) (op : Op) → (n ≡ 0 → ⊥) → dw_in_front op ≡ n → first_block op ≡ front n op
+first_is n op some e = subst (λ (x : ℕ). (if x == 0 then op else front x op) ≡ front n op) (sym e) (first_at n op some)
+
+front_acts : (base n : ℕ) (m : List ℕ) (t : TlpView) (op : Op) → IsCut n t → (n ≡ 0 → ⊥) → op_of t ≡ Some op → dw_in_front op ≡ n → bytes_after base 128 m (in_front n t) ≡ after base 128 m (first_block op)
+front_acts base n m t op cut some is e =
+    ap (λ (o : Option Op). option_map_or (λ op. after base 128 m op) o m) (front_op n t op cut is) ∙ sym (ap (after base 128 m) (first_is n op some e))
+
+pub front_bytes : (base n : ℕ) (m : List ℕ) (t : TlpView) (op : Op) → (n ≡ 0) ⊎ IsCut n t → (n ≡ 0 → ⊥) → op_of t ≡ Some op → dw_in_front op ≡ n → bytes_after base 128 m (in_front n t) ≡ after base 128 m (first_block op)
+front_bytes base n m t op (inl none) some is e = absurd (some none)
+front_bytes base n m t op (inr cut) some is e = front_acts base n m t op cut some is e
 
 pub none_from : (id : ℕ) (t : TlpView) (r : Reply) → completion_of t r ≡ None → option_map (from id) (completion_of t r) ≡ None
 none_from id t r h = ap (λ (o : Option TlpView). option_map (from id) o) h

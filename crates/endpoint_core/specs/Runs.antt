@@ -1,6 +1,6 @@
 -- Lists of calls of a device: the requests that come, wait, act and are completed, and what is done to the registers.
 use Rattle.std.specs.Prelude.{ℕ, List, [], ◌∷◌, ◌++◌, fold, map, flat_map, Option, Some, None, ◌%◌, ◌==◌, not, if◌then◌else◌}
-use Rattle.tlp_core.specs.declared.operation.Op.{Op}
+use Rattle.tlp_core.specs.Ops.{Op}
 use Rattle.tlp_core.specs.Operation.{op_of}
 use Rattle.seq_memory.specs.Step.{after}
 use Rattle.config_space.specs.declared.registers.Noted.{Noted}

@@ -1,8 +1,8 @@
 //! Completions with the Completer ID of a device.
 ghost use Rattle.std.specs.Prelude.{◌≡◌, ◌≤◌, ◌<◌, ◌⊎◌, [], Option, Some, None, IfSome, IfNone, option_map};
-ghost use Rattle.tlp_core.specs.declared.operation.Op.{Op};
+ghost use Rattle.tlp_core.specs.Ops.{Op};
 ghost use Rattle.tlp_core.specs.Operation.{op_of};
-ghost use Rattle.seq_memory.specs.declared.Reply.{Reply};
+ghost use Rattle.seq_memory.specs.Entries.{Reply};
 ghost use Rattle.seq_memory.specs.Step.{answer, after};
 ghost use Rattle.completer_core.specs.Completion.{byte_count, lower_address, completion_of};
 ghost use Rattle.completer_core.specs.Serving.{bytes_after};
@@ -129,7 +129,8 @@ fn answer_front<'r>(
 ) -> Option<TlpRef<'r>>
     requires { blocks.IsCut dw read.now }
     ensures bytes { bytes.new ≡ bytes_after place.base 128 bytes.old (blocks.in_front dw read.now) }
-    ensures completion { (op : Op) → op_of read.now ≡ Some op → result ≡ option_map (spec.from place.completer) (completion_of read.now (answer place.base 128 bytes.old (pieces.front dw op))) }
+    ensures completion { (op : Op) → op_of read.now ≡ Some op →
+        result ≡ option_map (spec.from place.completer) (completion_of read.now (answer place.base 128 bytes.old (pieces.front dw op))) }
 {
     let completion = answer_lent(place.base, BLOCK, bytes, &in_front(dw, read), room)?;
     let counts = counts_of(read)?;
@@ -146,7 +147,8 @@ pub(crate) fn answer_first<'r>(
 ) -> Option<TlpRef<'r>>
     requires { (dw ≡ 0) ⊎ blocks.IsCut dw request.now }
     ensures bytes { (op : Op) → op_of request.now ≡ Some op → spec.dw_in_front op ≡ dw → bytes.new ≡ after place.base 128 bytes.old (spec.first_block op) }
-    ensures completion { (op : Op) → op_of request.now ≡ Some op → spec.dw_in_front op ≡ dw → result ≡ option_map (spec.from place.completer) (completion_of request.now (answer place.base 128 bytes.old (spec.first_block op))) }
+    ensures completion { (op : Op) → op_of request.now ≡ Some op → spec.dw_in_front op ≡ dw →
+        result ≡ option_map (spec.from place.completer) (completion_of request.now (answer place.base 128 bytes.old (spec.first_block op))) }
 {
     if dw != 0 {
         return answer_front(place, bytes, request, dw, room);
@@ -230,7 +232,8 @@ fn refused_count(request: &TlpRef<'_>) -> Option<u16>
 
 /// The completion of a memory request that is not supported.
 pub(crate) fn refused<'r>(request: &TlpRef<'_>, completer: u16) -> Option<TlpRef<'r>>
-    ensures { (op : Op) → op_of request.now ≡ Some op → result ≡ Some (spec.completion_without (classes.descriptor_of request.now) completer Status.Unsupported (spec.refused_count request.now.kind request.now.body request.now.length)) }
+    ensures { (op : Op) → op_of request.now ≡ Some op →
+        result ≡ Some (spec.completion_without (classes.descriptor_of request.now) completer Status.Unsupported (spec.refused_count request.now.kind request.now.body request.now.length)) }
 {
     let count = refused_count(request)?;
     let header = request.header;

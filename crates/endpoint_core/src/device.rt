@@ -165,7 +165,7 @@ impl Device {
             self.note(Noted::UnsupportedRequest);
             return false;
         };
-        act_all(base, &mut self.bytes, op.form(), room);
+        act_all(base, &mut self.bytes, &op, room);
         true
     }
 
@@ -179,7 +179,7 @@ impl Device {
         if self.base_for(op.address(), op.size()).is_none() {
             return 0;
         }
-        block_bytes(&op.form())
+        block_bytes(&op)
     }
 
     /// How many bytes of data the next completion of a request has.
@@ -209,7 +209,7 @@ impl Device {
             self.note(Noted::UnsupportedRequest);
             return whole(refused(request, completer));
         };
-        let done = dw_in_front(&op.form());
+        let done = dw_in_front(&op);
         let place = Place { base, completer };
         Acted {
             completion: answer_first(place, &mut self.bytes, request, done, room),

@@ -1,6 +1,6 @@
 //! Laws of any list of calls.
 ghost use Rattle.std.specs.Prelude.{ℕ, ◌≡◌, ◌+◌, ◌-◌, ◌%◌, ◌++◌, ◌∷◌, [], List, Some, None, IsSome};
-ghost use Rattle.tlp_core.specs.declared.operation.Op.{Op};
+ghost use Rattle.tlp_core.specs.Ops.{Op};
 ghost use Rattle.tlp_core.specs.Operation.{address_of, count_of, op_fault, op_of};
 ghost use Rattle.tlp_core.specs.declared.packet.Kind.TheVariants as kinds;
 ghost use Rattle.tlp_core.specs.TlpView.{TlpView};
@@ -23,8 +23,10 @@ ghost use Rattle.endpoint_core.specs.Runs.{Call, Take, after_calls, blocks_in, a
 pub fn whatever_comes()
     ensures requests { (s : SetupView) (cs : List Call) → all_coming cs ≡ all_leaving (new_endpoint s) cs ++ blocks_waiting (after_calls (new_endpoint s) cs) }
     ensures bytes { (e : EndpointView) (cs : List Call) → (after_calls e cs).device.bytes ≡ bytes_by e.device.bytes (all_effects e cs) }
-    ensures registers { (e : EndpointView) (cs : List Call) → (after_calls e cs).device.registers ≡ registers_by e.device.registers (all_register_effects e cs) }
-    ensures completions { (s : SetupView) (cs : List Call) (w : Waiting) (ws : List Waiting) → (after_calls (new_endpoint s) cs).waiting ≡ w ∷ ws → IsSome (next_completion (after_calls (new_endpoint s) cs)) }
+    ensures registers { (e : EndpointView) (cs : List Call) →
+        (after_calls e cs).device.registers ≡ registers_by e.device.registers (all_register_effects e cs) }
+    ensures completions { (s : SetupView) (cs : List Call) (w : Waiting) (ws : List Waiting) → (after_calls (new_endpoint s) cs).waiting ≡ w ∷ ws →
+        IsSome (next_completion (after_calls (new_endpoint s) cs)) }
 {}
 
 /// The same from any device in which nothing waits, as after a reset: each block request that came leaves the queue once,
@@ -52,8 +54,10 @@ pub fn posted_requests_act_when_they_come()
 /// those that had their last completion or were dropped by a reset, in order, and those that wait. Each completion is of the
 /// oldest that waits, with its Requester ID, tag, TC and attributes: none comes between two of one request.
 pub fn requests_are_completed_in_order()
-    ensures order { (s : SetupView) (cs : List Call) → all_asked cs ≡ all_finished (new_endpoint s) cs ++ descriptors_waiting (after_calls (new_endpoint s) cs) }
-    ensures oldest { (e : EndpointView) (w : Waiting) (ws : List Waiting) (c : TlpView) → e.waiting ≡ w ∷ ws → next_completion e ≡ Some c → descriptor_of c ≡ descriptor_in w }
+    ensures order { (s : SetupView) (cs : List Call) →
+        all_asked cs ≡ all_finished (new_endpoint s) cs ++ descriptors_waiting (after_calls (new_endpoint s) cs) }
+    ensures oldest { (e : EndpointView) (w : Waiting) (ws : List Waiting) (c : TlpView) → e.waiting ≡ w ∷ ws → next_completion e ≡ Some c →
+        descriptor_of c ≡ descriptor_in w }
 {}
 
 /// The completions of a read are in the order of their addresses (section 2.3.1.1): if a read has more than its first block,
@@ -61,7 +65,8 @@ pub fn requests_are_completed_in_order()
 /// 2.2.9): that of the next completion is less by the bytes that this one returns, from the first enabled one on, and its
 /// Lower Address is 0.
 pub fn a_read_goes_on_where_its_first_block_ended()
-    ensures boundary { (t : TlpView) (op rest : Op) → op_of t ≡ Some op → op_fault op ≡ None → (dw_in_front op ≡ 0 → ⊥) → op_of (behind (dw_in_front op) t) ≡ Some rest →
+    ensures boundary { (t : TlpView) (op rest : Op) → op_of t ≡ Some op → op_fault op ≡ None → (dw_in_front op ≡ 0 → ⊥) →
+        op_of (behind (dw_in_front op) t) ≡ Some rest →
         (address_of rest ≡ address_of (first_block op) + count_of (first_block op)) × (address_of rest % 128 ≡ 0) }
     ensures counts { (t : TlpView) (op : Op) → op_of t ≡ Some op → op_fault op ≡ None → (dw_in_front op ≡ 0 → ⊥) →
         (byte_count t.kind t.body t.length ≡ count_of (first_block op) - lead (enables_of op) + byte_count (behind (dw_in_front op) t).kind (behind (dw_in_front op) t).body (behind (dw_in_front op) t).length)

@@ -13,23 +13,23 @@ use Rattle.hex.specs.declared.error.FromHexError.{FromHexError}
 use Rattle.hex.proofs.HexLemmas.{length-encode_with, decode_of-encode_upper}
 use Rattle.tlp_core.specs.declared.fault.TlpFault.{TlpFault}
 use Rattle.tlp_core.specs.declared.fault.TlpFault.TheVariants as faults
-use Rattle.tlp_core.specs.declared.operation.Op.{Op}
-use Rattle.tlp_core.specs.declared.operation.Op.TheVariants as ops
+use Rattle.tlp_core.specs.Ops.{Op}
+use Rattle.tlp_core.specs.declared.operation.OpOf.TheVariants as ops
 use Rattle.tlp_core.specs.declared.operation.Width.{Width}
 use Rattle.tlp_core.specs.declared.operation.Width.TheVariants as widths
 use Rattle.tlp_core.specs.Bits.{IsBytes}
 use Rattle.tlp_core.specs.Enables.{are_enables}
 use Rattle.tlp_core.specs.Operation.{size_of, address_of, count_of, op_fault, wrong_length, wrong_enables, wrong_operand, wrong_address}
-use Rattle.seq_memory.specs.declared.Entry.{Entry}
-use Rattle.seq_memory.specs.declared.Reply.{Reply}
-use Rattle.seq_memory.specs.declared.Reply.TheVariants as replies
+use Rattle.seq_memory.specs.Entries.{Entry}
+use Rattle.seq_memory.specs.Entries.{Reply}
+use Rattle.seq_memory.specs.declared.reply.ReplyOf.TheVariants as replies
 use Rattle.seq_memory.specs.Limits.{Extent, IsSize, IsWithinLimits}
 use Rattle.seq_memory.specs.Step.{is_in_block}
 use Rattle.seq_memory.specs.History.{extent_of}
 use Rattle.op_pieces.specs.Pieces.{bytes_of}
-use Rattle.history_check.specs.declared.Record.{Record}
-use Rattle.history_check.specs.declared.Record.TheVariants.{Sub, Ans}
-use Rattle.history_check.specs.Clocks.{IsClocked}
+use Rattle.history_words.specs.Records.{Record}
+use Rattle.history_words.specs.declared.record.RecordOf.TheVariants.{Sub, Ans}
+use Rattle.history_words.specs.Clocks.{IsClocked}
 use Rattle.config_space.specs.SetupView.{SetupView, is_size}
 use Rattle.endpoint_core.specs.Runs.{Call}
 use Rattle.endpoint_laws.specs.Requests.{IsBlockRequest, IsDataReply}

@@ -1,7 +1,7 @@
 //! What holds of the traces that `trace` prints.
 ghost use Rattle.std.specs.Prelude.{◌≡◌, ◌∷◌, [], ℕ, List, Some, IsSome, true, codes};
-ghost use Rattle.history_check.specs.Clocks.{IsClocked};
-ghost use Rattle.history_check.specs.Trace.{Explains};
+ghost use Rattle.history_words.specs.Clocks.{IsClocked};
+ghost use Rattle.history_words.specs.Trace.{Explains};
 ghost use Rattle.config_space.specs.SetupView.{SetupView, is_size};
 ghost use Rattle.endpoint_core.specs.EndpointView.{EndpointView};
 ghost use Rattle.endpoint_core.specs.Runs.{Call, after_call};
@@ -60,7 +60,8 @@ pub fn a_told_trace_is_explained()
 /// Whatever lines came: `check --clocked` says `ok`, with status 0, to what the line `trace` then prints. A log counts the
 /// block requests that were submitted in 32 bits, and those that acted in 64: lines can tell each trace with no more.
 pub fn a_told_trace_is_ok()
-    ensures tellable { (s : SetupView) (input : List ℕ) (l : LogView) → is_size s.size ≡ true → (asked s input).log ≡ Some l → IsCounted l → IsTellable l.claim }
+    ensures tellable { (s : SetupView) (input : List ℕ) (l : LogView) → is_size s.size ≡ true → (asked s input).log ≡ Some l → IsCounted l →
+        IsTellable l.claim }
     ensures ok { (s : SetupView) (input : List ℕ) (l : LogView) →
         is_size s.size ≡ true → (asked s input).log ≡ Some l → IsCounted l → (out_check_clocked (trace_after s input)).text ≡ codes "ok\n" }
     ensures status { (s : SetupView) (input : List ℕ) (l : LogView) →

@@ -5,13 +5,12 @@ ghost use Rattle.tlp_core.specs.Layout.{canonical};
 ghost use Rattle.hex_text.specs.Line.{spaced};
 ghost use Rattle.endpoint_engine.specs.Texts as spec;
 
-use completion_bytes::{HEADER, put_header};
 use endpoint_core::Handled;
 use endpoint_packets::Malformed;
 use hex_text::{HexText, write_both, write_bytes};
 use line_loop::Verdict;
 use std::alloc::AllocError;
-use tlp_core::{MAX_TLP, TlpRef, encode_lent};
+use tlp_core::{COMPLETION_HEADER, MAX_TLP, TlpRef, encode_lent, put_completion_header};
 
 /// Adds the line of a fault.
 pub fn no_line(out: &mut Vec<u8>) -> Result<Verdict, AllocError>
@@ -94,8 +93,8 @@ pub fn put_handled(handled: Handled, out: &mut Vec<u8>) -> Result<(), AllocError
 fn write_packet(packet: &TlpRef<'_>, room: &mut [u8; MAX_TLP], text: &mut HexText)
     ensures { text.new ≡ spaced (encode_upper (canonical packet.now)) ++ 10 ∷ [] }
 {
-    let mut header = [0; HEADER];
-    if put_header(packet, &mut header) {
+    let mut header = [0; COMPLETION_HEADER];
+    if put_completion_header(packet, &mut header) {
         write_both(&header, packet.payload, text);
         return;
     }

@@ -6,22 +6,22 @@ use Rattle.std.proofs.lemmas.Bool.Decides.{nat_tests}
 use Rattle.std.proofs.lemmas.List.{length-replicate}
 use Rattle.std.proofs.lemmas.Option.{same_Some}
 use Rattle.std.proofs.Math.Seq.{length-take-le}
-use Rattle.tlp_core.specs.declared.operation.Op.{Op}
-use Rattle.tlp_core.specs.declared.operation.Op.TheVariants as ops
+use Rattle.tlp_core.specs.Ops.{Op}
+use Rattle.tlp_core.specs.declared.operation.OpOf.TheVariants as ops
 use Rattle.tlp_core.specs.declared.operation.Width.TheVariants as widths
 use Rattle.tlp_core.specs.Bits.{IsBytes}
 use Rattle.tlp_core.specs.Enables.{dw_enables, enables}
 use Rattle.tlp_core.specs.Operation.{address_of, count_of, size_of, is_posted}
-use Rattle.seq_memory.specs.declared.Entry.{Entry}
+use Rattle.seq_memory.specs.Entries.{Entry}
 use Rattle.seq_memory.specs.declared.Refusal.{Refusal}
-use Rattle.seq_memory.specs.declared.Reply.{Reply}
+use Rattle.seq_memory.specs.Entries.{Reply}
 use Rattle.seq_memory.specs.Limits.{Extent}
 use Rattle.seq_memory.specs.Step.{refusal, after, after_by, answer, bytes_at, merged, patched, place_after, read_back, is_in_block}
 use Rattle.seq_memory.specs.History.{contents, contents_at, extent_of}
 use Rattle.op_pieces.specs.Pieces.{bytes_of}
-use Rattle.history_check.specs.declared.Record.{Record}
-use Rattle.history_check.specs.declared.Record.TheVariants.{Sub, Ans}
-use Rattle.history_check.specs.Trace.{submissions, IsExplained}
+use Rattle.history_words.specs.Records.{Record}
+use Rattle.history_words.specs.declared.record.RecordOf.TheVariants.{Sub, Ans}
+use Rattle.history_words.specs.Trace.{submissions, IsExplained}
 use Rattle.endpoint_core.specs.EndpointView.{EndpointView}
 use Rattle.endpoint_log.specs.LogView.{LogView}
 use Rattle.endpoint_laws.specs.Requests.{IsBlockRequest, IsDataReply}

@@ -4,17 +4,17 @@ use Rattle.std.specs.Prelude.{slice_get, ◌==◌, ◌&&◌, option_map}
 use Rattle.std.proofs.lemmas.Bool.Decides.{nat_tests}
 use Rattle.std.proofs.lemmas.List.{append-nil, length_push}
 use Rattle.std.proofs.lemmas.List.Elements.{filter_map-append}
-use Rattle.tlp_core.specs.declared.operation.Op.{Op}
-use Rattle.seq_memory.specs.declared.Entry.{Entry}
-use Rattle.seq_memory.specs.declared.Reply.{Reply}
+use Rattle.tlp_core.specs.Ops.{Op}
+use Rattle.seq_memory.specs.Entries.{Entry}
+use Rattle.seq_memory.specs.Entries.{Reply}
 use Rattle.seq_memory.specs.Step.{answer}
 use Rattle.seq_memory.specs.History.{MemoryView, extent_of, contents, contents_at, reply_at}
-use Rattle.history_check.specs.declared.Record.{Record}
-use Rattle.history_check.specs.declared.Record.TheVariants.{Sub, Ans}
-use Rattle.history_check.specs.Claim.{Claim}
-use Rattle.history_check.specs.Clocks.{IsClocked}
-use Rattle.history_check.specs.Flaws.{moment}
-use Rattle.history_check.specs.Trace.{submission, submissions, is_request, stands, IsNumbered, IsLawful, IsLegal, IsExplained, IsLinear, Explains}
+use Rattle.history_words.specs.Records.{Record}
+use Rattle.history_words.specs.declared.record.RecordOf.TheVariants.{Sub, Ans}
+use Rattle.history_words.specs.Claim.{Claim}
+use Rattle.history_words.specs.Clocks.{IsClocked}
+use Rattle.history_words.specs.Flaws.{moment}
+use Rattle.history_words.specs.Trace.{submission, submissions, is_request, stands, IsNumbered, IsLawful, IsLegal, IsExplained, IsLinear, Explains}
 use Rattle.endpoint_laws.proofs.Lists.{get_before, get_within, get_back, get_push, take_before, take_push, in_take, in_list, test}
 
 -- with one more record, or one more entry
@@ -231,7 +231,7 @@ ans_numbered rs i k n x num a j m q z e =
     (λ (g : (a ≡ length rs) × (r ≡ Sub j m z q)). absurd (let h : Ans i k x n ≡ Sub j m z q = g.1 in cc))
     (get_push rs r a (Sub j m z q) e)
 
-same_explained : (m : MemoryView) (rs : List Record) (i k n j l q : ℕ) (x y : Reply) → Ans i k x n ≡ Ans j l y q → IsExplained m rs i k x n → IsExplained m rs j l y q
+same_explained : (m : MemoryView) (rs : List Record) (i k n j l q : ℕ) (x y : Reply) → ◌≡◌ {A = Record} (Ans i k x n) (Ans j l y q) → IsExplained m rs i k x n → IsExplained m rs j l y q
 same_explained m rs i k n j l q x y e s =
     let own : i ≡ j = cc in
     let number : k ≡ l = cc in

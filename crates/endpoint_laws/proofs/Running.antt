@@ -4,13 +4,13 @@ use Rattle.std.specs.Prelude.{slice_get}
 use Rattle.std.proofs.lemmas.Grind.{flat_map-append}
 use Rattle.std.proofs.lemmas.List.{append-nil, append_cancel_left}
 use Rattle.std.proofs.lemmas.List.Sums.{fold-append}
-use Rattle.tlp_core.specs.declared.operation.Op.{Op}
-use Rattle.seq_memory.specs.declared.Entry.{Entry}
-use Rattle.seq_memory.specs.declared.Reply.{Reply}
+use Rattle.tlp_core.specs.Ops.{Op}
+use Rattle.seq_memory.specs.Entries.{Entry}
+use Rattle.seq_memory.specs.Entries.{Reply}
 use Rattle.seq_memory.specs.History.{extent_of}
-use Rattle.history_check.specs.declared.Record.TheVariants.{Sub, Ans}
-use Rattle.history_check.specs.Clocks.{IsClocked}
-use Rattle.history_check.specs.Trace.{Explains}
+use Rattle.history_words.specs.declared.record.RecordOf.TheVariants.{Sub, Ans}
+use Rattle.history_words.specs.Clocks.{IsClocked}
+use Rattle.history_words.specs.Trace.{Explains}
 use Rattle.config_space.specs.SetupView.{SetupView, is_size}
 use Rattle.endpoint_packets.specs.Classes.{becomes}
 use Rattle.endpoint_core.specs.EndpointView.{EndpointView}

@@ -3,16 +3,16 @@ use Rattle.std.proofs.Common.{◌≡◌, ◌∙◌, ℕ, zero, suc, ◌+◌, ◌
 use Rattle.std.specs.Prelude.{slice_get}
 use Rattle.std.specs.List.{list_any}
 use Rattle.std.proofs.lemmas.List.{length_push}
-use Rattle.tlp_core.specs.declared.operation.Op.{Op}
+use Rattle.tlp_core.specs.Ops.{Op}
 use Rattle.tlp_core.specs.Operation.{is_posted}
-use Rattle.seq_memory.specs.declared.Entry.{Entry}
-use Rattle.seq_memory.specs.declared.Reply.{Reply}
+use Rattle.seq_memory.specs.Entries.{Entry}
+use Rattle.seq_memory.specs.Entries.{Reply}
 use Rattle.seq_memory.specs.Step.{answer}
 use Rattle.seq_memory.specs.History.{extent_of, contents, reply_at}
-use Rattle.history_check.specs.declared.Record.{Record}
-use Rattle.history_check.specs.declared.Record.TheVariants.{Sub, Ans}
-use Rattle.history_check.specs.Claim.{Claim}
-use Rattle.history_check.specs.Trace.{submissions, answers_to, is_request, stands, IsLawful, IsExplained}
+use Rattle.history_words.specs.Records.{Record}
+use Rattle.history_words.specs.declared.record.RecordOf.TheVariants.{Sub, Ans}
+use Rattle.history_words.specs.Claim.{Claim}
+use Rattle.history_words.specs.Trace.{submissions, answers_to, is_request, stands, IsLawful, IsExplained}
 use Rattle.endpoint_laws.proofs.Lists.{get_before, get_seam, get_within, get_push, take_push, found, any_append, none_push, test}
 use Rattle.endpoint_laws.proofs.Growing.{said, acted, Kept, made_own, made_ans, made_number, there, both_equal, other_number, reply_there, submitted, entered, answered}
 

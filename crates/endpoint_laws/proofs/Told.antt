@@ -1,14 +1,14 @@
 -- What is submitted for a device are block requests of its memory.
 use Rattle.std.proofs.Common.{◌≡◌, ◌∙◌, ℕ, zero, suc, ◌+◌, ◌%◌, ◌<◌, Bool, true, false, List, [], ◌∷◌, ◌++◌, length, drop, cond, Option, Some, None, refl, sym, ap, subst, arith, ⊎_elim, ◌⊎◌}
 use Rattle.std.specs.Prelude.{fold, slice_get, ◌==◌, not}
-use Rattle.tlp_core.specs.declared.operation.Op.{Op}
-use Rattle.tlp_core.specs.declared.operation.Op.TheVariants as ops
+use Rattle.tlp_core.specs.Ops.{Op}
+use Rattle.tlp_core.specs.declared.operation.OpOf.TheVariants as ops
 use Rattle.tlp_core.specs.Operation.{op_of, op_fault, is_posted}
 use Rattle.tlp_core.specs.Bits.{IsBytes}
 use Rattle.tlp_core.specs.TlpView.{TlpView}
 use Rattle.op_pieces.specs.Pieces.{all_bytes, bytes_of}
-use Rattle.history_check.specs.declared.Record.{Record}
-use Rattle.history_check.specs.declared.Record.TheVariants.{Sub, Ans}
+use Rattle.history_words.specs.Records.{Record}
+use Rattle.history_words.specs.declared.record.RecordOf.TheVariants.{Sub, Ans}
 use Rattle.config_space.specs.declared.registers.Noted.{Noted}
 use Rattle.config_space.specs.declared.registers.Noted.TheVariants as noted
 use Rattle.config_space.specs.SetupView.{SetupView}
@@ -70,8 +70,8 @@ pub record IsTold (size : ℕ) (e : EndpointView) (l : LogView) : Type 0 where
 sub_made : (size : ℕ) (rs : List Record) (k n : ℕ) (op : Op) → AreMade size rs → IsGood size op → AreMade size (rs ++ Sub 1 k op n ∷ [])
 sub_made size rs k n op m g a i j q z e = ⊎_elim
     (λ (h : (a < length rs) × (slice_get rs a ≡ Some (Sub i j z q))). m a i j q z h.1)
-    (λ (h : (a ≡ length rs) × (Sub 1 k op n ≡ Sub i j z q)).
-    let same : Sub 1 k op n ≡ Sub i j z q = h.1 in
+    (λ (h : (a ≡ length rs) × ◌≡◌ {A = Record} (Sub 1 k op n) (Sub i j z q)).
+    let same : ◌≡◌ {A = Record} (Sub 1 k op n) (Sub i j z q) = h.1 in
     let own : 1 ≡ i = cc in
     let same_op : op ≡ z = cc in
     (sym own, subst (IsGood size) same_op g))

@@ -4,10 +4,10 @@ use Rattle.std.specs.Prelude.{◌==◌, not, flat_map}
 use Rattle.std.proofs.lemmas.Bool.Decides.{nat_tests}
 use Rattle.std.proofs.lemmas.Grind.{flat_map-append}
 use Rattle.std.proofs.lemmas.List.{append-nil, append_cancel_right}
-use Rattle.tlp_core.specs.declared.operation.Op.{Op}
+use Rattle.tlp_core.specs.Ops.{Op}
 use Rattle.tlp_core.specs.Operation.{op_of, is_posted, op_fault, address_of, count_of}
 use Rattle.tlp_core.specs.TlpView.{TlpView}
-use Rattle.seq_memory.specs.declared.Reply.{Reply}
+use Rattle.seq_memory.specs.Entries.{Reply}
 use Rattle.seq_memory.specs.Step.{after, answer, bytes_at, read_back, data_of}
 use Rattle.config_space.specs.declared.registers.Noted.{Noted}
 use Rattle.config_space.specs.declared.registers.Noted.TheVariants as noted

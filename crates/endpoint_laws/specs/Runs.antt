@@ -1,7 +1,7 @@
 -- What is recorded of a device over a list of calls.
 use Rattle.std.specs.Prelude.{ℕ, List, [], ◌∷◌}
 use Rattle.tlp_core.specs.Bits.{IsBytes}
-use Rattle.history_check.specs.Claim.{Claim}
+use Rattle.history_words.specs.Claim.{Claim}
 use Rattle.config_space.specs.SetupView.{SetupView}
 use Rattle.endpoint_packets.specs.Classes.{becomes}
 use Rattle.endpoint_core.specs.EndpointView.{EndpointView}

@@ -1,13 +1,13 @@
 //! What holds of the trace and the history of a device, whatever it is asked.
 ghost use Rattle.std.specs.Prelude.{◌≡◌, ◌<◌, ℕ, List, None, Some, slice_get, true};
-ghost use Rattle.tlp_core.specs.declared.operation.Op.{Op};
-ghost use Rattle.seq_memory.specs.declared.Entry.{Entry};
-ghost use Rattle.seq_memory.specs.declared.Reply.{Reply};
+ghost use Rattle.tlp_core.specs.Ops.{Op};
+ghost use Rattle.seq_memory.specs.Entries.{Entry};
+ghost use Rattle.seq_memory.specs.Entries.{Reply};
 ghost use Rattle.seq_memory.specs.History.{extent_of};
-ghost use Rattle.history_check.specs.declared.Record.TheVariants.{Sub, Ans};
-ghost use Rattle.history_check.specs.Clocks.{IsClocked, KeepsRealTimeOrder};
-ghost use Rattle.history_check.specs.Flaws.{first_flaw_clocked};
-ghost use Rattle.history_check.specs.Trace.{Explains};
+ghost use Rattle.history_words.specs.declared.record.RecordOf.TheVariants.{Sub, Ans};
+ghost use Rattle.history_words.specs.Clocks.{IsClocked, KeepsRealTimeOrder};
+ghost use Rattle.history_words.specs.Flaws.{first_flaw_clocked};
+ghost use Rattle.history_words.specs.Trace.{Explains};
 ghost use Rattle.config_space.specs.SetupView.{SetupView, is_size};
 ghost use Rattle.endpoint_core.specs.Runs.{Call};
 ghost use Rattle.endpoint_laws.specs.Requests.{IsBlockRequest, IsDataReply};
@@ -15,7 +15,8 @@ ghost use Rattle.endpoint_laws.specs.Runs.{AreBytes, claim_after, submitted_afte
 
 use config_space::laws::what_is_read_only_stays;
 use endpoint_core::laws::whatever_comes;
-use history_check::laws::{answered_first_acts_first, explained_is_without_flaw};
+use history_check::laws::explained_is_without_flaw;
+use history_words::laws::answered_first_acts_first;
 use op_pieces::laws::{blocks_are_the_request, pieces_act_as_their_request};
 use seq_memory::laws::history_grows_by_steps;
 use tlp_core::laws::reading_is_spelling;
@@ -43,7 +44,8 @@ pub fn an_endpoints_trace_is_explained()
 /// What is recorded of a device are block requests of requester 1, in a memory from address 0 on: each has no fault and lies
 /// in one block of 128 bytes, each answer is 1 to 128 bytes of data, and each number is below how many were submitted.
 pub fn an_endpoint_records_block_requests()
-    ensures memory { (s : SetupView) (cs : List Call) → is_size s.size ≡ true → AreBytes cs → extent_of (claim_after s cs).memory ≡ record { base = 0; size = s.size; block = 128 } }
+    ensures memory { (s : SetupView) (cs : List Call) → is_size s.size ≡ true → AreBytes cs →
+        extent_of (claim_after s cs).memory ≡ record { base = 0; size = s.size; block = 128 } }
     ensures submitted { (s : SetupView) (cs : List Call) (a i k n : ℕ) (op : Op) → is_size s.size ≡ true → AreBytes cs →
         slice_get (claim_after s cs).records a ≡ Some (Sub i k op n) → (i ≡ 1) × (k < submitted_after s cs) × IsBlockRequest s.size op }
     ensures answered { (s : SetupView) (cs : List Call) (a i k n : ℕ) (reply : Reply) → is_size s.size ≡ true → AreBytes cs →

@@ -2,8 +2,8 @@
 use Rattle.std.proofs.Common.{◌≡◌, ◌≢◌, ℕ, zero, suc, ◌-◌, ◌<◌, ◌≤◌, ◌∷◌, [], List, Bool, true, false, cond, refl, ap, arith}
 use Rattle.std.specs.Prelude.{nat_le, fold}
 use Rattle.std.proofs.lemmas.Bool.Decides.{nat_tests}
-use Rattle.tlp_core.specs.declared.operation.Op.{Op}
-use Rattle.tlp_core.specs.declared.operation.Op.TheVariants as ops
+use Rattle.tlp_core.specs.Ops.{Op}
+use Rattle.tlp_core.specs.declared.operation.OpOf.TheVariants as ops
 use Rattle.tlp_core.specs.Operation.{address_of}
 use Rattle.op_pieces.specs.Pieces.{cut, dw_of, dw_to, front, back}
 use Rattle.endpoint_core.specs.Steps.{dw_in_front}

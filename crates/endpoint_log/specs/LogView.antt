@@ -1,6 +1,6 @@
 -- What a device records of its memory, as contracts see it.
 use Rattle.std.specs.Prelude.{ℕ, Option}
-use Rattle.history_check.specs.Claim.{Claim}
+use Rattle.history_words.specs.Claim.{Claim}
 
 pub record LogView : Type 0 where
   -- what requester 1 submitted and was answered, and the history

@@ -1,22 +1,21 @@
 //! What the memory of a device is asked, answers and does, block request by block request.
 ghost use Rattle.std.specs.Prelude.{◌≡◌, ◌+◌, ◌≤◌, ◌^◌, fold, IfOk, IsErr, OnOk};
-ghost use Rattle.tlp_core.specs.Lent.{owned, HasSizes};
 ghost use Rattle.tlp_core.specs.Operation.{address_of, count_of, op_of};
 ghost use Rattle.op_pieces.specs.Pieces.{dw_of, cut};
-ghost use Rattle.history_check.specs.Claim.{claim_of};
+ghost use Rattle.history_words.specs.Claim.{claim_of};
 ghost use Rattle.endpoint_packets.specs.Classes.{becomes};
 ghost use Rattle.endpoint_log.specs.Steps as spec;
 
-use crate::moved::{BLOCK, address, dw_in_front, first_block, moved, reply_in};
+use crate::moved::{BLOCK, dw_in_front, first_moved, moved, reply_in};
 use config_space::Setup;
 use endpoint_core::Endpoint;
 use endpoint_packets::{Received, Room, receive};
-use history_check::{AsClaim, Trace};
+use history_words::{AsClaim, Trace};
 use op_pieces::{back, dw_of, dw_to, front};
 use seq_memory::{Entry, Extent};
 use std::alloc::{AllocError, Global};
 use std::marker::Model;
-use tlp_core::{OpForm, OpRef, TlpRef, op_lent};
+use tlp_core::{OpRef, TlpRef, op_lent};
 use trace_store::TraceStore;
 
 /// The one requester.
@@ -70,10 +69,9 @@ impl Log {
     }
 
     /// A block request is submitted.
-    fn submit(&mut self, base: u64, block: &OpForm<'_>) -> Result<(), AllocError>
-        requires sizes { HasSizes block.now }
-        requires behind { base ≤ address_of (owned block.now) }
-        ensures { OnOk result (self.new ≡ spec.submits base self.old (owned block.now)) }
+    fn submit(&mut self, base: u64, block: &OpRef<'_>) -> Result<(), AllocError>
+        requires { base ≤ address_of block.now }
+        ensures { OnOk result (self.new ≡ spec.submits base self.old block.now) }
     {
         let next = behind(self.submitted)?;
         let n = self.store.entries() as u64;
@@ -84,10 +82,9 @@ impl Log {
     }
 
     /// A posted block request is submitted, and acts.
-    fn post(&mut self, base: u64, block: &OpForm<'_>) -> Result<(), AllocError>
-        requires sizes { HasSizes block.now }
-        requires behind { base ≤ address_of (owned block.now) }
-        ensures { OnOk result (self.new ≡ spec.posts base self.old (owned block.now)) }
+    fn post(&mut self, base: u64, block: &OpRef<'_>) -> Result<(), AllocError>
+        requires { base ≤ address_of block.now }
+        ensures { OnOk result (self.new ≡ spec.posts base self.old block.now) }
     {
         let number = self.submitted;
         self.submit(base, block)?;
@@ -96,34 +93,32 @@ impl Log {
 
     /// The block requests of a request are submitted: one, and as many more as there are turns at most.
     #[tactic(auto, using(crate::proofs::Blocks::front_address, crate::proofs::Blocks::back_address, crate::proofs::Blocks::last_block, crate::proofs::Blocks::only_block, crate::proofs::Blocks::more_blocks))]
-    fn submit_all(&mut self, base: u64, turns: u16, form: &OpForm<'_>) -> Result<(), AllocError>
-        requires sizes { HasSizes form.now }
-        requires fits { address_of (owned form.now) + count_of (owned form.now) ≤ 2 ^ 64 }
-        requires behind { base ≤ address_of (owned form.now) }
-        ensures { OnOk result (self.new ≡ fold (spec.submits base) self.old (cut 128 turns (owned form.now))) }
+    fn submit_all(&mut self, base: u64, turns: u16, op: &OpRef<'_>) -> Result<(), AllocError>
+        requires fits { address_of op.now + count_of op.now ≤ 2 ^ 64 }
+        requires behind { base ≤ address_of op.now }
+        ensures { OnOk result (self.new ≡ fold (spec.submits base) self.old (cut 128 turns op.now)) }
     {
-        let dw = dw_to(BLOCK, address(form));
-        if turns == 0 || dw_of(form) <= dw {
-            return self.submit(base, form);
+        let dw = dw_to(BLOCK, op.address());
+        if turns == 0 || dw_of(op) <= dw {
+            return self.submit(base, op);
         }
-        self.submit(base, &front(dw, form))?;
-        self.submit_all(base, turns - 1, &back(dw, form))
+        self.submit(base, &front(dw, op))?;
+        self.submit_all(base, turns - 1, &back(dw, op))
     }
 
     /// The block requests of a posted request are submitted, and act: one, and as many more as there are turns at most.
     #[tactic(auto, using(crate::proofs::Blocks::front_address, crate::proofs::Blocks::back_address, crate::proofs::Blocks::last_block, crate::proofs::Blocks::only_block, crate::proofs::Blocks::more_blocks))]
-    fn post_all(&mut self, base: u64, turns: u16, form: &OpForm<'_>) -> Result<(), AllocError>
-        requires sizes { HasSizes form.now }
-        requires fits { address_of (owned form.now) + count_of (owned form.now) ≤ 2 ^ 64 }
-        requires behind { base ≤ address_of (owned form.now) }
-        ensures { OnOk result (self.new ≡ fold (spec.posts base) self.old (cut 128 turns (owned form.now))) }
+    fn post_all(&mut self, base: u64, turns: u16, op: &OpRef<'_>) -> Result<(), AllocError>
+        requires fits { address_of op.now + count_of op.now ≤ 2 ^ 64 }
+        requires behind { base ≤ address_of op.now }
+        ensures { OnOk result (self.new ≡ fold (spec.posts base) self.old (cut 128 turns op.now)) }
     {
-        let dw = dw_to(BLOCK, address(form));
-        if turns == 0 || dw_of(form) <= dw {
-            return self.post(base, form);
+        let dw = dw_to(BLOCK, op.address());
+        if turns == 0 || dw_of(op) <= dw {
+            return self.post(base, op);
         }
-        self.post(base, &front(dw, form))?;
-        self.post_all(base, turns - 1, &back(dw, form))
+        self.post(base, &front(dw, op))?;
+        self.post_all(base, turns - 1, &back(dw, op))
     }
 
     /// Records what a posted request does at the device.
@@ -136,8 +131,7 @@ impl Log {
         let Some(base) = endpoint.base_of(&op) else {
             return Ok(());
         };
-        let form = op.form();
-        self.post_all(base, dw_of(&form), &form)
+        self.post_all(base, dw_of(&op), &op)
     }
 
     /// Records what a TLP of these bytes does when it comes to the device. What the room holds counts for nothing.
@@ -157,18 +151,17 @@ impl Log {
     }
 
     /// The number of the next block request of the oldest request that waits. If none of them acted, all are submitted.
-    fn begin(&mut self, base: u64, form: &OpForm<'_>) -> Result<u32, AllocError>
-        requires sizes { HasSizes form.now }
-        requires fits { address_of (owned form.now) + count_of (owned form.now) ≤ 2 ^ 64 }
-        requires behind { base ≤ address_of (owned form.now) }
+    fn begin(&mut self, base: u64, op: &OpRef<'_>) -> Result<u32, AllocError>
+        requires fits { address_of op.now + count_of op.now ≤ 2 ^ 64 }
+        requires behind { base ≤ address_of op.now }
         ensures number { IfOk result (λ k. k ≡ spec.next_number self.old) }
-        ensures log { OnOk result (self.new ≡ spec.begins base (owned form.now) self.old) }
+        ensures log { OnOk result (self.new ≡ spec.begins base op.now self.old) }
     {
         if let Some(number) = self.begun {
             return Ok(number);
         }
         let number = self.submitted;
-        self.submit_all(base, dw_of(form), form)?;
+        self.submit_all(base, dw_of(op), op)?;
         self.begun = Some(number);
         Ok(number)
     }
@@ -180,11 +173,9 @@ impl Log {
         ensures number { IfOk result (λ k. k ≡ spec.next_number self.old) }
         ensures log { OnOk result (self.new ≡ spec.enters_first base op.now self.old) }
     {
-        let form = op.form();
-        let number = self.begin(base, &form)?;
-        let block = first_block(&form);
-        self.store.acted(REQUESTER, number, &moved(base, &block))?;
-        self.begun = if dw_in_front(&form) == 0 {
+        let number = self.begin(base, op)?;
+        self.store.acted(REQUESTER, number, &first_moved(base, op))?;
+        self.begun = if dw_in_front(op) == 0 {
             None
         } else {
             Some(behind(number)?)

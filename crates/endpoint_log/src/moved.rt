@@ -1,84 +1,75 @@
 //! Block requests with addresses that count from the memory's first byte.
 ghost use Rattle.std.specs.Prelude.{◌≡◌, ◌≤◌};
-ghost use Rattle.tlp_core.specs.Lent.{owned, HasSizes};
 ghost use Rattle.tlp_core.specs.Operation.{address_of};
-ghost use Rattle.seq_memory.specs.Outcome.{owned_reply, HasRoom};
 ghost use Rattle.endpoint_core.specs.Steps as device;
 ghost use Rattle.endpoint_log.specs.Steps as spec;
 
 use op_pieces::{dw_to, front};
-use seq_memory::ReplyForm;
-use tlp_core::{Kind, OpForm, TlpRef};
+use seq_memory::ReplyRef;
+use tlp_core::{Kind, OpRef, PayloadRef, TlpRef};
 
 /// The bytes of a block: a memory request acts block by block.
 pub(crate) const BLOCK: u64 = 128;
 
-/// The first address of a form's place.
-pub(crate) fn address(form: &OpForm<'_>) -> u64
-    ensures { result ≡ address_of (owned form.now) }
-{
-    match form {
-        OpForm::Read { address, .. }
-        | OpForm::Write { address, .. }
-        | OpForm::FetchAdd { address, .. }
-        | OpForm::Swap { address, .. }
-        | OpForm::Cas { address, .. } => *address,
-    }
-}
-
 /// The operation with an address that counts from the memory's first byte.
-pub(crate) fn moved<'a>(base: u64, form: &OpForm<'a>) -> OpForm<'a>
-    requires sizes { HasSizes form.now }
-    requires behind { base ≤ address_of (owned form.now) }
-    ensures value { owned result ≡ spec.moved base (owned form.now) }
-    ensures sizes { HasSizes result }
+pub(crate) fn moved<'a>(base: u64, op: &OpRef<'a>) -> OpRef<'a>
+    requires { base ≤ address_of op.now }
+    ensures { result ≡ spec.moved base op.now }
 {
-    let place = address(form) - base;
-    match *form {
-        OpForm::Read {
+    let place = op.address() - base;
+    match op {
+        OpRef::Read {
             dw,
             first,
             last,
             ..
-        } => OpForm::Read {
+        } => OpRef::Read {
             address: place,
-            dw,
-            first,
-            last,
+            dw: *dw,
+            first: *first,
+            last: *last,
         },
-        OpForm::Write {
+        OpRef::Write {
             first,
             last,
             bytes,
             ..
-        } => OpForm::Write {
+        } => OpRef::Write {
             address: place,
-            first,
-            last,
-            bytes,
+            first: *first,
+            last: *last,
+            bytes: PayloadRef::new(bytes.as_slice()),
         },
-        OpForm::FetchAdd { operand, .. } => OpForm::FetchAdd {
+        OpRef::FetchAdd { width, operand, .. } => OpRef::FetchAdd {
             address: place,
-            operand,
+            width: *width,
+            operand: *operand,
         },
-        OpForm::Swap { operand, .. } => OpForm::Swap {
+        OpRef::Swap { width, operand, .. } => OpRef::Swap {
             address: place,
-            operand,
+            width: *width,
+            operand: *operand,
         },
-        OpForm::Cas { compare, swap, .. } => OpForm::Cas {
-            address: place,
+        OpRef::Cas {
+            width,
             compare,
             swap,
+            ..
+        } => OpRef::Cas {
+            address: place,
+            width: *width,
+            compare: *compare,
+            swap: *swap,
         },
     }
 }
 
 /// How many DW are in a read's first block, if it goes on in the next, and else 0.
-pub(crate) fn dw_in_front(form: &OpForm<'_>) -> u16
-    ensures { result ≡ device.dw_in_front (owned form.now) }
+pub(crate) fn dw_in_front(op: &OpRef<'_>) -> u16
+    ensures { result ≡ device.dw_in_front op.now }
 {
-    match form {
-        OpForm::Read { address, dw, .. } => {
+    match op {
+        OpRef::Read { address, dw, .. } => {
             let front = dw_to(BLOCK, *address);
             if *dw <= front { 0 } else { front }
         }
@@ -86,27 +77,24 @@ pub(crate) fn dw_in_front(form: &OpForm<'_>) -> u16
     }
 }
 
-/// The first of a request's block requests.
+/// The first of a request's block requests, with an address that counts from the memory's first byte.
 #[tactic(auto, using(crate::proofs::Blocks::front_address, crate::proofs::Blocks::in_front_fewer))]
-pub(crate) fn first_block<'a>(form: &OpForm<'a>) -> OpForm<'a>
-    requires { HasSizes form.now }
-    ensures value { owned result ≡ device.first_block (owned form.now) }
-    ensures sizes { HasSizes result }
-    ensures same { address_of (owned result) ≡ address_of (owned form.now) }
+pub(crate) fn first_moved<'a>(base: u64, op: &OpRef<'a>) -> OpRef<'a>
+    requires { base ≤ address_of op.now }
+    ensures { result ≡ spec.moved base (device.first_block op.now) }
 {
-    match dw_in_front(form) {
-        0 => *form,
-        dw => front(dw, form),
+    match dw_in_front(op) {
+        0 => moved(base, op),
+        dw => moved(base, &front(dw, op)),
     }
 }
 
 /// What a completion says of the memory.
-pub(crate) fn reply_in<'a>(completion: &TlpRef<'a>) -> ReplyForm<'a>
-    ensures value { owned_reply result ≡ spec.reply_in completion.now }
-    ensures room { HasRoom result }
+pub(crate) fn reply_in<'a>(completion: &TlpRef<'a>) -> ReplyRef<'a>
+    ensures { result ≡ spec.reply_in completion.now }
 {
     match completion.header.kind {
-        Kind::CompletionData => ReplyForm::Data(completion.payload),
-        _ => ReplyForm::Unsupported,
+        Kind::CompletionData => ReplyRef::Data(PayloadRef::new(completion.payload)),
+        _ => ReplyRef::Unsupported,
     }
 }

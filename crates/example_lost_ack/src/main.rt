@@ -2,13 +2,14 @@
 #![tactic(auto)]
 
 ghost use Rattle.std.specs.Prelude.{[], IfOk};
-ghost use Rattle.history_check.specs.Claim.{claim_of};
-ghost use Rattle.history_check.specs.Trace.{Explains};
+ghost use Rattle.history_words.specs.Claim.{claim_of};
+ghost use Rattle.history_words.specs.Trace.{Explains};
 ghost use Rattle.fabric_laws.specs.Trace.{Belongs};
 ghost use Rattle.fabric_laws.specs.Fabric.{whole_of};
 
 use fabric_core::{Config, Event, Fabric, LaneName, Refusal};
-use history_check::{Trace, check};
+use history_check::check;
+use history_words::Trace;
 use lane_core::{DllpKind, Fate, LaneCredits};
 use std::alloc::Global;
 use std::io;

@@ -5,10 +5,10 @@ use native.Mathlib.Decide.{ℕ_discrete}
 use mathlib.Core.Logic.{dite}
 use Rattle.std.proofs.Common.{eq-eqb}
 use Rattle.std.proofs.lemmas.Bool.{ne_eqb}
-use Rattle.tlp_core.specs.declared.operation.Op.{Op}
-use Rattle.history_check.specs.declared.Record.{Record}
-use Rattle.history_check.specs.declared.Record.TheVariants.{Sub}
-use Rattle.history_check.specs.Trace.{submissions}
+use Rattle.tlp_core.specs.Ops.{Op}
+use Rattle.history_words.specs.Records.{Record}
+use Rattle.history_words.specs.declared.record.RecordOf.TheVariants.{Sub}
+use Rattle.history_words.specs.Trace.{submissions}
 use Rattle.fabric_laws.specs.Fabric.{Fabric}
 use Rattle.fabric_laws.specs.Lists.{Each}
 use Rattle.fabric_events.specs.Events.{Event, Seen}

@@ -2,7 +2,7 @@
 use Rattle.std.proofs.Common.{◌≡◌, ◌∙◌, ℕ, zero, suc, Bool, true, false, if◌then◌else◌, List, Option, Some, None, Result, Ok, Err, refl, ap}
 use Rattle.std.specs.Prelude.{IsOk, slice_get, nat_lt, ◌==◌, length}
 use Rattle.tlp_core.specs.TlpView.{TlpView}
-use Rattle.tlp_core.specs.declared.operation.Op.{Op}
+use Rattle.tlp_core.specs.Ops.{Op}
 use Rattle.seq_memory.specs.History.{MemoryView}
 use Rattle.completer_core.specs.Serving.{completion_to}
 use Rattle.requester_core.specs.RequesterView.{RequesterView, prepared, finished}

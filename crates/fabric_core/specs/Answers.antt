@@ -3,11 +3,11 @@
 -- the fabric and puts them back; `answer` is all events. They assume that memory can be allocated. `Refuses` adds the
 -- refusals of events for which it can't. `Happens` and `Refused`, at the end, are the words of all other clauses.
 use Rattle.std.specs.Prelude.{ℕ, ◌≡◌, ◌<◌, zero, suc, ◌==◌, nat_lt, List, length, if◌then◌else◌, Option, Some, None, Result, Ok, Err, slice_get, slice_set}
-use Rattle.tlp_core.specs.declared.operation.Op.{Op}
+use Rattle.tlp_core.specs.Ops.{Op}
 use Rattle.tlp_core.specs.TlpView.{TlpView}
 use Rattle.seq_memory.specs.History.{MemoryView}
 use Rattle.completer_core.specs.Serving.{completion_to, after_serving}
-use Rattle.requester_core.specs.declared.requester.Answer.{Answer}
+use Rattle.requester_core.specs.Answers.{Answer}
 use Rattle.tlp_core.specs.Operation.{op_of}
 use Rattle.tlp_core.specs.Layout.{Spells, canonical}
 use Rattle.requester_core.specs.RequesterView.{RequesterView, IsSound, prepared, after_opened, finished, after_finish}

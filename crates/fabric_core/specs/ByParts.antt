@@ -1,13 +1,13 @@
 -- What follows of an event that happens, by the parts that it used. What an event is stands in `Answers`; the law
 -- `each_event_happens_by_its_parts` says that this follows. Proofs use it: nobody has to believe it.
 use Rattle.std.specs.Prelude.{ℕ, ◌≡◌, ◌<◌, true, List, length, Option, Some, None, Result, Ok, slice_get, slice_set}
-use Rattle.tlp_core.specs.declared.operation.Op.{Op}
+use Rattle.tlp_core.specs.Ops.{Op}
 use Rattle.tlp_core.specs.TlpView.{TlpView}
 use Rattle.tlp_core.specs.Operation.{op_of}
 use Rattle.tlp_core.specs.Layout.{Spells, canonical}
 use Rattle.seq_memory.specs.History.{MemoryView}
 use Rattle.completer_core.specs.Serving.{completion_to, after_serving}
-use Rattle.requester_core.specs.declared.requester.Answer.{Answer}
+use Rattle.requester_core.specs.Answers.{Answer}
 use Rattle.requester_core.specs.RequesterView.{RequesterView, IsSound, prepared, after_opened, finished, after_finish}
 use Rattle.fc_credit.specs.Needs.{need_of}
 use Rattle.vc_queue.specs.Queue.{is_takeable}

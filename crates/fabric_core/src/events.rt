@@ -23,7 +23,7 @@ use requester_core::{Answer, Requester};
 use seq_memory::Memory;
 use seq12::Seq12;
 use switch_core::{ForwardRefusal, Port, forward_ends, route};
-use tlp_core::{Op, Tlp, op_of};
+use tlp_core::{Op, OpRef, Tlp, op_of};
 
 /// A packet enters a lane with its mark.
 fn enter(sender: &mut SenderEnd, tlp: &Tlp, mark: u32) -> Result<(), LaneRefusal>
@@ -38,7 +38,11 @@ fn enter(sender: &mut SenderEnd, tlp: &Tlp, mark: u32) -> Result<(), LaneRefusal
 
 /// The requester submits an operation: its request enters the lane, and its number is spent. Gives the number. `Submit`
 /// where no request is prepared, then `Lane`.
-pub fn submit(requester: &mut Requester, sender: &mut SenderEnd, op: &Op) -> Result<u32, Refusal>
+pub fn submit(
+    requester: &mut Requester,
+    sender: &mut SenderEnd,
+    op: &OpRef<'_>,
+) -> Result<u32, Refusal>
     ensures answers { IfOk result (λ number. submit_on requester.old sender.old op.now ≡ Ok (number, requester.new, sender.new)) }
     ensures refuses { IfErr result (λ r. Refuses lane_grows (submit_on requester.old sender.old op.now) r) }
     ensures fits { OnOk result (SubmitFits requester.old op.now) }

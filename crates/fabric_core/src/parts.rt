@@ -4,14 +4,14 @@ ghost use Rattle.std.specs.Result.{result_ok};
 
 use crate::config::Config;
 use crate::events;
-use fabric_events::{AnswerLent, EventRef, LaneName, LinkEvent, Refusal, SeenRef};
+use fabric_events::{EventRef, LaneName, LinkEvent, Refusal, SeenRef};
 use fc_credit::LaneCredits;
 use lane_core::LaneEnds;
 use requester_core::{Answer, Requester};
 use seq_memory::Memory;
 use std::marker::Model;
 use switch_core::{Port, RouteFault};
-use tlp_core::Op;
+use tlp_core::OpRef;
 
 /// The parts of a fabric by name; in each list that of port 1 is the first.
 #[derive(Drop)]
@@ -166,7 +166,7 @@ impl Parts {
         }
     }
 
-    fn submit(&mut self, port: u8, op: &Op) -> Result<u32, Refusal>
+    fn submit(&mut self, port: u8, op: &OpRef<'_>) -> Result<u32, Refusal>
         requires { length self.old.up ≡ length self.old.requesters }
         ensures answers { IfOk result (λ number. submit_at self.old port op.now ≡ Ok (Seen.Submitted number, self.new)) }
         ensures refuses { IfErr result (λ r. Refused self.old (Event.Submit port op.now) r) }
@@ -252,7 +252,7 @@ impl Parts {
         ensures err { OnErr result (self.new ≡ self.old) }
     {
         *room = self.collect(port)?;
-        Ok(SeenRef::Collected(AnswerLent::new(room)))
+        Ok(SeenRef::Collected(room.lend()))
     }
 
     fn forward(&mut self, name: LaneName, place: usize) -> Result<u8, Refusal>
@@ -281,7 +281,7 @@ impl Parts {
         ensures err { OnErr result (self.new ≡ self.old) }
     {
         match event {
-            EventRef::Submit(port, op) => Ok(SeenRef::Submitted(self.submit(*port, op.get())?)),
+            EventRef::Submit(port, op) => Ok(SeenRef::Submitted(self.submit(*port, op)?)),
             EventRef::Transmit(lane) => self.link(*lane, LinkEvent::Transmit),
             EventRef::Deliver(lane, fate) => self.link(*lane, LinkEvent::Deliver(*fate)),
             EventRef::SendDllp(lane, kind) => self.link(*lane, LinkEvent::SendDllp(*kind)),

@@ -2,14 +2,14 @@
 use Rattle.std.proofs.Common.{ℕ, ◌≡◌, ◌+◌, ◌<◌, zero, suc, Bool, true, false, List, [], ◌∷◌, ◌++◌, length, map, get_or, refl, sym, ap, ap₂, subst, ◌∙◌, arith}
 use Rattle.std.specs.Prelude.{slice_get, slice_set, Some}
 use Rattle.tlp_core.specs.TlpView.{TlpView}
-use Rattle.tlp_core.specs.declared.operation.Op.{Op}
+use Rattle.tlp_core.specs.Ops.{Op}
 use Rattle.tlp_core.specs.declared.operation.Width.{Width}
-use Rattle.seq_memory.specs.declared.Entry.{Entry}
+use Rattle.seq_memory.specs.Entries.{Entry}
 use Rattle.seq_memory.specs.History.{is_addition}
 use Rattle.lane_ends.specs.Steps.{LaneEndsView}
 use Rattle.lane_core.specs.Calls.{content}
-use Rattle.history_check.specs.declared.Record.{Record}
-use Rattle.history_check.specs.declared.Record.TheVariants.{Sub, Ans}
+use Rattle.history_words.specs.Records.{Record}
+use Rattle.history_words.specs.declared.record.RecordOf.TheVariants.{Sub, Ans}
 use Rattle.fabric_laws.specs.Fabric.{Fabric, items, whole_of}
 use Rattle.fabric_laws.specs.Packets.{marked_packet}
 use Rattle.fabric_laws.specs.Lists.{one_if}

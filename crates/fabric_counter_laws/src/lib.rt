@@ -3,12 +3,12 @@
 
 ghost use Rattle.std.specs.Prelude.{◌≡◌, ◌-◌, ◌%◌, ◌*◌, ◌^◌, List, None, ℕ};
 ghost use Rattle.byteorder.specs.Endian.{little_number};
-ghost use Rattle.tlp_core.specs.declared.operation.Op.TheVariants as ops;
+ghost use Rattle.tlp_core.specs.declared.operation.OpOf.TheVariants as ops;
 ghost use Rattle.tlp_core.specs.declared.operation.Width.{Width};
 ghost use Rattle.tlp_core.specs.Operation.{size_of};
 ghost use Rattle.seq_memory.specs.Step.{refusal, bytes_at};
 ghost use Rattle.seq_memory.specs.History.{bytes_of, extent_of};
-ghost use Rattle.history_check.specs.declared.Record.{Record};
+ghost use Rattle.history_words.specs.Records.{Record};
 ghost use Rattle.fabric_laws.specs.Fabric.{Fabric};
 ghost use Rattle.fabric_events.specs.Events.{Event};
 ghost use Rattle.fabric_core.specs.declared.config.Config.{Config};

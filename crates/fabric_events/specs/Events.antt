@@ -1,6 +1,6 @@
 -- An event and what is seen of it, as values.
-use Rattle.tlp_core.specs.declared.operation.Op.{Op}
-use Rattle.requester_core.specs.declared.requester.Answer.{Answer}
+use Rattle.tlp_core.specs.Ops.{Op}
+use Rattle.requester_core.specs.Answers.{Answer}
 use Rattle.fabric_events.specs.declared.event.EventOf.{EventOf}
 use Rattle.fabric_events.specs.declared.event.SeenOf.{SeenOf}
 

@@ -9,4 +9,4 @@ mod lent;
 
 pub use event::{Event, EventOf, LaneName, LinkEvent, Seen, SeenOf};
 pub use fault::Refusal;
-pub use lent::{AnswerLent, EventRef, OpLent, SeenRef, copy_of_answer};
+pub use lent::{EventRef, SeenRef};

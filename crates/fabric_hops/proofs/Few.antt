@@ -13,7 +13,7 @@ use Rattle.tlp_core.specs.declared.packet.Body.{Body}
 use Rattle.tlp_core.specs.Operation.{op_at, op_of}
 use Rattle.requester_core.specs.RequesterView.{RequesterView}
 use Rattle.requester_core.specs.declared.requester.OpenRequest.{OpenRequest}
-use Rattle.history_check.specs.Trace.{is_request}
+use Rattle.history_words.specs.Trace.{is_request}
 use Rattle.fc_credit.specs.declared.limits.LaneCredits.{LaneCredits}
 use Rattle.fc_credit.specs.declared.needs.Need.{Need}
 use Rattle.fc_credit.specs.Account.{demand, Event, new_direction, first_numbers, after_events, numbers_in, IsRight as IsBalanced}

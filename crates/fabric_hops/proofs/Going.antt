@@ -12,7 +12,7 @@ use Rattle.tlp_core.specs.Operation.{op_at, op_of, is_completion}
 use Rattle.seq_memory.specs.Limits.{IsBlock}
 use Rattle.seq_memory.specs.History.{MemoryView}
 use Rattle.completer_core.specs.Serving.{completion_to}
-use Rattle.requester_core.specs.declared.requester.Answer.{Answer}
+use Rattle.requester_core.specs.Answers.{Answer}
 use Rattle.requester_core.specs.RequesterView.{RequesterView, finished}
 use Rattle.fc_credit.specs.declared.limits.LaneCredits.{LaneCredits}
 use Rattle.fc_credit.specs.Needs.{need_of}

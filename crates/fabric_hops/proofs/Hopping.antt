@@ -6,7 +6,7 @@ use Rattle.dllp_core.specs.declared.packet.Class.TheVariants.{Posted}
 use Rattle.tlp_core.specs.TlpView.{TlpView}
 use Rattle.tlp_core.specs.Operation.{op_of}
 use Rattle.completer_core.specs.Serving.{completion_to}
-use Rattle.requester_core.specs.declared.requester.Answer.{Answer}
+use Rattle.requester_core.specs.Answers.{Answer}
 use Rattle.fc_credit.specs.declared.limits.LaneCredits.{LaneCredits}
 use Rattle.fc_credit.specs.Needs.{class_of}
 use Rattle.fc_credit.specs.Credits.{same}

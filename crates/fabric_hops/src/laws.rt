@@ -22,8 +22,10 @@ use lane_core::{
 /// quiet.
 pub fn a_flushed_fabric_is_not_stuck()
     ensures goes { (f : Fabric) → IsSoundFabric f → AreFlushed f → ¬ IsQuiet f → (event : Event) × IsOldestHop event × IsOk (answer f event) }
-    ensures hop { (f f' : Fabric) (event : Event) (what : Seen) → IsSoundFabric f → IsHop event → answer f event ≡ Ok (what, f') → hops_left f' + 1 ≡ hops_left f }
-    ensures link { (f f' : Fabric) (event : Event) (what : Seen) → IsSoundFabric f → IsOfLink event → answer f event ≡ Ok (what, f') → hops_left f' ≡ hops_left f }
+    ensures hop { (f f' : Fabric) (event : Event) (what : Seen) → IsSoundFabric f → IsHop event → answer f event ≡ Ok (what, f') →
+        hops_left f' + 1 ≡ hops_left f }
+    ensures link { (f f' : Fabric) (event : Event) (what : Seen) → IsSoundFabric f → IsOfLink event → answer f event ≡ Ok (what, f') →
+        hops_left f' ≡ hops_left f }
     ensures none { (f : Fabric) → (hops_left f ≡ 0) ↔ IsQuiet f }
 {
     a_completion_is_spelled();

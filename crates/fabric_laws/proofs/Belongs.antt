@@ -6,12 +6,12 @@ use native.Mathlib.Decide.{ℕ_discrete, dec_lt}
 use mathlib.Core.Logic.{dite}
 use Rattle.fabric_laws.specs.Lists.{Each, one_if, count}
 use Rattle.fabric_laws.specs.Whole.{Op, is_posted, Entry, MarkedPacket, reply_after, RequesterView, View, Whole, view, path, up_of, down_of, requester_of, open_number, entry_of, marked_request, memory, memory_of, Extent, Reply}
-use Rattle.history_check.specs.Trace.{is_request}
+use Rattle.history_words.specs.Trace.{is_request}
 use Rattle.fabric_laws.specs.Sound.{times, Sound, SoundAt, IsReply}
 use Rattle.fabric_laws.specs.Trace.{IsMade}
-use Rattle.history_check.specs.declared.Record.{Record}
-use Rattle.history_check.specs.declared.Record.TheVariants.{Sub, Ans}
-use Rattle.history_check.specs.Trace.{answers_to, stands, IsExplained, IsLinear, IsNumbered}
+use Rattle.history_words.specs.Records.{Record}
+use Rattle.history_words.specs.declared.record.RecordOf.TheVariants.{Sub, Ans}
+use Rattle.history_words.specs.Trace.{answers_to, stands, IsExplained, IsLinear, IsNumbered}
 use Rattle.fabric_laws.specs.Trace.{moment, IsRising, IsPending, Belongs}
 use Rattle.fabric_laws.proofs.Records.{made, made_ans, made_own, made_other, made_at, answer_is, none_any, none_counted, some_any, reply_there}
 use Rattle.fabric_laws.specs.Steps.{IsOpened, IsClosed}

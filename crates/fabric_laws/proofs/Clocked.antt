@@ -4,9 +4,9 @@ use Rattle.std.specs.Prelude.{slice_get, ◌||◌}
 use Rattle.std.specs.List.{list_any}
 use Rattle.std.proofs.lemmas.Bool.{cases_lt, eq-eqb}
 use Rattle.std.proofs.lemmas.Option.{same_Some}
-use Rattle.history_check.specs.declared.Record.{Record}
-use Rattle.history_check.specs.Clocks.{IsClocked}
-use Rattle.history_check.specs.Trace.{is_request, stands}
+use Rattle.history_words.specs.Records.{Record}
+use Rattle.history_words.specs.Clocks.{IsClocked}
+use Rattle.history_words.specs.Trace.{is_request, stands}
 use Rattle.fabric_laws.specs.Whole.{Whole, Entry, memory_of}
 use Rattle.fabric_laws.specs.Trace.{Belongs}
 

@@ -5,7 +5,7 @@ use mathlib.Core.Logic.{dite}
 use native.Mathlib.Decide.{ℕ_discrete}
 use Rattle.fabric_laws.specs.Lists.{Each, one_if}
 use Rattle.fabric_laws.specs.Whole.{Entry, MarkedPacket, Op, View, RequesterView, open_number, path, entry_of, Extent}
-use Rattle.history_check.specs.Trace.{is_request}
+use Rattle.history_words.specs.Trace.{is_request}
 use Rattle.fabric_laws.specs.Sound.{times, is_answer, answers, served, IsTagged, IsSized, IsReply, IsReplyFor, SoundAt}
 use Rattle.fabric_laws.specs.Steps.{IsClosed}
 use Rattle.fabric_laws.proofs.Lists.{each_append, each_split, each_weaken, each_join, each_unmap, each_counted, count_append, count_cons, count_at}

@@ -4,7 +4,7 @@ use Rattle.std.proofs.lemmas.List.{map-append}
 use Rattle.dllp_core.specs.declared.packet.Class.TheVariants as classes
 use Rattle.fabric_laws.specs.Lists.{Each, Pairs, one_if}
 use Rattle.fabric_laws.specs.Whole.{Entry, MarkedPacket, Op, Class, class_of_op, is_posted, View, RequesterView, size_at, path, entry_of, Extent}
-use Rattle.history_check.specs.Trace.{is_request}
+use Rattle.history_words.specs.Trace.{is_request}
 use Rattle.fabric_laws.specs.Sound.{times, is_answer, answers, InOrder, IsRequest, IsRequestOf, IsCompletion, IsCompletionFor, IsTagged, IsAskedBy, IsSized, IsReplyFor, SoundAt}
 use Rattle.fabric_laws.proofs.Lists.{each_append, each_split, each_weaken, each_always, each_insert, each_remove, each_overtake, pairs_insert, pairs_overtake, count_insert, count_push, count_map_insert, count_map_push}
 use Rattle.fabric_laws.proofs.Numbers.{miss_left, path_times}

@@ -6,9 +6,9 @@ use native.Mathlib.Decide.{ℕ_discrete}
 use Rattle.fabric_laws.specs.Lists.{Each}
 use Rattle.fabric_laws.specs.Whole.{Entry, MarkedPacket, Whole, View, view, path, up_of, down_of, requester_of, entry_of, memory_of}
 use Rattle.fabric_laws.specs.Sound.{Sound, IsRequestOf}
-use Rattle.history_check.specs.declared.Record.{Record}
-use Rattle.history_check.specs.declared.Record.TheVariants.{Sub, Ans}
-use Rattle.history_check.specs.Trace.{submissions, Explains}
+use Rattle.history_words.specs.Records.{Record}
+use Rattle.history_words.specs.declared.record.RecordOf.TheVariants.{Sub, Ans}
+use Rattle.history_words.specs.Trace.{submissions, Explains}
 use Rattle.fabric_laws.specs.Trace.{Belongs}
 use Rattle.fabric_laws.specs.Steps.{IsForward, IsServe, IsReturn, Step, submits, forwards, serves, returns, collects, links, Run, stays, goes}
 use Rattle.fabric_laws.proofs.Lists.{each_remove}

@@ -4,7 +4,7 @@ use mathlib.Core.Logic.{dite}
 use native.Mathlib.Decide.{ℕ_discrete}
 use Rattle.fabric_laws.specs.Whole.{Op, MarkedPacket, Whole, view, up_of, down_of, requester_of, marked_request, reply_after, Reply}
 use Rattle.fabric_laws.specs.Sound.{Sound, SoundAt, IsRequestOf}
-use Rattle.history_check.specs.declared.Record.{Record}
+use Rattle.history_words.specs.Records.{Record}
 use Rattle.fabric_laws.specs.Steps.{IsSubmit, IsForward, IsServe, IsReturn, IsCollect, Step, submits, forwards, serves, returns, collects, links, Run, stays, goes}
 use Rattle.fabric_laws.proofs.Lists.{each_remove}
 use Rattle.fabric_laws.proofs.Views.{view_up, view_up_other, view_down, view_down_other, view_submit, view_submit_other, view_collect, view_collect_other}

@@ -6,9 +6,9 @@ use native.Mathlib.Decide.{dec_lt}
 use mathlib.Core.Logic.{dite}
 use Rattle.fabric_laws.specs.Lists.{one_if, count}
 use Rattle.fabric_laws.specs.Whole.{Op, is_posted, Entry, MarkedPacket, View, Whole, view, path, entry_of, open_number}
-use Rattle.history_check.specs.Trace.{is_request}
+use Rattle.history_words.specs.Trace.{is_request}
 use Rattle.fabric_laws.specs.Sound.{is_answer, times, answers, served, Sound, SoundAt, InOrder}
-use Rattle.history_check.specs.Trace.{stands, IsLegal}
+use Rattle.history_words.specs.Trace.{stands, IsLegal}
 use Rattle.fabric_laws.specs.Trace.{IsMade}
 use Rattle.fabric_laws.proofs.Records.{none_any, some_any}
 use Rattle.fabric_laws.proofs.Lists.{each_split, each_at, get_before, get_within, take_before, count_nil}

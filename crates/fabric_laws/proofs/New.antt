@@ -3,7 +3,7 @@ use Rattle.std.proofs.Common.{◌≡◌, ℕ, [], length, refl, sym, ap, ◌∙�
 use Rattle.std.specs.Prelude.{slice_get}
 use Rattle.fabric_laws.specs.Lists.{Each}
 use Rattle.fabric_laws.specs.Whole.{Entry, RequesterView, Whole, View, view, path, requester_of, open_number, Extent}
-use Rattle.history_check.specs.Trace.{is_request}
+use Rattle.history_words.specs.Trace.{is_request}
 use Rattle.fabric_laws.specs.Sound.{Sound, SoundAt, answers, served, is_answer}
 use Rattle.fabric_laws.specs.Trace.{Belongs}
 use Rattle.fabric_laws.proofs.Records.{made}

@@ -4,7 +4,7 @@ use Rattle.std.specs.Prelude.{nat_lt}
 use Rattle.std.proofs.lemmas.Bool.Decides.{nat_tests}
 use Rattle.fabric_laws.specs.Lists.{Each, one_if}
 use Rattle.fabric_laws.specs.Whole.{Entry, View, path, entry_of}
-use Rattle.history_check.specs.Trace.{is_request}
+use Rattle.history_words.specs.Trace.{is_request}
 use Rattle.fabric_laws.specs.Sound.{times, SoundAt}
 use Rattle.fabric_laws.proofs.Lists.{each_counted, count_append}
 

@@ -7,8 +7,8 @@ use Rattle.tlp_core.specs.declared.packet.Body.{Body}
 use Rattle.tlp_core.specs.declared.packet.Body.TheVariants as bodies
 use Rattle.tlp_core.specs.TlpView.{TlpView}
 use Rattle.tlp_core.specs.Operation.{op_of, op_at}
-use Rattle.seq_memory.specs.declared.Reply.{Reply}
-use Rattle.seq_memory.specs.declared.Reply.TheVariants as replies
+use Rattle.seq_memory.specs.Entries.{Reply}
+use Rattle.seq_memory.specs.declared.reply.ReplyOf.TheVariants as replies
 use Rattle.completer_core.specs.Completion.{completion_of, completion_for, unless_posted}
 use Rattle.fabric_laws.specs.Whole.{Op, class_of_op, no_op, marked_completion}
 use Rattle.fabric_laws.specs.Sound.{IsRequest}

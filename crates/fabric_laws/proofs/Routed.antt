@@ -2,7 +2,7 @@
 use Rattle.std.proofs.Common.{◌≡◌, ℕ, zero, suc, ◌*◌, ◌/◌, Bool, true, List, [], ◌∷◌, ◌++◌, length, map, get_or, refl, sym, ap, ◌∙◌, subst, arith, Option, Some, None, eq-eqb}
 use Rattle.std.specs.Prelude.{is_some, replicate, slice_get, slice_set, remove, if◌then◌else◌, option_and_then, option_map, Result, Ok, Err}
 use Rattle.std.proofs.lemmas.List.{length-set}
-use Rattle.tlp_core.specs.declared.operation.Op.{Op}
+use Rattle.tlp_core.specs.Ops.{Op}
 use Rattle.tlp_core.specs.declared.packet.Kind.{Kind}
 use Rattle.tlp_core.specs.declared.packet.Kind.TheVariants as kinds
 use Rattle.tlp_core.specs.declared.packet.Body.{Body}
@@ -10,14 +10,14 @@ use Rattle.tlp_core.specs.declared.packet.Body.TheVariants as bodies
 use Rattle.tlp_core.specs.declared.packet.Status.TheVariants as statuses
 use Rattle.tlp_core.specs.TlpView.{TlpView}
 use Rattle.tlp_core.specs.Operation.{op_of, is_completion}
-use Rattle.seq_memory.specs.declared.Reply.{Reply}
-use Rattle.seq_memory.specs.declared.Reply.TheVariants as replies
+use Rattle.seq_memory.specs.Entries.{Reply}
+use Rattle.seq_memory.specs.declared.reply.ReplyOf.TheVariants as replies
 use Rattle.seq_memory.specs.Step.{answer}
 use Rattle.seq_memory.specs.History.{bytes_of}
 use Rattle.completer_core.specs.Completion.{completion_for, completion_of}
 use Rattle.completer_core.specs.Serving.{completion_to}
 use Rattle.requester_core.specs.declared.requester.OpenRequest.{OpenRequest}
-use Rattle.requester_core.specs.declared.requester.Answer.{Answer}
+use Rattle.requester_core.specs.Answers.{Answer}
 use Rattle.requester_core.specs.declared.fault.CompletionFault.{CompletionFault}
 use Rattle.requester_core.specs.RequesterView.{RequesterView, after_opened, after_finish, completed, is_ours, reply_carried, answered, finished, finished_by, closes}
 use Rattle.lane_ends.specs.Steps.{LaneEndsView}

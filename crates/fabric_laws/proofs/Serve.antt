@@ -6,7 +6,7 @@ use native.Mathlib.Decide.{ℕ_discrete}
 use Rattle.dllp_core.specs.declared.packet.Class.TheVariants as classes
 use Rattle.fabric_laws.specs.Lists.{Each, Pairs, one_if}
 use Rattle.fabric_laws.specs.Whole.{Entry, MarkedPacket, Op, reply_after, is_posted, View, RequesterView, open_number, count_of, FitsSize, size_at, path, entry_of, completions_for, marked_completion, Extent, Reply}
-use Rattle.history_check.specs.Trace.{is_request}
+use Rattle.history_words.specs.Trace.{is_request}
 use Rattle.fabric_laws.specs.Sound.{times, is_answer, answers, served, InOrder, IsRequest, IsCompletion, IsTagged, IsAskedBy, IsSized, IsReply, IsReplyFor, SoundAt}
 use Rattle.fabric_laws.proofs.Lists.{each_append, each_split, each_weaken, each_remove, each_overtake, pairs_overtake, count_append, count_nil, count_one, count_push, count_map_insert, get_before, get_seam, take_before, take_all, get_within}
 use Rattle.fabric_laws.proofs.Numbers.{hit, miss_left, miss_right, path_times}

@@ -2,14 +2,14 @@
 use Rattle.std.proofs.Common.{◌≡◌, ℕ, ◌-◌, ◌*◌, Bool, true, false, List, length, refl, sym, ap, ◌∙◌, subst, Option, Some, None}
 use Rattle.std.specs.Prelude.{IsSomeAnd, option_and_then, is_some, not, ◌||◌, if◌then◌else◌}
 use Rattle.tlp_core.specs.declared.fault.TlpFault.{TlpFault}
-use Rattle.tlp_core.specs.declared.operation.Op.{Op}
-use Rattle.tlp_core.specs.declared.operation.Op.TheVariants as ops
+use Rattle.tlp_core.specs.Ops.{Op}
+use Rattle.tlp_core.specs.declared.operation.OpOf.TheVariants as ops
 use Rattle.tlp_core.specs.TlpView.{TlpView}
 use Rattle.tlp_core.specs.Operation.{op_of, op_fault, is_posted, address_of, count_of}
 use Rattle.seq_memory.specs.declared.Refusal.{Refusal}
 use Rattle.seq_memory.specs.declared.Refusal.TheVariants as refusals
-use Rattle.seq_memory.specs.declared.Reply.{Reply}
-use Rattle.seq_memory.specs.declared.Reply.TheVariants as replies
+use Rattle.seq_memory.specs.Entries.{Reply}
+use Rattle.seq_memory.specs.declared.reply.ReplyOf.TheVariants as replies
 use Rattle.seq_memory.specs.Step.{answer, answer_by, read_back, refusal, bytes_at, is_in_block, is_inside, IsSizedFor}
 use Rattle.seq_memory.specs.History.{MemoryView, bytes_of}
 use Rattle.completer_core.specs.Completion.{completion_for, completion_of}

@@ -6,7 +6,7 @@ use mathlib.Core.Logic.{dite}
 use native.Mathlib.Decide.{ℕ_discrete}
 use Rattle.fabric_laws.specs.Lists.{Each, Pairs, one_if}
 use Rattle.fabric_laws.specs.Whole.{Entry, MarkedPacket, Op, is_posted, View, RequesterView, open_number, size_at, path, entry_of, marked_request}
-use Rattle.history_check.specs.Trace.{is_request}
+use Rattle.history_words.specs.Trace.{is_request}
 use Rattle.fabric_laws.specs.Sound.{times, answers, served, InOrder, IsRequestOf, IsTagged, IsAskedBy, IsSized, IsReply, IsReplyFor, SoundAt}
 use Rattle.fabric_laws.specs.Steps.{IsOpened}
 use Rattle.fabric_laws.proofs.Lists.{each_append, each_weaken, pairs_push, count_append, count_one}

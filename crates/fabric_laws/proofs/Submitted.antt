@@ -6,9 +6,9 @@ use Rattle.std.proofs.lemmas.Bool.Decides.{nat_tests}
 use Rattle.std.proofs.lemmas.Option.{none-some, same_Some, slice_get_within}
 use native.Mathlib.Decide.{ℕ_discrete, dec_lt}
 use mathlib.Core.Logic.{dite}
-use Rattle.history_check.specs.declared.Record.{Record}
-use Rattle.history_check.specs.declared.Record.TheVariants.{Sub}
-use Rattle.history_check.specs.Trace.{is_request, submissions, IsLegal}
+use Rattle.history_words.specs.Records.{Record}
+use Rattle.history_words.specs.declared.record.RecordOf.TheVariants.{Sub}
+use Rattle.history_words.specs.Trace.{is_request, submissions, IsLegal}
 use Rattle.fabric_laws.specs.Lists.{Each, one_if, count}
 use Rattle.fabric_laws.specs.ListFacts.{each_at, get_before, get_seam}
 use Rattle.fabric_laws.specs.Whole.{Op, no_op, Entry, MarkedPacket, RequesterView, View, Whole, view, path, up_of, requester_of, entry_of, marked_request, Reply}

@@ -1,10 +1,10 @@
 -- Each event on the parts of a fabric: what it finds, and what it leaves.
 use Rattle.std.specs.Prelude.{ℕ, ◌≡◌, ◌/◌, suc, true, List, [], ◌∷◌, ◌++◌, remove, slice_get, slice_set, Option, Some, None, Ok}
-use Rattle.tlp_core.specs.declared.operation.Op.{Op}
+use Rattle.tlp_core.specs.Ops.{Op}
 use Rattle.tlp_core.specs.TlpView.{TlpView}
 use Rattle.tlp_core.specs.Operation.{op_of}
 use Rattle.completer_core.specs.Serving.{completion_to, after_serving}
-use Rattle.requester_core.specs.declared.requester.Answer.{Answer}
+use Rattle.requester_core.specs.Answers.{Answer}
 use Rattle.requester_core.specs.RequesterView.{RequesterView, prepared, after_opened, finished, after_finish, IsSound}
 use Rattle.vc_queue.specs.Queue.{is_takeable}
 use Rattle.lane_ends.specs.Steps.{LaneEndsView}

@@ -1,6 +1,6 @@
 -- A sound fabric.
 use Rattle.std.specs.Prelude.{ℕ, ◌≡◌, ◌+◌, ◌<◌, Bool, true, false, ◌&&◌, ◌==◌, nat_lt, List, ◌++◌, take, Option, Some, None, slice_get}
-use Rattle.history_check.specs.Trace.{is_request}
+use Rattle.history_words.specs.Trace.{is_request}
 use Rattle.dllp_core.specs.declared.packet.Class.TheVariants as classes
 use Rattle.fabric_laws.specs.Lists.{Each, Pairs, one_if, count}
 use Rattle.fabric_laws.specs.Whole.{Op, is_posted, Entry, MarkedPacket, reply_after, RequesterView, Whole, View, view, open_number, count_of, FitsSize, size_at, path, class_of_op, Extent}

@@ -2,8 +2,8 @@
 use Rattle.std.specs.Prelude.{ℕ, ◌≡◌, ◌≢◌, ◌+◌, ◌<◌, true, false, List, [], ◌∷◌, ◌++◌, length, Some, None, slice_set}
 use Rattle.dllp_core.specs.declared.packet.Class.TheVariants as classes
 use Rattle.fabric_laws.specs.Lists.{Each}
-use Rattle.history_check.specs.declared.Record.{Record}
-use Rattle.history_check.specs.declared.Record.TheVariants.{Sub, Ans}
+use Rattle.history_words.specs.Records.{Record}
+use Rattle.history_words.specs.declared.record.RecordOf.TheVariants.{Sub, Ans}
 use Rattle.fabric_laws.specs.Whole.{Op, is_posted, MarkedPacket, reply_after, RequesterView, Whole, up_of, down_of, requester_of, open_number, count_of, FitsSize, size_at, entry_of, marked_request, completions_for, Reply}
 
 -- the requester after a submission

@@ -1,12 +1,12 @@
 -- When the records of a trace belong to a fabric.
 use Rattle.std.specs.Prelude.{ℕ, ◌≡◌, ◌≤◌, ◌+◌, false, List, [], ◌∷◌, length, take, Some, slice_get}
 use Rattle.std.specs.List.{list_any}
-use Rattle.tlp_core.specs.declared.operation.Op.{Op}
+use Rattle.tlp_core.specs.Ops.{Op}
 use Rattle.tlp_core.specs.Operation.{is_posted}
-use Rattle.history_check.specs.declared.Record.{Record}
-use Rattle.history_check.specs.declared.Record.TheVariants.{Sub, Ans}
-pub use Rattle.history_check.specs.Flaws.{moment}
-use Rattle.history_check.specs.Trace.{submissions, IsNumbered, answers_to, stands, IsLinear}
+use Rattle.history_words.specs.Records.{Record}
+use Rattle.history_words.specs.declared.record.RecordOf.TheVariants.{Sub, Ans}
+pub use Rattle.history_words.specs.Flaws.{moment}
+use Rattle.history_words.specs.Trace.{submissions, IsNumbered, answers_to, stands, IsLinear}
 use Rattle.fabric_laws.specs.Lists.{Each}
 use Rattle.fabric_laws.specs.Whole.{Whole, RequesterView, View, view, memory_of, open_number, requester_of, path}
 

@@ -1,13 +1,13 @@
 -- The fabric as one value.
 use Rattle.std.specs.Prelude.{ℕ, ◌≡◌, if◌then◌else◌, List, [], ◌∷◌, ◌++◌, map, length, Option, Some, None, option_map}
 use Rattle.std.proofs.Common.{get_or}
-pub use Rattle.tlp_core.specs.declared.operation.Op.{Op}
+pub use Rattle.tlp_core.specs.Ops.{Op}
 pub use Rattle.tlp_core.specs.Operation.{is_posted}
 pub use Rattle.tlp_core.specs.Operation.{count_of}
-pub use Rattle.seq_memory.specs.declared.Entry.{Entry}
-pub use Rattle.seq_memory.specs.declared.Reply.{Reply}
-use Rattle.seq_memory.specs.declared.Reply.TheVariants as replies
-use Rattle.tlp_core.specs.declared.operation.Op.TheVariants as ops
+pub use Rattle.seq_memory.specs.Entries.{Entry}
+pub use Rattle.seq_memory.specs.Entries.{Reply}
+use Rattle.seq_memory.specs.declared.reply.ReplyOf.TheVariants as replies
+use Rattle.tlp_core.specs.declared.operation.OpOf.TheVariants as ops
 pub use Rattle.dllp_core.specs.declared.packet.Class.{Class}
 use Rattle.dllp_core.specs.declared.packet.Class.TheVariants as classes
 pub use Rattle.requester_core.specs.RequesterView.{RequesterView}

@@ -1,18 +1,18 @@
 //! What holds of a fabric whatever steps it takes.
 ghost use Rattle.std.specs.Prelude.{◌≡◌, ◌≢◌, ◌<◌, ℕ, suc, Some, Ok, List, [], ◌∷◌, ◌++◌, length, slice_get, is_some, true};
-ghost use Rattle.tlp_core.specs.declared.operation.Op.{Op};
-ghost use Rattle.seq_memory.specs.declared.Entry.{Entry};
-ghost use Rattle.seq_memory.specs.declared.Reply.{Reply};
-ghost use Rattle.requester_core.specs.declared.requester.Answer.{Answer};
+ghost use Rattle.tlp_core.specs.Ops.{Op};
+ghost use Rattle.seq_memory.specs.Entries.{Entry};
+ghost use Rattle.seq_memory.specs.Entries.{Reply};
+ghost use Rattle.requester_core.specs.Answers.{Answer};
 ghost use Rattle.tlp_core.specs.TlpView.{TlpView};
 ghost use Rattle.tlp_core.specs.Operation.{op_of};
 ghost use Rattle.requester_core.specs.RequesterView.{RequesterView, finished};
 ghost use Rattle.lane_ends.specs.Steps.{LaneEndsView};
 ghost use Rattle.lane_core.specs.Calls.{content};
-ghost use Rattle.history_check.specs.declared.Record.{Record};
-ghost use Rattle.history_check.specs.declared.Record.TheVariants.{Sub, Ans};
-ghost use Rattle.history_check.specs.Clocks.{IsClocked};
-ghost use Rattle.history_check.specs.Trace.{Explains, IsLegal, answers_to, submissions};
+ghost use Rattle.history_words.specs.Records.{Record};
+ghost use Rattle.history_words.specs.declared.record.RecordOf.TheVariants.{Sub, Ans};
+ghost use Rattle.history_words.specs.Clocks.{IsClocked};
+ghost use Rattle.history_words.specs.Trace.{Explains, IsLegal, answers_to, submissions};
 ghost use Rattle.fabric_laws.specs.Whole.{Whole, MarkedPacket, view, memory_of, up_of, down_of, requester_of, open_number};
 ghost use Rattle.fabric_laws.specs.Sound.{Sound, times};
 ghost use Rattle.fabric_laws.specs.Trace.{Belongs, IsMade, submitted_by, submission_count};
@@ -58,11 +58,13 @@ pub fn new_parts_make_a_new_fabric()
 /// Each event on the real parts, the packets in the lanes and the tag tables of the requesters, is
 /// a step: with the record of what was submitted or collected, and else with none.
 pub fn each_event_is_a_step()
-    ensures submitted { (f f' : Fabric) (i : ℕ) (op : Op) (e : IsSubmitted f i op f') → Step (whole_of f) (whole_of f') (Sub (suc i) e.number op (length f.memory.entries) ∷ []) }
+    ensures submitted { (f f' : Fabric) (i : ℕ) (op : Op) (e : IsSubmitted f i op f') →
+        Step (whole_of f) (whole_of f') (Sub (suc i) e.number op (length f.memory.entries) ∷ []) }
     ensures forwarded { (f f' : Fabric) (i place : ℕ) → IsForwarded f i place f' → Step (whole_of f) (whole_of f') [] }
     ensures served { (f f' : Fabric) (place : ℕ) → IsServed f place f' → Step (whole_of f) (whole_of f') [] }
     ensures returned { (f f' : Fabric) (i place : ℕ) → IsReturned f i place f' → Step (whole_of f) (whole_of f') [] }
-    ensures collected { (f f' : Fabric) (i : ℕ) (a : Answer) → IsCollected f i a f' → Step (whole_of f) (whole_of f') (Ans (suc i) a.number a.reply (length f.memory.entries) ∷ []) }
+    ensures collected { (f f' : Fabric) (i : ℕ) (a : Answer) → IsCollected f i a f' →
+        Step (whole_of f) (whole_of f') (Ans (suc i) a.number a.reply (length f.memory.entries) ∷ []) }
 {
     a_served_completion_has_its_length();
     history_grows_by_steps();
@@ -81,7 +83,8 @@ pub fn each_link_call_is_a_step()
 pub fn what_was_submitted_is_one_list()
     ensures there { (p : Whole) (i : ℕ) → Sound p → (ops : List Op) × IsMade i (view p i) ops }
     ensures one { (p : Whole) (i : ℕ) (ops others : List Op) → Sound p → IsMade i (view p i) ops → IsMade i (view p i) others → ops ≡ others }
-    ensures grows { (p p' : Whole) (rs : List Record) (i : ℕ) (ops : List Op) → Sound p → Step p p' rs → IsMade i (view p i) ops → IsMade i (view p' i) (ops ++ submissions rs i) }
+    ensures grows { (p p' : Whole) (rs : List Record) (i : ℕ) (ops : List Op) → Sound p → Step p p' rs → IsMade i (view p i) ops →
+        IsMade i (view p' i) (ops ++ submissions rs i) }
 {}
 
 /// The history of a sound fabric is legal for what its requesters submitted.
@@ -102,7 +105,8 @@ pub fn what_a_record_adds()
 /// in the history, and none waits for its completion.
 pub fn quiet_is_all_acted()
     ensures acted { (p : Whole) (i k : ℕ) → Sound p → p.inward ≡ [] → up_of p i ≡ [] → k < (requester_of p i).next → times i k p.history ≡ 1 }
-    ensures answered { (p : Whole) (i t k : ℕ) → Sound p → p.inward ≡ [] → up_of p i ≡ [] → p.outward ≡ [] → down_of p i ≡ [] → open_number (requester_of p i) t ≢ Some k }
+    ensures answered { (p : Whole) (i t k : ℕ) → Sound p → p.inward ≡ [] → up_of p i ≡ [] → p.outward ≡ [] → down_of p i ≡ [] →
+        open_number (requester_of p i) t ≢ Some k }
 {}
 
 /// The history of a sound fabric whose lanes hold no request has as many entries as its requesters submitted
@@ -129,9 +133,11 @@ pub fn packets_keep_their_ports()
 /// What a requester of a sound fabric collects is a completion that it expects, so it is never
 /// refused; and every completion on its way back has a port to go to.
 pub fn no_completion_is_strange()
-    ensures expected { (p : Whole) (i : ℕ) (c : MarkedPacket) (rest : List MarkedPacket) → Sound p → down_of p i ≡ c ∷ rest → IsExpected i (requester_of p i) c }
+    ensures expected { (p : Whole) (i : ℕ) (c : MarkedPacket) (rest : List MarkedPacket) → Sound p → down_of p i ≡ c ∷ rest →
+        IsExpected i (requester_of p i) c }
     ensures finished { (f : Fabric) (i mark : ℕ) (q : RequesterView) (lane : LaneEndsView) (t : TlpView) → Sound (whole_of f) → IsRouted f →
         slice_get f.requesters i ≡ Some q → slice_get f.down i ≡ Some lane → slice_get lane.receiver.queue 0 ≡ Some (t, mark) →
         (a : Answer) × (finished q t ≡ Ok a) }
-    ensures routed { (f : Fabric) (place mark : ℕ) (t : TlpView) → IsRouted f → slice_get (content f.outward) place ≡ Some (t, mark) → HasPort (length f.requesters) t }
+    ensures routed { (f : Fabric) (place mark : ℕ) (t : TlpView) → IsRouted f → slice_get (content f.outward) place ≡ Some (t, mark) →
+        HasPort (length f.requesters) t }
 {}

@@ -1,6 +1,6 @@
 -- Rounds that end, and what leads from one fabric to another.
 use Rattle.std.specs.Prelude.{ℕ, ◌≡◌, ◌≤◌, false, List}
-use Rattle.history_check.specs.declared.Record.{Record}
+use Rattle.history_words.specs.Records.{Record}
 use Rattle.fabric_laws.specs.Fabric.{Fabric}
 use Rattle.fabric_events.specs.Events.{Event}
 use Rattle.fabric_core.specs.Runs.{Runs}

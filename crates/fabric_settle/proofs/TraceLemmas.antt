@@ -2,7 +2,7 @@
 use Rattle.std.proofs.Common.{◌≡◌, ◌∙◌, ◌++◌, List, [], ◌∷◌, length, refl, sym, ap, subst, append_assoc}
 use Rattle.std.specs.Prelude.{fold}
 use Rattle.std.proofs.lemmas.List.{append-nil}
-use Rattle.history_check.specs.declared.Record.{Record}
+use Rattle.history_words.specs.Records.{Record}
 use Rattle.fabric_laws.specs.Fabric.{Fabric}
 use Rattle.fabric_core.specs.Answers.{Happens}
 use Rattle.fabric_core.specs.Kept.{records_of}

@@ -1,8 +1,8 @@
 //! What holds of all settlements.
 ghost use Rattle.std.specs.Prelude.{◌≡◌, ◌++◌, List, fold};
-ghost use Rattle.history_check.specs.declared.Record.{Record};
-ghost use Rattle.history_check.specs.Clocks.{KeepsRealTimeOrder};
-ghost use Rattle.history_check.specs.Trace.{Explains};
+ghost use Rattle.history_words.specs.Records.{Record};
+ghost use Rattle.history_words.specs.Clocks.{KeepsRealTimeOrder};
+ghost use Rattle.history_words.specs.Trace.{Explains};
 ghost use Rattle.fabric_laws.specs.Fabric.{Fabric, whole_of};
 ghost use Rattle.fabric_laws.specs.Trace.{Belongs};
 ghost use Rattle.fabric_core.specs.Answers.{Happens};
@@ -27,9 +27,12 @@ pub fn a_settlement_is_of_answers()
 pub fn a_settlement_keeps_its_trace()
     ensures run { (f f' : Fabric) (happened : List Happening) (rs : List Record) → Leads Happens f happened f' →
         (told : List Record) × Runs f (events_of happened) told f' × (fold with_record rs happened ≡ rs ++ told) }
-    ensures belongs { (f f' : Fabric) (rs rs' : List Record) → IsSoundFabric f → Reached with_record (IsLossless Never) f rs f' rs' → Belongs (whole_of f) rs → Belongs (whole_of f') rs' }
-    ensures explained { (f f' : Fabric) (rs rs' : List Record) → IsSoundFabric f → Reached with_record (IsLossless Never) f rs f' rs' → Belongs (whole_of f) rs → Explains (record { memory = f'.memory; records = rs' }) }
-    ensures ordered { (f f' : Fabric) (rs rs' : List Record) → IsSoundFabric f → Reached with_record (IsLossless Never) f rs f' rs' → Belongs (whole_of f) rs → KeepsRealTimeOrder (record { memory = f'.memory; records = rs' }) }
+    ensures belongs { (f f' : Fabric) (rs rs' : List Record) → IsSoundFabric f → Reached with_record (IsLossless Never) f rs f' rs' →
+        Belongs (whole_of f) rs → Belongs (whole_of f') rs' }
+    ensures explained { (f f' : Fabric) (rs rs' : List Record) → IsSoundFabric f → Reached with_record (IsLossless Never) f rs f' rs' →
+        Belongs (whole_of f) rs → Explains (record { memory = f'.memory; records = rs' }) }
+    ensures ordered { (f f' : Fabric) (rs rs' : List Record) → IsSoundFabric f → Reached with_record (IsLossless Never) f rs f' rs' →
+        Belongs (whole_of f) rs → KeepsRealTimeOrder (record { memory = f'.memory; records = rs' }) }
 {
     a_run_keeps_its_trace();
 }

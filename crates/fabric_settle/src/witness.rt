@@ -10,7 +10,7 @@ ghost use Rattle.fabric_settle.specs.Keeping.{Witnessed, IsLossless, WantsMemory
 ghost use Rattle.fabric_settle.specs.Reached.{Reached};
 
 use fabric_core::{ANSWER_ROOM, EventRef, Fabric, Refusal, SeenRef, record_of};
-use history_check::Record;
+use history_words::Record;
 use std::alloc::AllocError;
 
 /// Keeps something of each event that happens to a fabric.
@@ -48,7 +48,8 @@ pub trait Witness: Drop {
         fabric: &Fabric,
     ) -> Result<(), AllocError>
         requires { has_room event.now self.old }
-        ensures ok { OnOk result ((before : fabrics.Fabric) → Answers before event.now seen.now fabric.now → kept self.new ≡ saw line (kept self.old) (happening before event.now seen.now fabric.now)) }
+        ensures ok { OnOk result ((before : fabrics.Fabric) → Answers before event.now seen.now fabric.now →
+            kept self.new ≡ saw line (kept self.old) (happening before event.now seen.now fabric.now)) }
         ensures err { OnErr result (may_lose event.now) };
 }
 
@@ -72,7 +73,7 @@ fn keep(records: &mut Vec<Record>, told: Option<Record>)
 /// A trace: it grows by a record for each submission and each answer.
 impl Witness for Vec<Record> {
     ghost use Rattle.std.specs.Prelude.{◌<◌, List, vec_len, vec_capacity};
-    ghost use Rattle.history_check.specs.declared.Record as records;
+    ghost use Rattle.history_words.specs.Records as records;
     ghost use Rattle.fabric_settle.specs.Keeping.{IsRecorded, Never, with_record};
 
     ghost Kept = { List records.Record };
@@ -129,7 +130,8 @@ fn show<W: Witness>(
     fabric: &Fabric,
 ) -> Result<(), Refusal>
     requires { W.has_room event.now witness.old }
-    ensures ok { OnOk result ((before : fabrics.Fabric) → Answers before event.now seen.now fabric.now → W.kept witness.new ≡ W.saw line (W.kept witness.old) (happening before event.now seen.now fabric.now)) }
+    ensures ok { OnOk result ((before : fabrics.Fabric) → Answers before event.now seen.now fabric.now →
+        W.kept witness.new ≡ W.saw line (W.kept witness.old) (happening before event.now seen.now fabric.now)) }
     ensures cause { IfErr result (λ r. (r ≡ Refusal.Memory) × W.may_lose event.now) }
 {
     match witness.saw(line, event, seen, fabric) {
@@ -147,7 +149,8 @@ pub fn happen<W: Witness>(
     event: &EventRef<'_>,
 ) -> Result<(), Refusal>
     ensures ok { OnOk result (Witnessed (W.saw line) fabric.old (W.kept witness.old) event.now fabric.new (W.kept witness.new)) }
-    ensures told { IfErr result (λ r. IsTold r → (answer fabric.old event.now ≡ Err r) × (fabric.new ≡ fabric.old) × (W.kept witness.new ≡ W.kept witness.old)) }
+    ensures told { IfErr result (λ r. IsTold r →
+        (answer fabric.old event.now ≡ Err r) × (fabric.new ≡ fabric.old) × (W.kept witness.new ≡ W.kept witness.old)) }
     ensures lossless { OnErr result (IsLossless W.may_lose → (fabric.new ≡ fabric.old) × (W.kept witness.new ≡ W.kept witness.old)) }
     ensures memory { IfErr result (λ r. is_memory r ≡ true → WantsMemory W.needs_room W.may_lose fabric.new event.now) }
     ensures reached { Reached (W.saw line) (IsLossless W.may_lose) fabric.old (W.kept witness.old) fabric.new (W.kept witness.new) }

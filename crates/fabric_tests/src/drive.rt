@@ -3,7 +3,7 @@
 use arrayvec::ArrayVec;
 use dllp_core::{Class, Dllp};
 use fabric_core::{ANSWER_ROOM, Config, ConfigFault, Event, Fabric, LaneName, Refusal, Seen};
-use history_check::Trace;
+use history_words::Trace;
 use lane_core::{Arrival, DllpKind, DllpSeen, Fate, LaneCredits};
 use link_receiver::Reception;
 use requester_core::Answer;

@@ -5,7 +5,8 @@ use crate::scripts::{
 };
 use crate::trials::{Trial, all_right};
 use fabric_core::{Config, Event, Fabric, Refusal};
-use history_check::{Trace, check};
+use history_check::check;
+use history_words::Trace;
 use std::alloc::Global;
 use std::test::Fail;
 

@@ -44,7 +44,8 @@ impl Plan {
 /// Of 65,536 counts in a row, from any, a plan that loses one of so many loses just that part of 65,536, and as many
 /// fail as it says, but for those that are lost. Under a plan that loses nothing none is lost, and as many fail as it says.
 pub fn each_part_is_lost()
-    ensures failed { (lose corrupt start : ℕ) → 0 < lose → 0 < corrupt → how_many (λ count. is_failed (fate_of lose corrupt count)) start 65536 ≡ min (65536 / corrupt) (65536 - 65536 / lose) }
+    ensures failed { (lose corrupt start : ℕ) → 0 < lose → 0 < corrupt →
+        how_many (λ count. is_failed (fate_of lose corrupt count)) start 65536 ≡ min (65536 / corrupt) (65536 - 65536 / lose) }
     ensures lost { (lose corrupt start : ℕ) → 0 < lose → how_many (λ count. is_lost (fate_of lose corrupt count)) start 65536 ≡ 65536 / lose }
     ensures failed_alone { (corrupt start : ℕ) → 0 < corrupt → how_many (λ count. is_failed (fate_of 0 corrupt count)) start 65536 ≡ 65536 / corrupt }
     ensures none_lost { (corrupt start : ℕ) → how_many (λ count. is_lost (fate_of 0 corrupt count)) start 65536 ≡ 0 }

@@ -6,7 +6,7 @@ ghost use Rattle.arrayvec.specs.ArrayString.{array_string_len};
 ghost use Rattle.flaw_places.specs.Places as spec;
 
 use arrayvec::ArrayString;
-use history_check::{AsClaim, Flaw, FlawKind};
+use history_words::{AsClaim, Flaw, FlawKind};
 use operation_text::write_decimal;
 
 /// Whether a flaw of this kind is found at an entry of the history: then its place is the entry's index.
@@ -26,7 +26,7 @@ pub fn flawed_request<C: AsClaim>(claim: &C, flaw: Option<Flaw>) -> Option<(u8, 
     if is_of_entry(flaw.kind) {
         claim.request(flaw.place)
     } else {
-        Some(claim.head(flaw.place)?.request())
+        Some(claim.header(flaw.place)?.request())
     }
 }
 

@@ -28,7 +28,7 @@ pub(crate) fn put_event(
     ensures err { OnErr result (out.new.items ≡ out.old.items) }
 {
     line.clear();
-    write_event(event, line);
+    write_event(&event.lend(), line);
     put_line(line, out)
 }
 

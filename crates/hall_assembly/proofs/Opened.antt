@@ -65,7 +65,7 @@ unused_is_new laws f s u =
       next = λ i. dite (dec_lt 0 (requester_of p i).next)
           (λ (some : 0 < (requester_of p i).next). absurd (
           let one : stands_times i 0 p.history ≡ 1 = laws.acted p i 0 s.sound inward (up i) some in
-          let none : stands_times i 0 p.history ≡ 0 = ap (stands_times i 0) u.1 ∙ count_nil (Rattle.history_check.specs.Trace.is_request i 0) in
+          let none : stands_times i 0 p.history ≡ 0 = ap (stands_times i 0) u.1 ∙ count_nil (Rattle.history_words.specs.Trace.is_request i 0) in
           omega arith))
           (λ none. omega arith);
       tags = λ i t. none_open (open_number (requester_of p i) t) (λ k. laws.answered p i t k s.sound inward (up i) outward (down i));

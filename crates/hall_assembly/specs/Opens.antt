@@ -1,6 +1,6 @@
 -- What a hall is opened of, and what a closed one is.
 use Rattle.std.specs.Prelude.{◌≡◌, ℕ, suc, ◌<◌, ◌≤◌, List, [], map, Option, Some}
-use Rattle.history_check.specs.declared.Record.{Record}
+use Rattle.history_words.specs.Records.{Record}
 use Rattle.fabric_laws.specs.Lists.{Each}
 use Rattle.fabric_laws.specs.Fabric.{Fabric, whole_of}
 use Rattle.fabric_laws.specs.Whole.{view}

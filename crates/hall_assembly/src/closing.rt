@@ -26,9 +26,11 @@ pub type Slots = Closed<Option<PartValue>, Global>;
 
 /// The part of this slot; those of all slots before were taken.
 fn next(closed: &mut Slots, at: usize) -> PartValue
-    requires { IsEmptiedTo (slots_filled closed.old.slots) (slots_len closed.old.slots) at × (at < slots_len closed.old.slots) × (v : _) × PartAt (slots_items closed.old.slots) at v }
+    requires { IsEmptiedTo (slots_filled closed.old.slots) (slots_len closed.old.slots) at × (at < slots_len closed.old.slots) × (v : _) ×
+        PartAt (slots_items closed.old.slots) at v }
     ensures value { PartAt (slots_items closed.old.slots) at result }
-    ensures rest { IsEmptiedTo (slots_filled closed.new.slots) (slots_len closed.new.slots) (at + 1) × (slots_items closed.new.slots ≡ slots_items closed.old.slots) × (slots_len closed.new.slots ≡ slots_len closed.old.slots) }
+    ensures rest { IsEmptiedTo (slots_filled closed.new.slots) (slots_len closed.new.slots) (at + 1) ×
+        (slots_items closed.new.slots ≡ slots_items closed.old.slots) × (slots_len closed.new.slots ≡ slots_len closed.old.slots) }
 {
     let Some(value) = closed.take(at) else {
         unreachable!()
@@ -38,9 +40,11 @@ fn next(closed: &mut Slots, at: usize) -> PartValue
 
 /// The lane whose ends are in this slot and the three after it.
 fn next_lane(closed: &mut Slots, at: usize) -> LaneEnds
-    requires { IsEmptiedTo (slots_filled closed.old.slots) (slots_len closed.old.slots) at × (at + 3 < slots_len closed.old.slots) × (e : LaneEndsView) × EndsAt (slots_items closed.old.slots) at e }
+    requires { IsEmptiedTo (slots_filled closed.old.slots) (slots_len closed.old.slots) at × (at + 3 < slots_len closed.old.slots) × (e : LaneEndsView) ×
+        EndsAt (slots_items closed.old.slots) at e }
     ensures value { EndsAt (slots_items closed.old.slots) at result }
-    ensures rest { IsEmptiedTo (slots_filled closed.new.slots) (slots_len closed.new.slots) (at + 4) × (slots_items closed.new.slots ≡ slots_items closed.old.slots) × (slots_len closed.new.slots ≡ slots_len closed.old.slots) }
+    ensures rest { IsEmptiedTo (slots_filled closed.new.slots) (slots_len closed.new.slots) (at + 4) ×
+        (slots_items closed.new.slots ≡ slots_items closed.old.slots) × (slots_len closed.new.slots ≡ slots_len closed.old.slots) }
 {
     let PartValue::Sender(sender) = next(closed, at) else {
         unreachable!()
@@ -64,12 +68,19 @@ fn next_lane(closed: &mut Slots, at: usize) -> LaneEnds
 
 /// What stands at the port after those that are there.
 fn next_station(closed: &mut Slots, shelves: &mut Shelves, at: usize)
-    requires room { IsEmptiedTo (slots_filled closed.old.slots) (slots_len closed.old.slots) at × (at + 8 < slots_len closed.old.slots) × (vec_len shelves.old.requesters < vec_capacity shelves.old.requesters) × (vec_len shelves.old.up < vec_capacity shelves.old.up) × (vec_len shelves.old.down < vec_capacity shelves.old.down) }
+    requires room { IsEmptiedTo (slots_filled closed.old.slots) (slots_len closed.old.slots) at × (at + 8 < slots_len closed.old.slots) ×
+        (vec_len shelves.old.requesters < vec_capacity shelves.old.requesters) × (vec_len shelves.old.up < vec_capacity shelves.old.up) ×
+        (vec_len shelves.old.down < vec_capacity shelves.old.down) }
     requires there { (q : RequesterView) × (u : LaneEndsView) × (d : LaneEndsView) × StationFrom (slots_items closed.old.slots) at q u d }
-    ensures value { (q : RequesterView) × (u : LaneEndsView) × (d : LaneEndsView) × StationFrom (slots_items closed.old.slots) at q u d × (shelves.new.requesters.items ≡ shelves.old.requesters.items ++ q ∷ []) × (shelves.new.up.items ≡ shelves.old.up.items ++ u ∷ []) × (shelves.new.down.items ≡ shelves.old.down.items ++ d ∷ []) }
-    ensures rest { IsEmptiedTo (slots_filled closed.new.slots) (slots_len closed.new.slots) (at + 9) × (slots_items closed.new.slots ≡ slots_items closed.old.slots) × (slots_len closed.new.slots ≡ slots_len closed.old.slots) }
-    ensures len { (vec_len shelves.new.requesters ≡ vec_len shelves.old.requesters + 1) × (vec_len shelves.new.up ≡ vec_len shelves.old.up + 1) × (vec_len shelves.new.down ≡ vec_len shelves.old.down + 1) }
-    ensures capacity { (vec_capacity shelves.new.requesters ≡ vec_capacity shelves.old.requesters) × (vec_capacity shelves.new.up ≡ vec_capacity shelves.old.up) × (vec_capacity shelves.new.down ≡ vec_capacity shelves.old.down) }
+    ensures value { (q : RequesterView) × (u : LaneEndsView) × (d : LaneEndsView) × StationFrom (slots_items closed.old.slots) at q u d ×
+        (shelves.new.requesters.items ≡ shelves.old.requesters.items ++ q ∷ []) × (shelves.new.up.items ≡ shelves.old.up.items ++ u ∷ []) ×
+        (shelves.new.down.items ≡ shelves.old.down.items ++ d ∷ []) }
+    ensures rest { IsEmptiedTo (slots_filled closed.new.slots) (slots_len closed.new.slots) (at + 9) ×
+        (slots_items closed.new.slots ≡ slots_items closed.old.slots) × (slots_len closed.new.slots ≡ slots_len closed.old.slots) }
+    ensures len { (vec_len shelves.new.requesters ≡ vec_len shelves.old.requesters + 1) × (vec_len shelves.new.up ≡ vec_len shelves.old.up + 1) ×
+        (vec_len shelves.new.down ≡ vec_len shelves.old.down + 1) }
+    ensures capacity { (vec_capacity shelves.new.requesters ≡ vec_capacity shelves.old.requesters) ×
+        (vec_capacity shelves.new.up ≡ vec_capacity shelves.old.up) × (vec_capacity shelves.new.down ≡ vec_capacity shelves.old.down) }
 {
     let PartValue::Requester(requester) = next(closed, at) else {
         unreachable!()
@@ -83,11 +94,13 @@ fn next_station(closed: &mut Slots, shelves: &mut Shelves, at: usize)
 
 /// What stands at the ports from 1 on.
 fn next_stations(closed: &mut Slots, shelves: &mut Shelves, count: u8)
-    requires room { IsEmptiedTo (slots_filled closed.old.slots) (slots_len closed.old.slots) 9 × (slots_len closed.old.slots ≡ 9 * (1 + count)) × (count ≤ vec_capacity shelves.old.requesters) × (count ≤ vec_capacity shelves.old.up) × (count ≤ vec_capacity shelves.old.down) × (count ≤ 7) }
+    requires room { IsEmptiedTo (slots_filled closed.old.slots) (slots_len closed.old.slots) 9 × (slots_len closed.old.slots ≡ 9 * (1 + count)) ×
+        (count ≤ vec_capacity shelves.old.requesters) × (count ≤ vec_capacity shelves.old.up) × (count ≤ vec_capacity shelves.old.down) × (count ≤ 7) }
     requires empty { (vec_len shelves.old.requesters ≡ 0) × (vec_len shelves.old.up ≡ 0) × (vec_len shelves.old.down ≡ 0) }
     requires there { (f : Fabric) × HasLanes f × (length f.requesters ≡ count) × (slots_items closed.old.slots ≡ map Some (parts_of f)) }
     ensures value { StationsAt (slots_items closed.old.slots) count shelves.new.requesters.items shelves.new.up.items shelves.new.down.items }
-    ensures rest { IsEmptiedTo (slots_filled closed.new.slots) (slots_len closed.new.slots) (9 * (1 + count)) × (slots_len closed.new.slots ≡ slots_len closed.old.slots) }
+    ensures rest { IsEmptiedTo (slots_filled closed.new.slots) (slots_len closed.new.slots) (9 * (1 + count)) ×
+        (slots_len closed.new.slots ≡ slots_len closed.old.slots) }
 {
     each_part_has_its_slot();
     for place in 0..count {
@@ -99,9 +112,12 @@ fn next_stations(closed: &mut Slots, shelves: &mut Shelves, count: u8)
 fn rebuild(mut closed: Slots, mut shelves: Shelves, config: &Config) -> Parts
     requires full { IsFull closed.slots × (slots_len closed.slots ≡ 9 * (1 + config.now.requesters)) × (config.now.requesters ≤ 7) }
     requires empty { (vec_len shelves.requesters ≡ 0) × (vec_len shelves.up ≡ 0) × (vec_len shelves.down ≡ 0) }
-    requires room { (config.now.requesters ≤ vec_capacity shelves.requesters) × (config.now.requesters ≤ vec_capacity shelves.up) × (config.now.requesters ≤ vec_capacity shelves.down) }
-    requires there { (f : Fabric) × HasLanes f × (length f.requesters ≡ config.now.requesters) × (f.credits ≡ config.now.credits) × (slots_items closed.slots ≡ map Some (parts_of f)) }
-    ensures { (f : Fabric) → HasLanes f → length f.requesters ≡ config.now.requesters → f.credits ≡ config.now.credits → slots_items closed.slots ≡ map Some (parts_of f) → result ≡ f }
+    requires room { (config.now.requesters ≤ vec_capacity shelves.requesters) × (config.now.requesters ≤ vec_capacity shelves.up) ×
+        (config.now.requesters ≤ vec_capacity shelves.down) }
+    requires there { (f : Fabric) × HasLanes f × (length f.requesters ≡ config.now.requesters) × (f.credits ≡ config.now.credits) ×
+        (slots_items closed.slots ≡ map Some (parts_of f)) }
+    ensures { (f : Fabric) → HasLanes f → length f.requesters ≡ config.now.requesters → f.credits ≡ config.now.credits →
+        slots_items closed.slots ≡ map Some (parts_of f) → result ≡ f }
 {
     each_part_has_its_slot();
     let PartValue::Memory(memory) = next(&mut closed, 0) else {
@@ -178,9 +194,11 @@ pub fn close(
     config: &Config,
     place: Place,
 ) -> Result<Fabric, StillHeld>
-    requires table { IsSized board.shared.table_id config.now.requesters × (place.table_id ≡ board.shared.table_id) × (0 < length place.me.0) × ((token_of place.me.0).knows.config ≡ config.now) }
+    requires table { IsSized board.shared.table_id config.now.requesters × (place.table_id ≡ board.shared.table_id) × (0 < length place.me.0) ×
+        ((token_of place.me.0).knows.config ≡ config.now) }
     requires empty { (vec_len shelves.requesters ≡ 0) × (vec_len shelves.up ≡ 0) × (vec_len shelves.down ≡ 0) }
-    requires room { (config.now.requesters ≤ vec_capacity shelves.requesters) × (config.now.requesters ≤ vec_capacity shelves.up) × (config.now.requesters ≤ vec_capacity shelves.down) }
+    requires room { (config.now.requesters ≤ vec_capacity shelves.requesters) × (config.now.requesters ≤ vec_capacity shelves.up) ×
+        (config.now.requesters ≤ vec_capacity shelves.down) }
     ensures closed { IfOk result (λ f. Leaves (token_of place.me.0).knows f) }
     ensures all { IfOk result (λ f. AllRan place.me.0 f) }
     ensures held { IfErr result (λ e. (e.word ≢ 0) × IsPartName config.now.requesters e.part) }

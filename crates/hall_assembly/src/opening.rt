@@ -86,11 +86,14 @@ fn push_stations(
     count: usize,
     alloc: Global,
 ) -> Result<(), AllocError>
-    requires { (count ≡ vec_len shelves.old.requesters) × (vec_len shelves.old.up ≡ count) × (vec_len shelves.old.down ≡ count) × (count ≤ 7) × (vec_len slots.old + 9 * count ≤ vec_capacity slots.old) }
-    ensures items { OnOk result (slots.new.items ≡ slots.old.items ++ map Some (flat (stations shelves.old.requesters.items shelves.old.up.items shelves.old.down.items))) }
+    requires { (count ≡ vec_len shelves.old.requesters) × (vec_len shelves.old.up ≡ count) × (vec_len shelves.old.down ≡ count) × (count ≤ 7) ×
+        (vec_len slots.old + 9 * count ≤ vec_capacity slots.old) }
+    ensures items { OnOk result (slots.new.items ≡ slots.old.items ++
+        map Some (flat (stations shelves.old.requesters.items shelves.old.up.items shelves.old.down.items))) }
     ensures len { OnOk result (vec_len slots.new ≡ vec_len slots.old + 9 * count) }
     ensures empty { OnOk result ((vec_len shelves.new.requesters ≡ 0) × (vec_len shelves.new.up ≡ 0) × (vec_len shelves.new.down ≡ 0)) }
-    ensures capacity { OnOk result ((count ≤ vec_capacity shelves.new.requesters) × (count ≤ vec_capacity shelves.new.up) × (count ≤ vec_capacity shelves.new.down)) }
+    ensures capacity { OnOk result ((count ≤ vec_capacity shelves.new.requesters) × (count ≤ vec_capacity shelves.new.up) ×
+        (count ≤ vec_capacity shelves.new.down)) }
 {
     for _place in 0..count {
         let requester = shelves.requesters.remove(0);
@@ -108,7 +111,8 @@ fn slots_of(parts: Parts, alloc: Global) -> Result<(Vec<Option<PartValue>>, Shel
     ensures slots { IfOk result (λ t. t.0.items ≡ map Some (parts_of parts)) }
     ensures len { IfOk result (λ t. vec_len t.0 ≡ 9 * (1 + length parts.requesters)) }
     ensures empty { IfOk result (λ t. (vec_len t.1.requesters ≡ 0) × (vec_len t.1.up ≡ 0) × (vec_len t.1.down ≡ 0)) }
-    ensures capacity { IfOk result (λ t. (length parts.requesters ≤ vec_capacity t.1.requesters) × (length parts.requesters ≤ vec_capacity t.1.up) × (length parts.requesters ≤ vec_capacity t.1.down)) }
+    ensures capacity { IfOk result (λ t. (length parts.requesters ≤ vec_capacity t.1.requesters) × (length parts.requesters ≤ vec_capacity t.1.up) ×
+        (length parts.requesters ≤ vec_capacity t.1.down)) }
 {
     let Parts {
         credits: _,
@@ -160,8 +164,11 @@ pub fn open(fabric: Fabric, work: usize, alloc: Global) -> Result<Opened, AllocE
     ensures config { IfOk result (λ t. HasConfig fabric t.config) }
     ensures table { IfOk result (λ t. IsSized t.board.shared.table_id t.config.requesters × (t.place.table_id ≡ t.board.shared.table_id)) }
     ensures about { IfOk result (λ t. (t.board.shared.key.opened.value ≡ fabric) × (t.board.shared.key.seats ≡ t.config.requesters + work)) }
-    ensures tokens { IfOk result (λ t. t.place.me ≡ (newcomers t.config t.board.shared.key.opened.value t.board.shared.key.seats 0 (t.config.requesters + work), [])) }
-    ensures shelves { IfOk result (λ t. (vec_len t.shelves.requesters ≡ 0) × (vec_len t.shelves.up ≡ 0) × (vec_len t.shelves.down ≡ 0) × (t.config.requesters ≤ vec_capacity t.shelves.requesters) × (t.config.requesters ≤ vec_capacity t.shelves.up) × (t.config.requesters ≤ vec_capacity t.shelves.down)) }
+    ensures tokens { IfOk result (λ t. t.place.me ≡
+        (newcomers t.config t.board.shared.key.opened.value t.board.shared.key.seats 0 (t.config.requesters + work), [])) }
+    ensures shelves { IfOk result (λ t. (vec_len t.shelves.requesters ≡ 0) × (vec_len t.shelves.up ≡ 0) × (vec_len t.shelves.down ≡ 0) ×
+        (t.config.requesters ≤ vec_capacity t.shelves.requesters) × (t.config.requesters ≤ vec_capacity t.shelves.up) ×
+        (t.config.requesters ≤ vec_capacity t.shelves.down)) }
 {
     the_trace_belongs();
     quiet_is_all_acted();

@@ -1,12 +1,12 @@
 -- What is linearizable, and when all is answered.
 use Rattle.std.specs.Prelude.{◌≡◌, ℕ, List, Some, slice_get, true, false}
 use Rattle.std.specs.List.{list_any}
-use Rattle.tlp_core.specs.declared.operation.Op.{Op}
+use Rattle.tlp_core.specs.Ops.{Op}
 use Rattle.tlp_core.specs.Operation.{is_posted}
-use Rattle.history_check.specs.declared.Record.{Record}
-use Rattle.history_check.specs.declared.Record.TheVariants.{Sub}
-use Rattle.history_check.specs.Clocks.{KeepsRealTimeOrder}
-use Rattle.history_check.specs.Trace.{Explains, answers_to}
+use Rattle.history_words.specs.Records.{Record}
+use Rattle.history_words.specs.declared.record.RecordOf.TheVariants.{Sub}
+use Rattle.history_words.specs.Clocks.{KeepsRealTimeOrder}
+use Rattle.history_words.specs.Trace.{Explains, answers_to}
 use Rattle.fabric_laws.specs.Fabric.{Fabric}
 
 -- the fabric's history explains the records, and keeps the order of real time

@@ -1,8 +1,8 @@
 -- What contracts see of a hall and of a seat.
 use Rattle.std.specs.Prelude.{ℕ, suc, ◌≡◌, ◌⊎◌, ◌+◌, List, [], ◌∷◌, length, slice_get, Some}
 use Rattle.atomic_table.specs.Seated.{TableId}
-use Rattle.history_check.specs.declared.Record.{Record}
-use Rattle.history_check.specs.Trace.{submissions}
+use Rattle.history_words.specs.Records.{Record}
+use Rattle.history_words.specs.Trace.{submissions}
 use Rattle.fabric_laws.specs.Lists.{Each}
 use Rattle.fabric_laws.specs.Fabric.{Fabric, whole_of}
 use Rattle.fabric_laws.specs.Trace.{Belongs}

@@ -1,6 +1,6 @@
 //! The hall and its calls.
 ghost use Rattle.std.specs.Prelude.{◌≡◌, ◌≢◌, ◌+◌, ◌<◌, ◌≤◌, ◌++◌, List, length, IfOk, IfErr, MatchOption};
-ghost use Rattle.seq_memory.specs.declared.Entry.{Entry};
+ghost use Rattle.seq_memory.specs.Entries.{Entry};
 ghost use Rattle.fabric_laws.specs.Lists.{Each};
 ghost use Rattle.fabric_events.specs.declared.event.EventOf.TheVariants.{Submit, Collect};
 ghost use Rattle.hall_laws.specs.declared.part.Part.TheVariants.{Memory};

@@ -1,9 +1,9 @@
 //! The steps on the words, of which each call is made, and what holds of every seat between them and of all seats at
 //! the end.
 ghost use Rattle.std.specs.Prelude.{◌++◌, List};
-ghost use Rattle.history_check.specs.declared.Record.{Record};
-ghost use Rattle.history_check.specs.Clocks.{KeepsRealTimeOrder};
-ghost use Rattle.history_check.specs.Trace.{Explains};
+ghost use Rattle.history_words.specs.Records.{Record};
+ghost use Rattle.history_words.specs.Clocks.{KeepsRealTimeOrder};
+ghost use Rattle.history_words.specs.Trace.{Explains};
 ghost use Rattle.fabric_laws.specs.Fabric.{Fabric};
 ghost use Rattle.fabric_events.specs.Events.{Event};
 ghost use Rattle.fabric_core.specs.Quiet.{IsQuiet};
@@ -29,9 +29,11 @@ pub use hall_laws::laws::{
 /// fabric behind the hall, as in a `settle`, the same holds of all records, those of the threads and the later ones.
 pub fn what_threads_did_is_linearizable()
     ensures explained { (h : HallView) (seats : List SeatView) (f : Fabric) (r : RanBy h seats f) → Explains (record { memory = f.memory; records = r.told }) }
-    ensures ordered { (h : HallView) (seats : List SeatView) (f : Fabric) (r : RanBy h seats f) → KeepsRealTimeOrder (record { memory = f.memory; records = r.told }) }
+    ensures ordered { (h : HallView) (seats : List SeatView) (f : Fabric) (r : RanBy h seats f) →
+        KeepsRealTimeOrder (record { memory = f.memory; records = r.told }) }
     ensures answered { (h : HallView) (seats : List SeatView) (f : Fabric) (r : RanBy h seats f) → IsQuiet f → AreAnswered r.told }
-    ensures later { (h : HallView) (seats : List SeatView) (f f' : Fabric) (r : RanBy h seats f) (events : List Event) (rs : List Record) → Runs f events rs f' →
+    ensures later { (h : HallView) (seats : List SeatView) (f f' : Fabric) (r : RanBy h seats f) (events : List Event) (rs : List Record) →
+        Runs f events rs f' →
         IsLinearizable f' (r.told ++ rs) × (IsQuiet f' → AreAnswered (r.told ++ rs)) }
 {
     a_run_keeps_its_trace();

@@ -86,7 +86,8 @@ impl WorkSeat {
 
 /// The seat of a requester at this place.
 pub(crate) fn seat(place: Place, number: u8) -> ReqSeat
-    requires { IsIdle place.me × ((token_of place.me.0).knows.number ≡ number) × (number < (token_of place.me.0).knows.config.requesters) × ((token_of place.me.0).knows.config.requesters ≤ 7) }
+    requires { IsIdle place.me × ((token_of place.me.0).knows.number ≡ number) × (number < (token_of place.me.0).knows.config.requesters) ×
+        ((token_of place.me.0).knows.config.requesters ≤ 7) }
     ensures { (result.table_id ≡ place.table_id) × (result.knows ≡ (token_of place.me.0).knows) }
 {
     ReqSeat { place, number }
@@ -103,7 +104,8 @@ pub fn req_seats(
     requires table { (place.old.table_id ≡ steps.now.table_id) × (0 < steps.now.table_id.words) × (config.now.requesters ≤ 7) }
     requires tokens { place.old.me ≡ (newcomers config.now steps.now.key.opened.value steps.now.key.seats 0 (config.now.requesters + work), []) }
     ensures seats { IfOk result (λ v. AreNewSeats (record { table_id = steps.now.table_id; config = config.now; opened = steps.now.key.opened.value; seats = steps.now.key.seats }) 0 config.now.requesters v.items) }
-    ensures rest { IfOk result (λ _. (place.new.table_id ≡ place.old.table_id) × (place.new.me ≡ (newcomers config.now steps.now.key.opened.value steps.now.key.seats config.now.requesters work, []))) }
+    ensures rest { IfOk result (λ _. (place.new.table_id ≡ place.old.table_id) ×
+        (place.new.me ≡ (newcomers config.now steps.now.key.opened.value steps.now.key.seats config.now.requesters work, []))) }
 {
     let mut seats = Vec::with_capacity(alloc, usize::from(config.requesters))?;
     for number in 0..config.requesters {

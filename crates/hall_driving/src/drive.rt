@@ -2,13 +2,12 @@
 ghost use Rattle.std.specs.Prelude.{◌≡◌, ◌+◌, IfOk, IfSome};
 ghost use Rattle.hall_core.specs.Views.{IsSeatOf, AreSeatsOf};
 
-use arrayvec::ArrayVec;
 use fabric_core::{Config, ConfigFault, Fabric, LaneName, Seen};
 use hall_core::{Answered, Hall, HallFault, HallRefusal, ReqSeat, Submitted, WorkEvent, WorkSeat};
 use lane_core::{Fate, LaneCredits};
 use seq_memory::Reply;
 use std::alloc::Global;
-use tlp_core::{Op, Width};
+use tlp_core::{Op, Width, payload_of};
 
 /// Why no hall was opened.
 #[derive(Clone, Copy, Debug, PartialEq, Eq)]
@@ -173,20 +172,13 @@ pub fn back(port: u8) -> [WorkEvent; 5] {
     ]
 }
 
-/// A payload.
-pub fn bytes_of(items: &[u8]) -> ArrayVec<u8, 128> {
-    let mut bytes = ArrayVec::new();
-    let _ = bytes.try_extend_from_slice(items);
-    bytes
-}
-
 /// Writes 01 02 03 04 at 40h.
 pub fn write() -> Op {
     Op::Write {
         address: 0x40,
         first: 15,
         last: 0,
-        bytes: bytes_of(&[1, 2, 3, 4]),
+        bytes: payload_of(&[1, 2, 3, 4]),
     }
 }
 
@@ -209,6 +201,14 @@ pub fn add_one() -> Op {
     }
 }
 
+/// Whether the reply is these bytes.
+fn is_data(reply: &Reply, bytes: &[u8]) -> bool {
+    match reply {
+        Reply::Data(data) => data.as_slice() == bytes,
+        _ => false,
+    }
+}
+
 /// Whether the request with this number was answered with these bytes at this length of the history.
 pub fn is_answer(
     got: &Result<Option<Answered>, HallRefusal>,
@@ -217,7 +217,7 @@ pub fn is_answer(
     n: u64,
 ) -> bool {
     match got {
-        Ok(Some(a)) => a.number == number && a.n == n && a.reply == Reply::Data(bytes_of(bytes)),
+        Ok(Some(a)) => a.number == number && a.n == n && is_data(&a.reply, bytes),
         _ => false,
     }
 }

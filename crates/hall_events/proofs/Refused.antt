@@ -4,7 +4,7 @@ use Rattle.std.proofs.lemmas.Option.{slice_get_past}
 use Rattle.std.specs.Prelude.{slice_get}
 use native.Mathlib.Decide.{dec_le}
 use Rattle.requester_core.specs.declared.fault.CompletionFault.{CompletionFault}
-use Rattle.requester_core.specs.declared.requester.Answer.{Answer}
+use Rattle.requester_core.specs.Answers.{Answer}
 use Rattle.requester_core.specs.RequesterView.{RequesterView, finished}
 use Rattle.lane_ends.specs.Steps.{ReceiverEndView}
 use Rattle.fabric_laws.specs.Fabric.{Fabric}

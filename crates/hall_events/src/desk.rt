@@ -67,7 +67,8 @@ impl<'a> Desk<'a> {
         requires token { self.old.place.now.me ≡ having (knows self.old) (held_at self.old) }
         requires apart { Outside (part_slot part) (held_at self.old) }
         ensures desk { IsDesk self.new × IsSame self.old self.new }
-        ensures taken { IfOk result (λ h. (h.part ≡ part) × IsPartValue part h.value × Has self.new (knows self.old) ((part_slot part, h.value) ∷ held_at self.old)) }
+        ensures taken { IfOk result (λ h. (h.part ≡ part) × IsPartValue part h.value ×
+            Has self.new (knows self.old) ((part_slot part, h.value) ∷ held_at self.old)) }
         ensures busy { IfErr result (λ r. IsBusy (knows self.old) part r × (self.new.place.now.me ≡ self.old.place.now.me)) }
     {
         match take_part(self.steps, self.place, self.number, self.requesters, part) {
@@ -82,7 +83,8 @@ impl<'a> Desk<'a> {
         requires apart { part_slot part ≢ part_slot one.part }
         requires held { self.old.place.now.me ≡ having (knows self.old) (entry one ∷ []) }
         ensures desk { IsDesk self.new × IsSame self.old self.new }
-        ensures taken { IfOk result (λ t. (t.0 ≡ one) × (t.1.part ≡ part) × IsPartValue part t.1.value × Has self.new (knows self.old) ((part_slot part, t.1.value) ∷ (entry one ∷ []))) }
+        ensures taken { IfOk result (λ t. (t.0 ≡ one) × (t.1.part ≡ part) × IsPartValue part t.1.value ×
+            Has self.new (knows self.old) ((part_slot part, t.1.value) ∷ (entry one ∷ []))) }
         ensures busy { IfErr result (λ r. IsBusy (knows self.old) part r × (self.new.place.now.me ≡ knowing (knows self.old))) }
     {
         match self.take(part) {
@@ -105,7 +107,8 @@ impl<'a> Desk<'a> {
         requires apart { (part_slot part ≢ part_slot one.part) × (part_slot part ≢ part_slot two.part) }
         requires held { self.old.place.now.me ≡ having (knows self.old) (entry two ∷ (entry one ∷ [])) }
         ensures desk { IsDesk self.new × IsSame self.old self.new }
-        ensures taken { IfOk result (λ t. (t.0 ≡ one) × (t.1 ≡ two) × (t.2.part ≡ part) × IsPartValue part t.2.value × Has self.new (knows self.old) ((part_slot part, t.2.value) ∷ (entry two ∷ (entry one ∷ [])))) }
+        ensures taken { IfOk result (λ t. (t.0 ≡ one) × (t.1 ≡ two) × (t.2.part ≡ part) × IsPartValue part t.2.value ×
+            Has self.new (knows self.old) ((part_slot part, t.2.value) ∷ (entry two ∷ (entry one ∷ [])))) }
         ensures busy { IfErr result (λ r. IsBusy (knows self.old) part r × (self.new.place.now.me ≡ knowing (knows self.old))) }
     {
         match self.take(part) {
@@ -149,7 +152,8 @@ impl<'a> Desk<'a> {
     /// The event happens as this part goes home. `told` is for the proof alone.
     pub(crate) fn event<C: AfterEvent, T>(&mut self, held: Held, told: &T)
         requires table { IsAtTable self.old × IsPartName self.old.requesters held.part }
-        requires token { (0 < length self.old.place.now.me.0) × (self.old.place.now.me.1 ≡ (part_slot held.part, None) ∷ rest self.old.place.now.me.1) × (C.token.knows.number ≡ (knows self.old).number) }
+        requires token { (0 < length self.old.place.now.me.0) × (self.old.place.now.me.1 ≡ (part_slot held.part, None) ∷ rest self.old.place.now.me.1) ×
+            (C.token.knows.number ≡ (knows self.old).number) }
         requires event { (e : Event) × (what : Seen) × Goes e what (token_of self.old.place.now.me.0) (part_slot held.part) held.value C.token }
         ensures same { IsSame self.old self.new }
         ensures happened { self.new.place.now.me ≡ (C.token ∷ others_of self.old.place.now.me.0, rest self.old.place.now.me.1) }

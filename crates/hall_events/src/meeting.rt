@@ -1,7 +1,7 @@
 //! Two seats that meet.
 ghost use Rattle.std.specs.Prelude.{◌≡◌, ◌<◌, List, ◌∷◌, length, drop, None, IfOk, IfErr};
 ghost use Rattle.atomic_table.specs.Table.{rest};
-ghost use Rattle.seq_memory.specs.declared.Entry.{Entry};
+ghost use Rattle.seq_memory.specs.Entries.{Entry};
 ghost use Rattle.hall_laws.specs.declared.token.Knowledge.{Knowledge};
 ghost use Rattle.hall_laws.specs.Parts.{IsMemory};
 ghost use Rattle.hall_laws.specs.Calls.{IsSized, HasSlot, IsOf, IsIdle, knowing};
@@ -47,8 +47,10 @@ pub fn meet_as(
     requires table { IsSized steps.now.table_id requesters × IsOf steps.now.table_id requesters number first × (second.table_id ≡ steps.now.table_id) }
     requires idle { IsIdle first.me × IsIdle second.me }
     ensures seats { IfOk result (λ r. (r.0.table_id ≡ first.table_id) × (r.1.table_id ≡ first.table_id)) }
-    ensures met { IfOk result (λ r. (h : List Entry) × (w : Knowledge) × (v : Knowledge) × (r.2 ≡ length h) × (r.0.me ≡ knowing w) × (r.1.me ≡ knowing v) × Met (token_of first.me.0).knows h w × Met (token_of second.me.0).knows h v) }
-    ensures refused { IfErr result (λ r. IsBusy (token_of first.me.0).knows Part.Memory r.0 × (r.1.table_id ≡ first.table_id) × (r.2.table_id ≡ first.table_id) × (r.1.me ≡ first.me) × (r.2.me ≡ second.me)) }
+    ensures met { IfOk result (λ r. (h : List Entry) × (w : Knowledge) × (v : Knowledge) × (r.2 ≡ length h) × (r.0.me ≡ knowing w) × (r.1.me ≡ knowing v) ×
+        Met (token_of first.me.0).knows h w × Met (token_of second.me.0).knows h v) }
+    ensures refused { IfErr result (λ r. IsBusy (token_of first.me.0).knows Part.Memory r.0 × (r.1.table_id ≡ first.table_id) ×
+        (r.2.table_id ≡ first.table_id) × (r.1.me ≡ first.me) × (r.2.me ≡ second.me)) }
 {
     meeting();
     let mut both = first;

@@ -37,7 +37,11 @@ impl<'a> Desk<'a> {
             Part::SenderEnd(LaneName::Up(port)),
         )?;
         let n = memory.value.memory().entries().len() as u64;
-        match events::submit(requester.value.requester(), sender.value.sender(), op) {
+        match events::submit(
+            requester.value.requester(),
+            sender.value.sender(),
+            &op.lend(),
+        ) {
             Ok(number) => {
                 self.place.turn();
                 let told = (number, port, op, &memory, &sender);
@@ -61,7 +65,9 @@ impl<'a> Desk<'a> {
         requires idle { IsIdle self.old.place.now.me }
         ensures seat { IsSame self.old self.new }
         ensures hall { IsOfHall (knows self.old) (knows self.new) }
-        ensures collected { IfOk result (λ o. MatchOption o ((w : Knowledge) × (self.new.place.now.me ≡ knowing w) × SeesTells (knows self.old) w) (λ a. (w : Knowledge) × (self.new.place.now.me ≡ knowing w) × CollectTells (knows self.old) a.0.number a.0.reply a.1 w)) }
+        ensures collected { IfOk result (λ o. MatchOption o ((w : Knowledge) × (self.new.place.now.me ≡ knowing w) ×
+            SeesTells (knows self.old) w) (λ a. (w : Knowledge) × (self.new.place.now.me ≡ knowing w) ×
+            CollectTells (knows self.old) a.0.number a.0.reply a.1 w)) }
         ensures refused { OnErr result (self.new.place.now.me ≡ self.old.place.now.me) }
         ensures why { IfErr result (λ r. IsWithAnother (knows self.old) (Collect (self.old.number + 1)) r) }
     {

@@ -25,7 +25,9 @@ pub fn free_words(count: usize, alloc: Global) -> Result<Vec<u64>, AllocError>
 /// The first of so many parts, 0 to 72, whose word isn't 0, with that word; None where all are free.
 pub fn first_taken(closed: &Closed<Option<PartValue>, Global>, count: usize) -> Option<(usize, u64)>
     requires { IsFull closed.now.words × (slots_len closed.now.words ≡ word_of count) × (count ≤ 72) }
-    ensures { MatchOption result ((k : ℕ) → k < count → get_elem? (slots_items closed.now.words) (word_of k) ≡ some 0) (λ f. (f.0 < count) × (f.1 ≢ 0) × (get_elem? (slots_items closed.now.words) (word_of f.0) ≡ some f.1)) }
+    ensures { MatchOption result ((k : ℕ) → k < count →
+        get_elem? (slots_items closed.now.words) (word_of k) ≡ some 0) (λ f. (f.0 < count) × (f.1 ≢ 0) ×
+        (get_elem? (slots_items closed.now.words) (word_of f.0) ≡ some f.1)) }
 {
     for k in 0..count {
         let word = closed.word(WORDS_APART * k);

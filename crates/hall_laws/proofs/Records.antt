@@ -4,13 +4,13 @@ use Rattle.std.specs.Prelude.{slice_get, if◌then◌else◌, not}
 use Rattle.std.proofs.lemmas.List.{append-nil}
 use Rattle.std.proofs.lemmas.List.Elements.{filter_map-append, filter-append}
 use Rattle.std.proofs.lemmas.Bool.{ne_eqb}
-use Rattle.tlp_core.specs.declared.operation.Op.{Op}
+use Rattle.tlp_core.specs.Ops.{Op}
 use Rattle.tlp_core.specs.Operation.{is_posted}
-use Rattle.seq_memory.specs.declared.Reply.{Reply}
-use Rattle.history_check.specs.declared.Record.{Record}
-use Rattle.history_check.specs.declared.Record.TheVariants.{Sub, Ans}
-use Rattle.history_check.specs.Trace.{submission, submissions}
-use Rattle.history_check.specs.Lookup.{requester_of}
+use Rattle.seq_memory.specs.Entries.{Reply}
+use Rattle.history_words.specs.Records.{Record}
+use Rattle.history_words.specs.declared.record.RecordOf.TheVariants.{Sub, Ans}
+use Rattle.history_words.specs.Trace.{submission, submissions}
+use Rattle.history_words.specs.Lookup.{requester_of}
 use Rattle.fabric_laws.specs.Lists.{Each}
 use Rattle.hall_laws.specs.Waiting.{requester_in, without, after_record, waiting_after, waiting, records_by}
 

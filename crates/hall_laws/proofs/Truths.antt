@@ -4,11 +4,11 @@ use Rattle.std.specs.Prelude.{slice_get}
 use Rattle.std.specs.List.{list_any}
 use mathlib.Core.Logic.{dite}
 use native.Mathlib.Decide.{ℕ_discrete, dec_lt}
-use Rattle.tlp_core.specs.declared.operation.Op.{Op}
+use Rattle.tlp_core.specs.Ops.{Op}
 use Rattle.tlp_core.specs.Operation.{is_posted}
-use Rattle.seq_memory.specs.declared.Entry.{Entry}
-use Rattle.history_check.specs.declared.Record.TheVariants.{Sub, Ans}
-use Rattle.history_check.specs.Trace.{submissions, answers_to, is_request}
+use Rattle.seq_memory.specs.Entries.{Entry}
+use Rattle.history_words.specs.declared.record.RecordOf.TheVariants.{Sub, Ans}
+use Rattle.history_words.specs.Trace.{submissions, answers_to, is_request}
 use Rattle.fabric_laws.specs.Whole.{view}
 use Rattle.fabric_laws.specs.Trace.{IsMade}
 use Rattle.fabric_laws.specs.Fabric.{Fabric, whole_of}

@@ -3,11 +3,11 @@ use Rattle.std.proofs.Common.{◌≡◌, ◌≢◌, ℕ, zero, suc, ◌<◌, ◌
 use Rattle.std.specs.Prelude.{slice_get, if◌then◌else◌, ◌&&◌, ◌||◌, not}
 use Rattle.std.specs.List.{list_any}
 use Rattle.std.proofs.lemmas.Bool.Decides.{nat_tests}
-use Rattle.tlp_core.specs.declared.operation.Op.{Op}
+use Rattle.tlp_core.specs.Ops.{Op}
 use Rattle.tlp_core.specs.Operation.{is_posted}
-use Rattle.history_check.specs.declared.Record.{Record}
-use Rattle.history_check.specs.declared.Record.TheVariants.{Sub, Ans}
-use Rattle.history_check.specs.Trace.{submissions, answers_to}
+use Rattle.history_words.specs.Records.{Record}
+use Rattle.history_words.specs.declared.record.RecordOf.TheVariants.{Sub, Ans}
+use Rattle.history_words.specs.Trace.{submissions, answers_to}
 use Rattle.hall_laws.specs.Waiting.{without, after_record, waiting_after, waiting}
 use Rattle.hall_laws.specs.Tells.{Has}
 
@@ -126,15 +126,15 @@ stayed k n m (p ∷ ps) h = ⊎_elim
     (test (p.0 == m))
 
 abbrev pub NoAnswer : ℕ → ℕ → List Record → Type 0
-NoAnswer i k rs = (b : ℕ) (x : Rattle.seq_memory.specs.declared.Reply.Reply) (m : ℕ) → slice_get rs b ≡ Some (Ans i k x m) → ⊥
+NoAnswer i k rs = (b : ℕ) (x : Rattle.seq_memory.specs.Entries.Reply) (m : ℕ) → slice_get rs b ≡ Some (Ans i k x m) → ⊥
 
 abbrev pub NoAnswerBehind : ℕ → ℕ → ℕ → List Record → Type 0
-NoAnswerBehind i k a rs = (b : ℕ) (x : Rattle.seq_memory.specs.declared.Reply.Reply) (m : ℕ) → a < b → slice_get rs b ≡ Some (Ans i k x m) → ⊥
+NoAnswerBehind i k a rs = (b : ℕ) (x : Rattle.seq_memory.specs.Entries.Reply) (m : ℕ) → a < b → slice_get rs b ≡ Some (Ans i k x m) → ⊥
 
 abbrev pub Asked : ℕ → ℕ → ℕ → List Record → Type 0
 Asked i k n rs = (a : ℕ) × (op : Op) × (slice_get rs a ≡ Some (Sub i k op n)) × (is_posted op ≡ false) × NoAnswerBehind i k a rs
 
-none_first : (i k : ℕ) (r : Record) (rs : List Record) → ((x : Rattle.seq_memory.specs.declared.Reply.Reply) (m : ℕ) → r ≢ Ans i k x m) → NoAnswer i k rs → NoAnswer i k (r ∷ rs)
+none_first : (i k : ℕ) (r : Record) (rs : List Record) → ((x : Rattle.seq_memory.specs.Entries.Reply) (m : ℕ) → r ≢ Ans i k x m) → NoAnswer i k rs → NoAnswer i k (r ∷ rs)
 none_first i k r rs first none zero x m e = first x m (cc)
 none_first i k r rs first none (suc b) x m e = none b x m e
 

@@ -1,6 +1,6 @@
 -- A refusal by the parts that a token holds is one by the fabric.
 use Rattle.std.specs.Prelude.{◌≡◌, ◌⊎◌, ℕ, ◌+◌, ◌<◌, List, [], ◌∷◌, Ok, Err}
-use Rattle.tlp_core.specs.declared.operation.Op.{Op}
+use Rattle.tlp_core.specs.Ops.{Op}
 use Rattle.dllp_core.specs.declared.packet.Dllp.{Dllp}
 use Rattle.seq_memory.specs.History.{MemoryView}
 use Rattle.requester_core.specs.RequesterView.{RequesterView}

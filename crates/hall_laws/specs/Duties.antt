@@ -1,10 +1,10 @@
 -- The duty of each event: over the parts that its token holds it is a step of the fabric, of which the part that was
 -- taken first is released.
 use Rattle.std.specs.Prelude.{◌≡◌, ℕ, suc, ◌+◌, ◌≤◌, List, [], ◌∷◌, Ok}
-use Rattle.tlp_core.specs.declared.operation.Op.{Op}
+use Rattle.tlp_core.specs.Ops.{Op}
 use Rattle.dllp_core.specs.declared.packet.Dllp.{Dllp}
 use Rattle.seq_memory.specs.History.{MemoryView}
-use Rattle.requester_core.specs.declared.requester.Answer.{Answer}
+use Rattle.requester_core.specs.Answers.{Answer}
 use Rattle.requester_core.specs.RequesterView.{RequesterView}
 use Rattle.lane_ends.specs.declared.packet.WirePacket.{WirePacket}
 use Rattle.lane_ends.specs.declared.packet.Fate.{Fate}

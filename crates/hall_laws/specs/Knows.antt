@@ -2,8 +2,8 @@
 use Rattle.std.specs.Prelude.{◌≡◌, ℕ, suc, ◌<◌, ◌≤◌, false, List, length, take, Some}
 use mathlib.Core.Option.{some}
 use lib.ListN.{get_elem?}
-use Rattle.history_check.specs.declared.Record.{Record}
-use Rattle.history_check.specs.Trace.{stands}
+use Rattle.history_words.specs.Records.{Record}
+use Rattle.history_words.specs.Trace.{stands}
 use Rattle.fabric_laws.specs.Lists.{Each}
 use Rattle.fabric_laws.specs.Whole.{view}
 use Rattle.fabric_laws.specs.Trace.{Belongs, IsMade, IsOpen}

@@ -1,7 +1,7 @@
 -- What happened since the hall was made, call by call.
 use Rattle.std.specs.Prelude.{◌≡◌, ◌==◌, ◌<◌, ℕ, suc, Bool, true, false, List, [], ◌∷◌, ◌++◌, map, length}
-use Rattle.history_check.specs.declared.Record.{Record}
-use Rattle.history_check.specs.Trace.{submissions}
+use Rattle.history_words.specs.Records.{Record}
+use Rattle.history_words.specs.Trace.{submissions}
 use Rattle.fabric_laws.specs.Lists.{Each}
 use Rattle.fabric_laws.specs.Fabric.{Fabric, whole_of}
 use Rattle.fabric_laws.specs.Trace.{Belongs}

@@ -76,7 +76,9 @@ pub fn take(steps: &Steps, place: &mut Place, slot: usize, number: u64) -> Resul
     requires table { (place.old.table_id ≡ steps.now.table_id) × HasSlot steps.now.table_id slot }
     requires token { (0 < length place.old.me.0) × (number ≡ (token_of place.old.me.0).knows.number) × (number < 2 ^ 32) }
     ensures seat { (place.new.table_id ≡ place.old.table_id) × (place.new.id ≡ place.old.id) }
-    ensures taken { MatchResult result (λ v. (place.new.me ≡ (holding_first slot v place.old.me.0, (slot, None) ∷ place.old.me.1)) × Known (holding_first slot v place.old.me.0)) (λ w. (w ≢ 0) × (place.new.me ≡ place.old.me) × (Outside slot (token_of place.old.me.0).held → w ≢ suc (token_of place.old.me.0).knows.number)) }
+    ensures taken { MatchResult result (λ v. (place.new.me ≡ (holding_first slot v place.old.me.0, (slot, None) ∷ place.old.me.1)) ×
+        Known (holding_first slot v place.old.me.0)) (λ w. (w ≢ 0) × (place.new.me ≡ place.old.me) ×
+        (Outside slot (token_of place.old.me.0).held → w ≢ suc (token_of place.old.me.0).knows.number)) }
 {
     let found = steps.compare_exchange::<Taking>(place, WORDS_APART * slot, 0, number + 1);
     if found != 0 {
@@ -118,7 +120,8 @@ pub fn event<C: AfterEvent, T>(
     told: &T,
 )
     requires table { (place.old.table_id ≡ steps.now.table_id) × HasSlot steps.now.table_id slot }
-    requires token { (0 < length place.old.me.0) × (place.old.me.1 ≡ (slot, None) ∷ rest place.old.me.1) × (C.token.knows.number ≡ (token_of place.old.me.0).knows.number) }
+    requires token { (0 < length place.old.me.0) × (place.old.me.1 ≡ (slot, None) ∷ rest place.old.me.1) ×
+        (C.token.knows.number ≡ (token_of place.old.me.0).knows.number) }
     requires event { (e : Event) × (what : Seen) × Goes e what (token_of place.old.me.0) slot value C.token }
     ensures seat { (place.new.table_id ≡ place.old.table_id) × (place.new.id ≡ place.old.id) }
     ensures happened { (place.new.me ≡ (C.token ∷ others_of place.old.me.0, rest place.old.me.1)) × Known (C.token ∷ others_of place.old.me.0) }

@@ -18,7 +18,8 @@ pub fn take_part(
 ) -> Result<PartValue, u64>
     requires { IsSized steps.now.table_id requesters × IsOf steps.now.table_id requesters number place.old × IsPartName requesters part }
     ensures seat { (place.new.table_id ≡ place.old.table_id) × (place.new.id ≡ place.old.id) }
-    ensures taken { MatchResult result (λ v. IsPartValue part v × Took place.old.me (part_slot part) v place.new.me) (λ w. (w ≢ 0) × (place.new.me ≡ place.old.me) × (Outside (part_slot part) (token_of place.old.me.0).held → w ≢ suc (token_of place.old.me.0).knows.number)) }
+    ensures taken { MatchResult result (λ v. IsPartValue part v × Took place.old.me (part_slot part) v place.new.me) (λ w. (w ≢ 0) ×
+        (place.new.me ≡ place.old.me) × (Outside (part_slot part) (token_of place.old.me.0).held → w ≢ suc (token_of place.old.me.0).knows.number)) }
 {
     take(steps, place, part.slot(), number as u64)
 }

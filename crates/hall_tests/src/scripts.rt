@@ -10,7 +10,7 @@ use fabric_core::{ANSWER_ROOM, Config, Event, Fabric, Seen};
 use hall_core::{Answered, Hall, HallRefusal, ReqSeat, Submitted, WorkEvent, WorkSeat};
 use hall_driving::beside::{Act, Asked, ends_so, event_of, made, operation_of};
 use hall_driving::drive::{collect, one_and_a_worker, pump, read, small, submit, two_and_a_worker};
-use history_check::Record;
+use history_words::Record;
 use lane_core::LaneCredits;
 use std::alloc::Global;
 use std::test::Fail;

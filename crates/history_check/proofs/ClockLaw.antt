@@ -4,16 +4,16 @@ use Rattle.std.specs.Prelude.{slice_get, ◌==◌, ◌||◌, nat_lt, if◌then�
 use Rattle.std.specs.List.{list_any}
 use Rattle.std.proofs.lemmas.Bool.{eqb-true, eq-eqb, and_parts, ltb-false, le-ltb}
 use Rattle.std.proofs.lemmas.Option.{slice_get_within, same_Some}
-use Rattle.tlp_core.specs.declared.operation.Op.{Op}
-use Rattle.seq_memory.specs.declared.Entry.{Entry}
-use Rattle.history_check.specs.declared.Record.{Record}
-use Rattle.history_check.specs.declared.Record.TheVariants as records
-use Rattle.history_check.specs.declared.flaws.FlawKind.{FlawKind}
-use Rattle.history_check.specs.declared.flaws.FlawKind.TheVariants as flaws
-use Rattle.history_check.specs.Claim.{Claim}
-use Rattle.history_check.specs.Clocks.{IsClocked, KeepsRealTimeOrder}
-use Rattle.history_check.specs.Trace.{submissions, is_request, IsLegal, Explains}
-use Rattle.history_check.specs.Flaws.{some_and, place_of, moment, acts_early, clock_flaw, clock_at, first_clock_flaw}
+use Rattle.tlp_core.specs.Ops.{Op}
+use Rattle.seq_memory.specs.Entries.{Entry}
+use Rattle.history_words.specs.Records.{Record}
+use Rattle.history_words.specs.declared.record.RecordOf.TheVariants as records
+use Rattle.history_words.specs.declared.flaws.FlawKind.{FlawKind}
+use Rattle.history_words.specs.declared.flaws.FlawKind.TheVariants as flaws
+use Rattle.history_words.specs.Claim.{Claim}
+use Rattle.history_words.specs.Clocks.{IsClocked}
+use Rattle.history_words.specs.Trace.{submissions, is_request, IsLegal, Explains}
+use Rattle.history_words.specs.Flaws.{some_and, place_of, moment, acts_early, clock_flaw, clock_at, first_clock_flaw}
 use Rattle.history_check.proofs.Firsts.{first_at-below}
 use Rattle.history_check.proofs.LegalLaw.{first_at-all, on_list}
 use Rattle.history_check.proofs.Lists.{clash, take_at, at_take, none_passes, passing, no_one, first_is, first_there}
@@ -22,19 +22,6 @@ use Rattle.history_check.proofs.Lists.{clash, take_at, at_take, none_passes, pas
 placed : (s : ℕ → List Op) (h : List Entry) (p : ℕ) (e : Entry) → IsLegal s h → slice_get h p ≡ Some e → place_of h e.requester e.number ≡ Some p
 placed s h p e legal at =
     first_is (is_request e.requester e.number) h p e at (rw (eq-eqb e.requester e.requester refl, eq-eqb e.number e.number refl) refl) (legal p e at).once
-
-pub in_order : (x : Claim) → Explains x → IsClocked x → KeepsRealTimeOrder x
-in_order x good clocked = λ i k j m p q first one two.
-    let rs = x.records in
-    let h = x.memory.entries in
-    let e = good.linear first.answer i k first.until first.reply first.answered in
-    let there = placed (submissions rs) h e.point (record { requester = i; number = k; op = e.op }) good.legal e.acted in
-    let here = placed (submissions rs) h p (record { requester = i; number = k; op = one.0 }) good.legal one.1 in
-    let same : e.point ≡ p = same_Some e.point p (sym there ∙ here) in
-    let answered : e.point < first.until = e.before_answer in
-    let rises : first.until ≤ first.since = clocked.rises first.answer first.submission (records.Ans i k first.reply first.until) (records.Sub j m first.op first.since) first.before first.answered first.submitted in
-    let later : first.since ≤ q = clocked.after_submission q first.submission first.since (record { requester = j; number = m; op = two.0 }) first.op two.1 first.submitted in
-    omega (arith, same, answered, rises, later)
 
 -- ---- no flaw at a record: the n's are those of a history that grew
 

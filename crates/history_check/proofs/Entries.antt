@@ -5,13 +5,13 @@ use Rattle.std.specs.Option.{option_or}
 use Rattle.std.proofs.lemmas.Bool.{cases_eq, cases_lt, cases_Bool, eqb-true, eq-eqb, and_parts}
 use Rattle.std.proofs.lemmas.List.{length-set, get_or-set_same, get_or-set_other, get_or-replicate, length-replicate, length-take-le, take_more, get_or_read}
 use Rattle.std.proofs.lemmas.Option.{slice_get_within, get_or_from_slice_get, slice_get-get_or, same_Some, none-some}
-use Rattle.seq_memory.specs.declared.Entry.{Entry}
-use Rattle.history_check.specs.declared.Record.{Record}
-use Rattle.history_check.specs.declared.Record.TheVariants as records
-use Rattle.history_check.specs.declared.flaws.FlawKind.TheVariants as flaws
-use Rattle.history_check.specs.Trace.{is_request}
-use Rattle.history_check.specs.Flaws.{first_place, is_sub, sub_place, place_of, some_and, at_place, submits, submits_write, misses, is_stranger, entry_flaw, entry_at, any_below}
-use Rattle.history_check.specs.Lookup.{IsIndex, ArePoints, place_in, point_in, when, submitted_in, missing_in}
+use Rattle.seq_memory.specs.Entries.{Entry}
+use Rattle.history_words.specs.Records.{Record}
+use Rattle.history_words.specs.declared.record.RecordOf.TheVariants as records
+use Rattle.history_words.specs.declared.flaws.FlawKind.TheVariants as flaws
+use Rattle.history_words.specs.Trace.{is_request}
+use Rattle.history_words.specs.Flaws.{first_place, is_sub, sub_place, place_of, some_and, at_place, submits, submits_write, misses, is_stranger, entry_flaw, entry_at, any_below}
+use Rattle.history_words.specs.Lookup.{IsIndex, ArePoints, place_in, point_in, when, submitted_in, missing_in}
 use Rattle.history_check.proofs.Firsts.{first_place-push, or_none, any_below-all}
 
 -- ---- a submission is looked up

@@ -3,10 +3,10 @@ use Rattle.std.proofs.Common.{◌≡◌, ℕ, zero, suc, ◌+◌, ◌<◌, Bool,
 use Rattle.std.specs.Prelude.{slice_get, option_map, ◌==◌, ◌||◌}
 use Rattle.std.specs.Option.{option_or}
 use Rattle.std.proofs.lemmas.Bool.{cases_eq, eq-eqb, ne_eqb}
-use Rattle.history_check.specs.declared.flaws.Flaw.{Flaw}
-use Rattle.history_check.specs.declared.flaws.FlawKind.{FlawKind}
-use Rattle.history_check.specs.declared.flaws.FlawKind.TheVariants as flaws
-use Rattle.history_check.specs.Flaws.{first_place, first_at, any_below, Tells}
+use Rattle.history_words.specs.declared.flaws.Flaw.{Flaw}
+use Rattle.history_words.specs.declared.flaws.FlawKind.{FlawKind}
+use Rattle.history_words.specs.declared.flaws.FlawKind.TheVariants as flaws
+use Rattle.history_words.specs.Flaws.{first_place, first_at, any_below, Tells}
 
 shift : (o : Option ℕ) (b : Bool) (n : ℕ) → option_map (λ n. n + 1) (option_or o (cond b (Some n) None)) ≡ option_or (option_map (λ n. n + 1) o) (cond b (Some (suc n)) None)
 shift (Some m) b n = refl

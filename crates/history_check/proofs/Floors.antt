@@ -7,13 +7,13 @@ use Rattle.std.proofs.lemmas.Bool.{cases_eq, cases_lt, cases_Bool, eqb-true, eq-
 use Rattle.std.proofs.lemmas.List.{length-set, get_or-set_same, get_or-set_other, get_or-replicate, length-replicate, take_more, length_push, get_or_append_left, take-append-le, length-take-le, get_or_push, take_at, get_or_read}
 use Rattle.std.proofs.lemmas.List.Folds.{list_any-append}
 use Rattle.std.proofs.lemmas.Option.{slice_get_within, get_or_from_slice_get, slice_get-get_or, same_Some, none-some}
-use Rattle.seq_memory.specs.declared.Reply.{Reply}
-use Rattle.tlp_core.specs.declared.operation.Op.{Op}
-use Rattle.history_check.specs.declared.Record.{Record}
-use Rattle.history_check.specs.declared.Record.TheVariants as records
-use Rattle.history_check.specs.Trace.{answers_to}
-use Rattle.history_check.specs.Flaws.{sub_place, is_sub, first_place, some_and, had_later}
-use Rattle.history_check.specs.Lookup.{IsIndex, AreFloors, AreFirsts, place_in, requester_of}
+use Rattle.seq_memory.specs.Entries.{Reply}
+use Rattle.tlp_core.specs.Ops.{Op}
+use Rattle.history_words.specs.Records.{Record}
+use Rattle.history_words.specs.declared.record.RecordOf.TheVariants as records
+use Rattle.history_words.specs.Trace.{answers_to}
+use Rattle.history_words.specs.Flaws.{sub_place, is_sub, first_place, some_and, had_later}
+use Rattle.history_words.specs.Lookup.{IsIndex, AreFloors, AreFirsts, place_in, requester_of}
 use Rattle.history_check.proofs.Firsts.{first_place-push, or_none}
 use Rattle.history_check.proofs.Entries.{one_request, set_same, set_other, within}
 

@@ -4,19 +4,19 @@ use Rattle.std.specs.Prelude.{slice_get, option_map, ◌==◌, ◌&&◌, ◌||�
 use Rattle.std.specs.List.{list_any}
 use Rattle.std.proofs.lemmas.Bool.{cases_Bool, cases_lt, and_parts, eqb-true, eq-eqb, lt-ltb, le-ltb}
 use Rattle.std.proofs.lemmas.Option.{slice_get-get_or, none-some}
-use Rattle.seq_memory.specs.declared.Entry.{Entry}
+use Rattle.seq_memory.specs.Entries.{Entry}
 use Rattle.seq_memory.specs.Step.{answer}
-use Rattle.seq_memory.specs.declared.Reply.{Reply}
+use Rattle.seq_memory.specs.Entries.{Reply}
 use Rattle.seq_memory.specs.History.{extent_of, contents_at, reply_at}
-use Rattle.tlp_core.specs.declared.operation.Op.{Op}
-use Rattle.history_check.specs.declared.Record.{Record}
-use Rattle.history_check.specs.declared.Record.TheVariants as records
-use Rattle.history_check.specs.declared.flaws.FlawKind.{FlawKind}
-use Rattle.history_check.specs.declared.flaws.FlawKind.TheVariants as flaws
-use Rattle.history_check.specs.Trace.{answers_to, is_request}
-use Rattle.history_check.specs.Flaws.{sub_place, place_of, is_sub, first_place, some_and, at_place, had_later, asks, moment, same_reply, acted_flaw, point_flaw, asked_flaw, answer_flaw, answer_at}
-use Rattle.history_check.specs.Claim.{Claim}
-use Rattle.history_check.specs.Lookup.{IsIndex, ArePoints, AreFloors, AreFirsts, AreTables, place_in, point_in, requester_of, answers_with, is_told_at, is_told_in, acted_in, judged_point, judged}
+use Rattle.tlp_core.specs.Ops.{Op}
+use Rattle.history_words.specs.Records.{Record}
+use Rattle.history_words.specs.declared.record.RecordOf.TheVariants as records
+use Rattle.history_words.specs.declared.flaws.FlawKind.{FlawKind}
+use Rattle.history_words.specs.declared.flaws.FlawKind.TheVariants as flaws
+use Rattle.history_words.specs.Trace.{answers_to, is_request}
+use Rattle.history_words.specs.Flaws.{sub_place, place_of, is_sub, first_place, some_and, at_place, had_later, asks, moment, same_reply, acted_flaw, point_flaw, asked_flaw, answer_flaw, answer_at}
+use Rattle.history_words.specs.Claim.{Claim}
+use Rattle.history_words.specs.Lookup.{IsIndex, ArePoints, AreFloors, AreFirsts, AreTables, place_in, point_in, requester_of, answers_with, is_told_at, is_told_in, acted_in, judged_point, judged}
 use Rattle.history_check.proofs.Entries.{point_is, passes, present, within, is_it}
 use Rattle.history_check.proofs.Lists.{clash, take_at, one_passes, passing, no_one, first_of_any, first_is, first_there, first_below, first_above}
 

@@ -4,15 +4,15 @@ use Rattle.std.specs.Prelude.{slice_get, ◌&&◌, not, is_some, is_none, if◌t
 use Rattle.std.proofs.lemmas.Bool.{cases_Bool, cases_eq, ne_eqb}
 use Rattle.std.proofs.lemmas.List.{take_all}
 use Rattle.std.proofs.lemmas.Option.{slice_get_within, same_Some}
-use Rattle.tlp_core.specs.declared.operation.Op.{Op}
+use Rattle.tlp_core.specs.Ops.{Op}
 use Rattle.tlp_core.specs.Operation.{is_posted}
-use Rattle.seq_memory.specs.declared.Entry.{Entry}
-use Rattle.history_check.specs.declared.Record.{Record}
-use Rattle.history_check.specs.declared.Record.TheVariants as records
-use Rattle.history_check.specs.declared.flaws.FlawKind.{FlawKind}
-use Rattle.history_check.specs.declared.flaws.FlawKind.TheVariants as flaws
-use Rattle.history_check.specs.Trace.{submissions, IsNumbered, stands, is_request, IsLawful, IsLegal}
-use Rattle.history_check.specs.Flaws.{some_and, at_place, first_at, any_below, numbering_at, numbering_flaw, entry_at, entry_flaw, is_stranger, misses, submits, submits_write, same_op, sub_place, place_of}
+use Rattle.seq_memory.specs.Entries.{Entry}
+use Rattle.history_words.specs.Records.{Record}
+use Rattle.history_words.specs.declared.record.RecordOf.TheVariants as records
+use Rattle.history_words.specs.declared.flaws.FlawKind.{FlawKind}
+use Rattle.history_words.specs.declared.flaws.FlawKind.TheVariants as flaws
+use Rattle.history_words.specs.Trace.{submissions, IsNumbered, stands, is_request, IsLawful, IsLegal}
+use Rattle.history_words.specs.Flaws.{some_and, at_place, first_at, any_below, numbering_at, numbering_flaw, entry_at, entry_flaw, is_stranger, misses, submits, submits_write, same_op, sub_place, place_of}
 use Rattle.history_check.proofs.Firsts.{first_at-below, any_below-all, any_below-one}
 use Rattle.history_check.proofs.Linked.{op_in, op_at, linked_all, number_passes}
 use Rattle.history_check.proofs.Lists.{clash, first_is_any}

@@ -5,19 +5,19 @@ use Rattle.std.specs.List.{list_any}
 use Rattle.std.specs.Option.{option_or}
 use Rattle.std.proofs.lemmas.Bool.{eqb-true, eq-eqb, and_parts, ltb-true, ltb-false, lt-ltb, le-ltb, leb-true, leb-false, lt-leb}
 use Rattle.std.proofs.lemmas.Option.{slice_get_within, same_Some, none-some}
-use Rattle.tlp_core.specs.declared.operation.Op.{Op}
+use Rattle.tlp_core.specs.Ops.{Op}
 use Rattle.tlp_core.specs.Operation.{is_posted}
-use Rattle.seq_memory.specs.declared.Entry.{Entry}
-use Rattle.seq_memory.specs.declared.Reply.{Reply}
+use Rattle.seq_memory.specs.Entries.{Entry}
+use Rattle.seq_memory.specs.Entries.{Reply}
 use Rattle.seq_memory.specs.History.{extent_of, reply_at}
-use Rattle.history_check.specs.declared.Record.{Record}
-use Rattle.history_check.specs.declared.Record.TheVariants as records
-use Rattle.history_check.specs.declared.flaws.Flaw.{Flaw}
-use Rattle.history_check.specs.declared.flaws.FlawKind.{FlawKind}
-use Rattle.history_check.specs.declared.flaws.FlawKind.TheVariants as flaws
-use Rattle.history_check.specs.Claim.{Claim}
-use Rattle.history_check.specs.Trace.{submissions, IsNumbered, answers_to, is_request, IsLegal, IsExplained, Explains}
-use Rattle.history_check.specs.Flaws.{some_and, at_place, first_flaw, first_at, numbering_at, entry_at, answer_at, answer_flaw, asked_flaw, point_flaw, acted_flaw, had_later, asks, moment, same_reply, is_sub, sub_place, place_of, Tells}
+use Rattle.history_words.specs.Records.{Record}
+use Rattle.history_words.specs.declared.record.RecordOf.TheVariants as records
+use Rattle.history_words.specs.declared.flaws.Flaw.{Flaw}
+use Rattle.history_words.specs.declared.flaws.FlawKind.{FlawKind}
+use Rattle.history_words.specs.declared.flaws.FlawKind.TheVariants as flaws
+use Rattle.history_words.specs.Claim.{Claim}
+use Rattle.history_words.specs.Trace.{submissions, IsNumbered, answers_to, is_request, IsLegal, IsExplained, Explains}
+use Rattle.history_words.specs.Flaws.{some_and, at_place, first_flaw, first_at, numbering_at, entry_at, answer_at, answer_flaw, asked_flaw, point_flaw, acted_flaw, had_later, asks, moment, same_reply, is_sub, sub_place, place_of, Tells}
 use Rattle.history_check.proofs.Entries.{passes}
 use Rattle.history_check.proofs.Firsts.{first_at-below}
 use Rattle.history_check.proofs.Linked.{op_in, op_at, linked_all}

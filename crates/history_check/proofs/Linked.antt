@@ -6,12 +6,12 @@ use Rattle.std.proofs.lemmas.Bool.{cases_eq, eqb-true, eq-eqb, ne_eqb}
 use Rattle.std.proofs.lemmas.Option.{slice_get_past}
 use Rattle.std.proofs.lemmas.List.{append-nil}
 use Rattle.std.proofs.lemmas.List.Elements.{filter_map-append}
-use Rattle.tlp_core.specs.declared.operation.Op.{Op}
-use Rattle.seq_memory.specs.declared.Reply.{Reply}
-use Rattle.history_check.specs.declared.Record.{Record}
-use Rattle.history_check.specs.declared.Record.TheVariants as records
-use Rattle.history_check.specs.Trace.{submission, submissions, IsNumbered}
-use Rattle.history_check.specs.Flaws.{sub_place, is_sub, is_numbered, some_and}
+use Rattle.tlp_core.specs.Ops.{Op}
+use Rattle.seq_memory.specs.Entries.{Reply}
+use Rattle.history_words.specs.Records.{Record}
+use Rattle.history_words.specs.declared.record.RecordOf.TheVariants as records
+use Rattle.history_words.specs.Trace.{submission, submissions, IsNumbered}
+use Rattle.history_words.specs.Flaws.{sub_place, is_sub, is_numbered, some_and}
 use Rattle.history_check.proofs.Firsts.{first_place-push, slice_get-push, or_none}
 use Rattle.history_check.proofs.Entries.{passes, present}
 use Rattle.history_check.proofs.Floors.{next_record}

@@ -4,7 +4,7 @@ use Rattle.std.specs.Prelude.{slice_get, option_map, ◌||◌, is_some}
 use Rattle.std.specs.List.{list_any}
 use Rattle.std.proofs.lemmas.Bool.{cases_Bool, cases_lt}
 use Rattle.std.proofs.lemmas.Option.{same_Some}
-use Rattle.history_check.specs.Flaws.{first_place, some_and}
+use Rattle.history_words.specs.Flaws.{first_place, some_and}
 use Rattle.history_check.proofs.Entries.{passes, present}
 
 pub clash : {b : Bool} → b ≡ true → b ≡ false → ⊥

@@ -1,17 +1,17 @@
--- Records and entries, by their heads and requests.
+-- Records and entries, by their headers and requests.
 use Rattle.std.proofs.Common.{◌≡◌, ℕ, zero, suc, ◌<◌, Bool, List, [], ◌∷◌, length, Option, Some, None, refl, sym, ap, subst, ◌∙◌, arith}
 use Rattle.std.specs.Prelude.{slice_get, option_map, option_and_then}
 use Rattle.std.proofs.lemmas.Option.{none-some, same_Some}
-use Rattle.tlp_core.specs.declared.operation.Op.{Op}
+use Rattle.tlp_core.specs.Ops.{Op}
 use Rattle.tlp_core.specs.Operation.{is_posted}
-use Rattle.seq_memory.specs.declared.Entry.{Entry}
-use Rattle.seq_memory.specs.declared.Reply.{Reply}
-use Rattle.history_check.specs.declared.Record.{Record}
-use Rattle.history_check.specs.declared.Record.TheVariants as records
-use Rattle.history_check.specs.declared.claim.Head.{Head}
-use Rattle.history_check.specs.declared.claim.Head.TheVariants as heads
-use Rattle.history_check.specs.Heads.{head_of, request_of, found_in}
-use Rattle.history_check.specs.Lookup.{submitted_in}
+use Rattle.seq_memory.specs.Entries.{Entry}
+use Rattle.seq_memory.specs.Entries.{Reply}
+use Rattle.history_words.specs.Records.{Record}
+use Rattle.history_words.specs.declared.record.RecordOf.TheVariants as records
+use Rattle.history_words.specs.declared.claim.RecordHeader.{RecordHeader}
+use Rattle.history_words.specs.declared.claim.RecordHeader.TheVariants as headers
+use Rattle.history_words.specs.Headers.{header_of, request_of, found_in}
+use Rattle.history_words.specs.Lookup.{submitted_in}
 
 -- what stands at a place
 pub there : {X : Type 0} (xs : List X) (n : ℕ) → n < length xs → (x : X) × (slice_get xs n ≡ Some x)
@@ -19,22 +19,22 @@ there [] n l = absurd (omega arith)
 there (x ∷ xs) zero l = (x, refl)
 there (x ∷ xs) (suc n) l = there xs n (omega arith)
 
--- a submission's head is read of a submission
-pub sub_read : (o : Option Record) (head : Head) (i k : ℕ) (posted : Bool) (n : ℕ) → option_map head_of o ≡ Some head → head ≡ heads.Sub i k posted n → (op : Op) × (o ≡ Some (records.Sub i k op n)) × (is_posted op ≡ posted)
-sub_read None head i k posted n e is = cc
-sub_read (Some (records.Sub j m op l)) head i k posted n e is = (op, cc, cc)
-sub_read (Some (records.Ans j m reply l)) head i k posted n e is = cc
+-- a submission's header is read of a submission
+pub sub_read : (o : Option Record) (header : RecordHeader) (i k : ℕ) (posted : Bool) (n : ℕ) → option_map header_of o ≡ Some header → header ≡ headers.Sub i k posted n → (op : Op) × (o ≡ Some (records.Sub i k op n)) × (is_posted op ≡ posted)
+sub_read None header i k posted n e is = cc
+sub_read (Some (records.Sub j m op l)) header i k posted n e is = (op, cc, cc)
+sub_read (Some (records.Ans j m reply l)) header i k posted n e is = cc
 
--- an answer's head is read of an answer
-pub ans_read : (o : Option Record) (head : Head) (i k n : ℕ) → option_map head_of o ≡ Some head → head ≡ heads.Ans i k n → (reply : Reply) × (o ≡ Some (records.Ans i k reply n))
-ans_read None head i k n e is = cc
-ans_read (Some (records.Sub j m op l)) head i k n e is = cc
-ans_read (Some (records.Ans j m reply l)) head i k n e is = (reply, cc)
+-- an answer's header is read of an answer
+pub ans_read : (o : Option Record) (header : RecordHeader) (i k n : ℕ) → option_map header_of o ≡ Some header → header ≡ headers.Ans i k n → (reply : Reply) × (o ≡ Some (records.Ans i k reply n))
+ans_read None header i k n e is = cc
+ans_read (Some (records.Sub j m op l)) header i k n e is = cc
+ans_read (Some (records.Ans j m reply l)) header i k n e is = (reply, cc)
 
--- a head is read of a record
-pub head_read : (o : Option Record) (head : Head) → option_map head_of o ≡ Some head → (r : Record) × (o ≡ Some r) × (head ≡ head_of r)
-head_read None head e = cc
-head_read (Some r) head e = (r, refl, sym (same_Some (head_of r) head e))
+-- a header is read of a record
+pub header_read : (o : Option Record) (header : RecordHeader) → option_map header_of o ≡ Some header → (r : Record) × (o ≡ Some r) × (header ≡ header_of r)
+header_read None header e = cc
+header_read (Some r) header e = (r, refl, sym (same_Some (header_of r) header e))
 
 -- an entry's request is read of an entry
 pub request_read : (o : Option Entry) (q : ℕ × ℕ) → option_map request_of o ≡ Some q → (op : Op) × (o ≡ Some (record { requester = q.0; number = q.1; op = op }))
@@ -43,11 +43,11 @@ request_read (Some x) q e =
     let same : (x.requester, x.number) ≡ q = same_Some (x.requester, x.number) q e in
     (x.op, subst (λ (q : ℕ × ℕ). Some x ≡ Some (record { requester = q.0; number = q.1; op = x.op })) same refl)
 
--- within the records there is a head
-pub none_read : (rs : List Record) (a n : ℕ) → n ≡ length rs → a < n → option_map head_of (slice_get rs a) ≡ None → ⊥
+-- within the records there is a header
+pub none_read : (rs : List Record) (a n : ℕ) → n ≡ length rs → a < n → option_map header_of (slice_get rs a) ≡ None → ⊥
 none_read rs a n e l none =
     let (r, at) = there rs a (omega arith) in
-    none-some (head_of r) (sym none ∙ ap (option_map head_of) at)
+    none-some (header_of r) (sym none ∙ ap (option_map header_of) at)
 
 -- a request's requester has a row
 pub row_read : (o : Option Entry) (i k : ℕ) → option_map request_of o ≡ Some (i, k) → i < 256 → (e : Entry) → o ≡ Some e → e.requester < 256

@@ -5,12 +5,12 @@ use Rattle.std.specs.Option.{option_or}
 use Rattle.std.proofs.lemmas.Bool.{cases_eq, cases_lt, eq-eqb, ne_eqb}
 use Rattle.std.proofs.lemmas.List.Sums.{fold-append}
 use Rattle.std.proofs.lemmas.Option.{slice_get_past}
-use Rattle.seq_memory.specs.declared.Entry.{Entry}
+use Rattle.seq_memory.specs.Entries.{Entry}
 use Rattle.seq_memory.specs.Limits.{Extent}
 use Rattle.seq_memory.specs.Step.{after, answer}
 use Rattle.seq_memory.specs.History.{extent_of, contents}
-use Rattle.history_check.specs.Claim.{Claim}
-use Rattle.history_check.specs.Lookup.{is_told_in, right_in}
+use Rattle.history_words.specs.Claim.{Claim}
+use Rattle.history_words.specs.Lookup.{is_told_in, right_in}
 use Rattle.history_check.proofs.Firsts.{slice_get-push, or_none}
 use Rattle.history_check.proofs.Entries.{next}
 

@@ -4,17 +4,17 @@ use Rattle.std.specs.Prelude.{slice_get, ◌==◌, ◌&&◌, filter_map, replica
 use Rattle.std.specs.Option.{option_or}
 use Rattle.std.proofs.lemmas.Bool.{cases_eq, eq-eqb, ne_eqb}
 use Rattle.std.proofs.lemmas.List.{length-set, get_or-set_same, get_or-set_other, get_or-replicate, length-replicate, replicate_more, take_more, length-take-le}
-use Rattle.std.proofs.lemmas.Option.{slice_get_within, get_or_from_slice_get, slice_get_read}
-use Rattle.history_check.specs.declared.flaws.FlawKind.{FlawKind}
-use Rattle.history_check.specs.declared.flaws.FlawKind.TheVariants as flaws
+use Rattle.std.proofs.lemmas.Option.{slice_get_within, get_or_from_slice_get}
+use Rattle.history_words.specs.declared.flaws.FlawKind.{FlawKind}
+use Rattle.history_words.specs.declared.flaws.FlawKind.TheVariants as flaws
 use Rattle.std.proofs.lemmas.List.Elements.{filter_map-append}
-use Rattle.tlp_core.specs.declared.operation.Op.{Op}
-use Rattle.seq_memory.specs.declared.Reply.{Reply}
-use Rattle.history_check.specs.declared.Record.{Record}
-use Rattle.history_check.specs.declared.Record.TheVariants as records
-use Rattle.history_check.specs.Trace.{submission, submissions}
-use Rattle.history_check.specs.Flaws.{is_sub, sub_place, numbering_at, numbering_flaw}
-use Rattle.history_check.specs.Lookup.{IsIndex, place_in}
+use Rattle.tlp_core.specs.Ops.{Op}
+use Rattle.seq_memory.specs.Entries.{Reply}
+use Rattle.history_words.specs.Records.{Record}
+use Rattle.history_words.specs.declared.record.RecordOf.TheVariants as records
+use Rattle.history_words.specs.Trace.{submission, submissions}
+use Rattle.history_words.specs.Flaws.{is_sub, sub_place, numbering_at, numbering_flaw}
+use Rattle.history_words.specs.Lookup.{IsIndex, place_in}
 use Rattle.history_check.proofs.Firsts.{first_place-push, slice_get-push, or_none}
 
 count_same : (rs : List Record) (i k : ℕ) (op : Op) (n : ℕ) → length (submissions (rs ++ records.Sub i k op n ∷ []) i) ≡ length (submissions rs i) + 1
@@ -119,7 +119,3 @@ numbering-bad rows rs a i k op n at x small d =
 
 pub numbering-ans : (rs : List Record) (a i k : ℕ) (reply : Reply) (n : ℕ) → slice_get rs a ≡ Some (records.Ans i k reply n) → numbering_at rs a ≡ None
 numbering-ans rs a i k reply n at = bound rs a (records.Ans i k reply n) None at refl
-
--- what `rs[a]` reads
-pub read_at : {X : Type 0} (rs : List X) (a : ℕ) (r s : X) → a < length rs → r ≡ get_or rs a r → r ≡ s → slice_get rs a ≡ Some s
-read_at rs a r s within read e = slice_get_read rs (length rs) a r refl within read ∙ ap Some e

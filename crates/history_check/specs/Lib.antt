@@ -1,9 +1,1 @@
-pub mod TraceView
-pub mod Claim
-pub mod Names
-pub mod Trace
-pub mod Flaws
-pub mod Lookup
-pub mod Heads
-pub mod Clocks
 pub mod Points

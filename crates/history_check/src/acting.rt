@@ -1,22 +1,22 @@
 //! The history: each entry was submitted, stands once, and after its requester's earlier writes.
 ghost use Rattle.std.specs.Prelude.{ℕ, ◌≡◌, ◌≤◌, ◌<◌, ◌&&◌, length, None, Some, false, true, IfOk, OnOk, IfErr, replicate, slice_get, option_and_then};
-ghost use Rattle.seq_memory.specs.declared.Entry.{Entry};
-ghost use Rattle.history_check.specs.Flaws as flaw;
-ghost use Rattle.history_check.specs.Lookup.{IsIndex, ArePoints, point_in, missing_in};
-ghost use Rattle.history_check.specs.Heads.{found_in};
+ghost use Rattle.seq_memory.specs.Entries.{Entry};
+ghost use Rattle.history_words.specs.Flaws as flaw;
+ghost use Rattle.history_words.specs.Lookup.{IsIndex, ArePoints, point_in, missing_in};
+ghost use Rattle.history_words.specs.Headers.{found_in};
 ghost use Rattle.history_check.specs.Points.{Fits};
 
-use crate::claim::{AsClaim, Head};
-use crate::flaws::{Flaw, FlawKind, NO_MEMORY};
+use crate::NO_MEMORY;
 use crate::index::{Index, row_of};
 use crate::points::{NONE, Points};
+use history_words::{AsClaim, Flaw, FlawKind, RecordHeader};
 use std::alloc::{AllocError, Global};
 
 fn submits_write<C: AsClaim>(claim: &C, place: usize) -> bool
     ensures { result ≡ flaw.at_place flaw.submits_write (C.claim claim.now).records place }
 {
-    match claim.head(place) {
-        Some(Head::Sub { is_posted, .. }) => is_posted,
+    match claim.header(place) {
+        Some(RecordHeader::Sub { is_posted, .. }) => is_posted,
         _ => false,
     }
 }

@@ -1,14 +1,13 @@
 //! The answers: each has its point.
 ghost use Rattle.std.specs.Prelude.{ℕ, ◌≡◌, ◌||◌, length, None, IfOk, IfSome, OnOk, IfErr, nat_le, nat_lt};
-ghost use Rattle.history_check.specs.Flaws as flaw;
+ghost use Rattle.history_words.specs.Flaws as flaw;
 ghost use Rattle.history_check.specs.Points.{Fits};
-ghost use Rattle.history_check.specs.Lookup.{AreFloors, AreTables, point_in, judged, acted_in};
+ghost use Rattle.history_words.specs.Lookup.{AreFloors, AreTables, point_in, judged, acted_in};
 
 use crate::acting::point;
-use crate::claim::{AsClaim, Head};
-use crate::flaws::{Flaw, FlawKind};
 use crate::index::{Index, row_of};
 use crate::points::Points;
+use history_words::{AsClaim, Flaw, FlawKind, RecordHeader};
 use std::alloc::{AllocError, Global};
 
 /// What is looked up of an answer.
@@ -50,12 +49,12 @@ pub(crate) fn floors<C: AsClaim>(
     let mut floors = Points::with_capacity(alloc, claim.records())?;
     let mut seen = Points::none(alloc, 256)?;
     for a in 0..claim.records() {
-        match claim.head(a) {
-            Some(Head::Sub { requester, .. }) => {
+        match claim.header(a) {
+            Some(RecordHeader::Sub { requester, .. }) => {
                 floors.push(seen.get(row_of(requester)))?;
             }
             Some(
-                Head::Ans {
+                RecordHeader::Ans {
                     requester,
                     number,
                     ..
@@ -76,8 +75,8 @@ pub(crate) fn floors<C: AsClaim>(
 fn asks_at<C: AsClaim>(claim: &C, b: usize) -> bool
     ensures { result ≡ flaw.at_place flaw.asks (C.claim claim.now).records b }
 {
-    match claim.head(b) {
-        Some(Head::Sub { is_posted, .. }) => !is_posted,
+    match claim.header(b) {
+        Some(RecordHeader::Sub { is_posted, .. }) => !is_posted,
         _ => false,
     }
 }
@@ -85,8 +84,8 @@ fn asks_at<C: AsClaim>(claim: &C, b: usize) -> bool
 fn is_early<C: AsClaim>(claim: &C, b: usize, p: usize) -> bool
     ensures { result ≡ flaw.at_place (λ r. nat_lt p (flaw.moment r)) (C.claim claim.now).records b }
 {
-    match claim.head(b) {
-        Some(head) => (p as u64) < head.moment(),
+    match claim.header(b) {
+        Some(header) => (p as u64) < header.moment(),
         None => false,
     }
 }
@@ -153,7 +152,8 @@ fn judge<C: AsClaim>(
     n: u64,
     place: Option<usize>,
 ) -> Option<FlawKind>
-    ensures flaw { result ≡ judged (C.claim claim.now).records tables.entry.points.now tables.entry.floors.now tables.entry.firsts.now tables.entry.right.now a n place }
+    ensures flaw { result ≡
+        judged (C.claim claim.now).records tables.entry.points.now tables.entry.floors.now tables.entry.firsts.now tables.entry.right.now a n place }
     ensures known { IfSome result (λ kind. ¬ (kind ≡ FlawKind.Memory)) }
 {
     let Some(b) = place else {
@@ -178,9 +178,9 @@ pub(crate) fn answer<C: AsClaim>(index: &Index, claim: &C, tables: Tables<'_>) -
     ensures err { IfErr result (flaw.Tells (flaw.first_at (flaw.answer_at (C.claim claim.now)) (length (C.claim claim.now).records))) }
 {
     for a in 0..claim.records() {
-        match claim.head(a) {
+        match claim.header(a) {
             Some(
-                Head::Ans {
+                RecordHeader::Ans {
                     requester,
                     number,
                     n,
@@ -191,7 +191,7 @@ pub(crate) fn answer<C: AsClaim>(index: &Index, claim: &C, tables: Tables<'_>) -
                     return Err(Flaw { kind, place: a });
                 }
             }
-            Some(Head::Sub { .. }) => {}
+            Some(RecordHeader::Sub { .. }) => {}
             None => {}
         }
     }

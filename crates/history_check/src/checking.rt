@@ -1,18 +1,18 @@
 //! The check, pass by pass.
 ghost use Rattle.std.specs.Prelude.{◌≡◌, None, OnOk, IfOk, IfErr, option_map};
-ghost use Rattle.history_check.specs.Flaws.{first_flaw, first_clock_flaw, first_flaw_clocked, Tells};
-ghost use Rattle.history_check.specs.Clocks.{IsClocked, KeepsRealTimeOrder};
-ghost use Rattle.history_check.specs.Lookup.{ArePoints};
-ghost use Rattle.history_check.specs.Claim.{claim_of};
-ghost use Rattle.history_check.specs.Trace.{Explains};
+ghost use Rattle.history_words.specs.Flaws.{first_flaw, first_clock_flaw, first_flaw_clocked, Tells};
+ghost use Rattle.history_words.specs.Clocks.{IsClocked, KeepsRealTimeOrder};
+ghost use Rattle.history_words.specs.Lookup.{ArePoints};
+ghost use Rattle.history_words.specs.Claim.{claim_of};
+ghost use Rattle.history_words.specs.Trace.{Explains};
 
 use crate::answers::Tables;
-use crate::claim::{AsClaim, Claim};
 use crate::clocks::first_unclocked;
-use crate::flaws::{Flaw, FlawKind, NO_MEMORY};
-use crate::laws::{answered_first_acts_first, explained_is_without_flaw};
+use crate::laws::explained_is_without_flaw;
 use crate::points::Points;
-use crate::{Trace, acting, answers, comparing, index};
+use crate::{NO_MEMORY, acting, answers, comparing, index};
+use history_words::laws::answered_first_acts_first;
+use history_words::{AsClaim, Claim, Flaw, FlawKind, Trace};
 use seq_memory::Entry;
 use std::alloc::Global;
 
@@ -129,7 +129,8 @@ pub fn check_clocked(alloc: Global, trace: &Trace, history: &[Entry]) -> Result<
     ensures explained { OnOk result (Explains (claim_of trace.now history.now)) }
     ensures clocked { OnOk result (IsClocked (claim_of trace.now history.now)) }
     ensures ordered { OnOk result (KeepsRealTimeOrder (claim_of trace.now history.now)) }
-    ensures flawed { IfErr result (λ f. ¬ (f.kind ≡ FlawKind.Memory) → Explains (claim_of trace.now history.now) → ¬ (IsClocked (claim_of trace.now history.now))) }
+    ensures flawed { IfErr result (λ f. ¬ (f.kind ≡ FlawKind.Memory) → Explains (claim_of trace.now history.now) →
+        ¬ (IsClocked (claim_of trace.now history.now))) }
     ensures ok { OnOk result (first_flaw_clocked (claim_of trace.now history.now) ≡ None) }
     ensures err { IfErr result (Tells (first_flaw_clocked (claim_of trace.now history.now))) }
 {

@@ -1,12 +1,12 @@
 //! The sequential memory's replies, each compared with the first answer to its request.
 ghost use Rattle.std.specs.Prelude.{ℕ, ◌≡◌, IfOk, slice_get, replicate, option_and_then};
-ghost use Rattle.history_check.specs.Heads.{first_in};
-ghost use Rattle.history_check.specs.Lookup.{IsIndex, AreFirsts, right_in};
+ghost use Rattle.history_words.specs.Headers.{first_in};
+ghost use Rattle.history_words.specs.Lookup.{IsIndex, AreFirsts, right_in};
 
 use crate::acting::point;
-use crate::claim::{AsClaim, Head};
 use crate::index::Index;
 use crate::points::{NONE, Points};
+use history_words::{AsClaim, RecordHeader};
 use seq_memory::ReplyData;
 use std::alloc::{AllocError, Global};
 
@@ -25,9 +25,9 @@ pub(crate) fn first_answers<C: AsClaim>(
     }
     let mut firsts = Points::none(alloc, count)?;
     for a in 0..count {
-        match claim.head(a) {
+        match claim.header(a) {
             Some(
-                Head::Ans {
+                RecordHeader::Ans {
                     requester,
                     number,
                     ..
@@ -37,7 +37,7 @@ pub(crate) fn first_answers<C: AsClaim>(
                     firsts.set(b, firsts.get(b).or(Some(a)));
                 }
             }
-            Some(Head::Sub { .. }) => {}
+            Some(RecordHeader::Sub { .. }) => {}
             None => {}
         }
     }

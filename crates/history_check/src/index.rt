@@ -1,10 +1,10 @@
 //! Where each submission stands among the records.
 ghost use Rattle.std.specs.Prelude.{◌≡◌, ◌<◌, ◌++◌, ◌∷◌, [], length, set, get_or, None, IfOk, OnOk, IfErr};
-ghost use Rattle.history_check.specs.Flaws.{first_at, numbering_at, Tells};
-ghost use Rattle.history_check.specs.Lookup.{IsIndex, place_in};
+ghost use Rattle.history_words.specs.Flaws.{first_at, numbering_at, Tells};
+ghost use Rattle.history_words.specs.Lookup.{IsIndex, place_in};
 
-use crate::claim::{AsClaim, Head};
-use crate::flaws::{Flaw, FlawKind, NO_MEMORY};
+use crate::NO_MEMORY;
+use history_words::{AsClaim, Flaw, FlawKind, RecordHeader};
 use std::alloc::{AllocError, Global};
 use std::marker::Model;
 
@@ -79,9 +79,9 @@ pub(crate) fn index_of<C: AsClaim>(alloc: Global, claim: &C) -> Result<Index, Fl
         return Err(NO_MEMORY);
     };
     for a in 0..claim.records() {
-        match claim.head(a) {
+        match claim.header(a) {
             Some(
-                Head::Sub {
+                RecordHeader::Sub {
                     requester,
                     number,
                     ..
@@ -97,7 +97,7 @@ pub(crate) fn index_of<C: AsClaim>(alloc: Global, claim: &C) -> Result<Index, Fl
                     return Err(NO_MEMORY);
                 };
             }
-            Some(Head::Ans { .. }) => {}
+            Some(RecordHeader::Ans { .. }) => {}
             None => {}
         }
     }

@@ -1,6 +1,6 @@
 //! Whether a history explains what requesters were told.
 //!
-//! A [`Trace`] has what requesters submitted to a memory and what they were answered, in the order
+//! A [`Trace`](history_words::Trace) has what requesters submitted to a memory and what they were answered, in the order
 //! of events, wherever it comes from; a history is the requests in the order in which the memory
 //! did them. [`check`] says whether the history explains the trace, and else what is wrong first:
 //! each answer has to be the sequential memory's at one point of the history that lies after its
@@ -9,7 +9,7 @@
 //! act in real-time order, so that the answered ones are linearizable.
 //!
 //! [`check_claim`] and its like take a trace and a history however they are kept: whatever says what
-//! stands at each place, as an [`AsClaim`]. [`Claim`] is one that lends both. No step of the check
+//! stands at each place, as an [`AsClaim`](history_words::AsClaim). [`Claim`](history_words::Claim) is one that lends both. No step of the check
 //! copies a record or an entry.
 //!
 //! The check is near linear in the records and entries: one loop each over flat tables.
@@ -18,10 +18,8 @@
 mod acting;
 mod answers;
 mod checking;
-mod claim;
 mod clocks;
 mod comparing;
-mod flaws;
 mod index;
 pub mod laws;
 mod points;
@@ -30,43 +28,10 @@ pub use checking::{
     check, check_claim, check_claim_clocked, check_claim_with_clock, check_clocked,
     check_with_clock,
 };
-pub use claim::{AsClaim, Claim, Head};
-pub use flaws::{Flaw, FlawKind};
-use seq_memory::{Extent, Reply};
-use std::marker::Model;
-use tlp_core::Op;
+use history_words::{Flaw, FlawKind};
 
-/// What a requester saw. `n` is the length of the history at that event.
-#[derive(Clone, Debug, PartialEq, Drop)]
-pub enum Record {
-    /// The requester submitted an operation under its next number.
-    Sub {
-        requester: u8,
-        number: u32,
-        op: Op,
-        n: u64,
-    },
-    /// It was answered.
-    Ans {
-        requester: u8,
-        number: u32,
-        reply: Reply,
-        n: u64,
-    },
-}
-
-/// What requesters submitted to a memory and were answered, in the order of events.
-#[derive(Clone, Debug, Drop)]
-pub struct Trace {
-    /// The memory, whose bytes are zeros at first.
-    pub extent: Extent,
-    pub records: Vec<Record>,
-}
-
-impl Model for Trace {
-    ghost use Rattle.history_check.specs.TraceView.{TraceView};
-
-    ghost Value = { TraceView };
-
-    ghost view = { λ t. record { base = t.extent.base; size = t.extent.size; block = t.extent.block; records = t.records.items } };
-}
+/// Where a growth was refused.
+pub(crate) const NO_MEMORY: Flaw = Flaw {
+    kind: FlawKind::Memory,
+    place: 0,
+};

@@ -6,10 +6,10 @@ use Rattle.std.specs.Cmp.{nat_cmp_is}
 use Rattle.std.proofs.lemmas.Bool.{cases_eq, cases_lt, eq-eqb, ne_eqb}
 use Rattle.std.specs.Option.{option_or}
 use Rattle.std.proofs.lemmas.List.{take_more, length-take-le}
-use Rattle.seq_memory.specs.declared.Entry.{Entry}
-use Rattle.history_check.specs.declared.Record.{Record}
-use Rattle.history_check.specs.Flaws.{first_place, place_of}
-use Rattle.history_check.specs.Trace.{is_request, answers_to}
+use Rattle.seq_memory.specs.Entries.{Entry}
+use Rattle.history_words.specs.Records.{Record}
+use Rattle.history_words.specs.Flaws.{first_place, place_of}
+use Rattle.history_words.specs.Trace.{is_request, answers_to}
 use Rattle.history_picture.specs.Layout.{acted_in, answer_in}
 
 mapped : {X Y : Type 0} (f : X → Y) (o : Option X) (t : Bool) (x : X) → option_map f (option_or o (cond t (Some x) None)) ≡ option_or (option_map f o) (cond t (Some (f x)) None)

@@ -3,8 +3,8 @@ use Rattle.std.proofs.Common.{◌≡◌, ◌∙◌, ◌+◌, ◌∷◌, ◌++◌
 use Rattle.std.specs.Prelude.{◌==◌}
 use Rattle.std.proofs.lemmas.Grind.{flat_map-append}
 use Rattle.std.proofs.lemmas.List.{append-nil}
-use Rattle.seq_memory.specs.declared.Entry.{Entry}
-use Rattle.history_check.specs.declared.Record.{Record}
+use Rattle.seq_memory.specs.Entries.{Entry}
+use Rattle.history_words.specs.Records.{Record}
 use Rattle.svg_text.specs.Shapes.{Shape, shape_text, shapes_text}
 use Rattle.history_picture.specs.declared.marks.View.{View}
 use Rattle.history_picture.specs.Picture.{record_shapes, record_ends, bars, ends_of, frame, frame_of, height_of, row_ends, row, row_height, rows, rows_bottom, tick, entry_shapes, entries}

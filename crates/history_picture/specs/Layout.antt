@@ -1,10 +1,10 @@
 -- Where the parts of a picture stand. A point is a length of the history; an offset counts points from the first that
 -- is shown.
 use Rattle.std.specs.Prelude.{ℕ, ◌+◌, ◌-◌, ◌*◌, ◌&&◌, ◌||◌, nat_le, nat_lt, min, max, Bool, if◌then◌else◌, List, [], ◌∷◌, ◌++◌, length, set, Option, Some, None, option_map, is_none}
-use Rattle.seq_memory.specs.declared.Entry.{Entry}
-use Rattle.history_check.specs.declared.Record.{Record}
-use Rattle.history_check.specs.Flaws.{first_place, place_of}
-use Rattle.history_check.specs.Trace.{answers_to}
+use Rattle.seq_memory.specs.Entries.{Entry}
+use Rattle.history_words.specs.Records.{Record}
+use Rattle.history_words.specs.Flaws.{first_place, place_of}
+use Rattle.history_words.specs.Trace.{answers_to}
 use Rattle.history_picture.specs.declared.scale.Window.{Window}
 use Rattle.history_picture.specs.declared.scale.Scale.{Scale}
 use Rattle.history_picture.specs.declared.bars.Bar.{Bar}

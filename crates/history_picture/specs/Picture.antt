@@ -1,14 +1,14 @@
 -- The shapes of a picture.
 use Rattle.std.specs.Prelude.{ℕ, ◌+◌, ◌-◌, ◌*◌, ◌==◌, ◌&&◌, nat_le, nat_lt, max, Bool, true, false, if◌then◌else◌, List, [], ◌∷◌, ◌++◌, length, take, drop, codes, slice_get, Option, Some, None}
 use Rattle.std.specs.Fmt.{decimal}
-use Rattle.tlp_core.specs.declared.operation.Op.{Op}
+use Rattle.tlp_core.specs.Ops.{Op}
 use Rattle.tlp_core.specs.Operation.{is_posted}
-use Rattle.seq_memory.specs.declared.Entry.{Entry}
-use Rattle.history_check.specs.declared.Record.{Record}
-use Rattle.history_check.specs.declared.Record.TheVariants as records
-use Rattle.history_check.specs.declared.flaws.Flaw.{Flaw}
-use Rattle.history_check.specs.Claim.{Claim}
-use Rattle.history_check.specs.Names.{name_of}
+use Rattle.seq_memory.specs.Entries.{Entry}
+use Rattle.history_words.specs.Records.{Record}
+use Rattle.history_words.specs.declared.record.RecordOf.TheVariants as records
+use Rattle.history_words.specs.declared.flaws.Flaw.{Flaw}
+use Rattle.history_words.specs.Claim.{Claim}
+use Rattle.history_words.specs.Names.{name_of}
 use Rattle.flaw_places.specs.Places.{is_of_entry, flawed_request}
 use Rattle.svg_text.specs.declared.colour.Colour.{Colour}
 use Rattle.svg_text.specs.declared.colour.Colour.TheVariants as colours

@@ -7,7 +7,7 @@ use crate::marks::centred_label;
 use crate::scale::{Scale, x_at};
 use crate::words::moment_of;
 use flaw_places::is_of_entry;
-use history_check::{Flaw, Record};
+use history_words::{Flaw, Record};
 use std::alloc::AllocError;
 use svg_text::{Colour, Rule, put_label, put_lines};
 

@@ -7,7 +7,7 @@ use crate::marks::{edge_of, plain_label};
 use crate::scale::Scale;
 use crate::words::{put_verdict, put_window};
 use arrayvec::ArrayString;
-use history_check::Flaw;
+use history_words::Flaw;
 use std::alloc::AllocError;
 use svg_text::{Block, Colour, Dot, Label, put_block, put_dot, put_label};
 

@@ -3,10 +3,10 @@ ghost use Rattle.std.specs.Prelude.{ℕ, ◌≡◌, ◌==◌, if◌then◌else�
 ghost use Rattle.std.specs.Option.{option_or};
 ghost use Rattle.std.specs.Ordering.{nat_cmp};
 ghost use Rattle.std.specs.BTreeMap.{get};
-ghost use Rattle.history_check.specs.Trace.{is_request, answers_to};
+ghost use Rattle.history_words.specs.Trace.{is_request, answers_to};
 ghost use Rattle.history_picture.specs.Layout.{acted_in, answer_in};
 
-use history_check::Record;
+use history_words::Record;
 use seq_memory::Entry;
 use std::alloc::{AllocError, Global};
 use std::collections::BTreeMap;
@@ -29,7 +29,8 @@ fn note_entry(
     entry: &Entry,
     value: u64,
 ) -> Result<(), AllocError>
-    ensures { OnOk result ((k : ℕ) → get nat_cmp map.new k ≡ option_or (get nat_cmp map.old k) (if is_request requester k entry.now then Some value else None)) }
+    ensures { OnOk result ((k : ℕ) →
+        get nat_cmp map.new k ≡ option_or (get nat_cmp map.old k) (if is_request requester k entry.now then Some value else None)) }
 {
     if requester != entry.requester {
         return Ok(());

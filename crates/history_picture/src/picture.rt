@@ -1,6 +1,6 @@
 //! Whole pictures.
 ghost use Rattle.std.specs.Prelude.{◌≡◌, ◌≤◌, ◌+◌, ◌++◌, length, OnOk, OnErr, IfOk};
-ghost use Rattle.history_check.specs.Claim.{claim_of};
+ghost use Rattle.history_words.specs.Claim.{claim_of};
 ghost use Rattle.svg_text.specs.Shapes.{shapes_text};
 ghost use Rattle.history_picture.specs.Picture as spec;
 
@@ -11,7 +11,7 @@ use crate::marks::View;
 use crate::rows::{Shown, put_rows};
 use crate::scale::{Scale, Window, scale_of, x_at};
 use flaw_places::flawed_request;
-use history_check::{Claim, Flaw, Record, Trace};
+use history_words::{Claim, Flaw, Record, Trace};
 use seq_memory::Entry;
 use std::alloc::{AllocError, Global};
 use svg_text::{put_label, put_page};
@@ -34,7 +34,8 @@ struct Drawn<'a> {
 /// Adds the shapes below the heading, and gives where the rows end.
 fn put_body(alloc: Global, drawn: &Drawn<'_>, out: &mut Vec<u8>) -> Result<u64, AllocError>
     requires { drawn.now.view.scale.from + drawn.now.view.scale.span ≤ length drawn.now.history.now }
-    ensures shapes { OnOk result (out.new.items ≡ out.old.items ++ shapes_text (spec.body drawn.now.view drawn.now.records.now drawn.now.history.now drawn.now.flaw)) }
+    ensures shapes { OnOk result (out.new.items ≡ out.old.items ++
+        shapes_text (spec.body drawn.now.view drawn.now.records.now drawn.now.history.now drawn.now.flaw)) }
     ensures bottom { IfOk result (λ bottom. bottom ≡ spec.bottom_of drawn.now.view drawn.now.records.now drawn.now.history.now) }
     ensures range { IfOk result (λ bottom. bottom ≤ 100000) }
 {
@@ -56,7 +57,8 @@ fn put_body(alloc: Global, drawn: &Drawn<'_>, out: &mut Vec<u8>) -> Result<u64, 
 /// Adds all shapes, and gives where the rows end.
 fn put_drawn(alloc: Global, drawn: &Drawn<'_>, out: &mut Vec<u8>) -> Result<u64, AllocError>
     requires { drawn.now.view.scale.from + drawn.now.view.scale.span ≤ length drawn.now.history.now }
-    ensures shapes { OnOk result (out.new.items ≡ out.old.items ++ shapes_text (spec.drawn drawn.now.view drawn.now.records.now drawn.now.history.now drawn.now.flaw)) }
+    ensures shapes { OnOk result (out.new.items ≡ out.old.items ++
+        shapes_text (spec.drawn drawn.now.view drawn.now.records.now drawn.now.history.now drawn.now.flaw)) }
     ensures bottom { IfOk result (λ bottom. bottom ≡ spec.bottom_of drawn.now.view drawn.now.records.now drawn.now.history.now) }
     ensures range { IfOk result (λ bottom. bottom ≤ 100000) }
 {

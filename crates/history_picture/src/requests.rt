@@ -14,7 +14,7 @@ use crate::words::{
     Request, answer_at, kind_colour, moment_of, put_dot_words, put_op_label, put_tooltip,
 };
 use arrayvec::ArrayString;
-use history_check::Record;
+use history_words::Record;
 use std::alloc::AllocError;
 use std::collections::BTreeMap;
 use svg_text::{Block, Dot, put_block, put_dot, put_label};

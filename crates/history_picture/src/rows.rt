@@ -8,7 +8,7 @@ use crate::marks::{View, plain_label};
 use crate::requests::{Row, put_bars};
 use crate::words::put_requester_words;
 use arrayvec::ArrayString;
-use history_check::Record;
+use history_words::Record;
 use seq_memory::Entry;
 use std::alloc::{AllocError, Global};
 use svg_text::{Colour, Rule, put_label, put_lines};
@@ -90,7 +90,8 @@ fn put_row(
     out: &mut Vec<u8>,
 ) -> Result<u64, AllocError>
     requires { top ≤ 900000 }
-    ensures shapes { OnOk result (out.new.items ≡ out.old.items ++ shapes_text (spec.row shown.now.view shown.now.width shown.now.records.now shown.now.history.now requester top)) }
+    ensures shapes { OnOk result (out.new.items ≡ out.old.items ++
+        shapes_text (spec.row shown.now.view shown.now.width shown.now.records.now shown.now.history.now requester top)) }
     ensures height { IfOk result (λ height. height ≡ spec.row_height shown.now.view shown.now.records.now shown.now.history.now requester) }
     ensures range { IfOk result (λ height. height ≤ 7184) }
 {
@@ -119,7 +120,8 @@ fn put_rows_of(
     out: &mut Vec<u8>,
 ) -> Result<u64, AllocError>
     requires { length requesters.now ≤ 7 }
-    ensures shapes { OnOk result (out.new.items ≡ out.old.items ++ shapes_text (spec.rows shown.now.view shown.now.width shown.now.records.now shown.now.history.now 116 requesters.now)) }
+    ensures shapes { OnOk result (out.new.items ≡ out.old.items ++
+        shapes_text (spec.rows shown.now.view shown.now.width shown.now.records.now shown.now.history.now 116 requesters.now)) }
     ensures bottom { IfOk result (λ bottom. bottom ≡ spec.rows_bottom shown.now.view shown.now.records.now shown.now.history.now 116 requesters.now) }
     ensures range { IfOk result (λ bottom. bottom ≤ 100000) }
 {
@@ -137,7 +139,8 @@ pub(crate) fn put_rows(
     shown: &Shown<'_>,
     out: &mut Vec<u8>,
 ) -> Result<u64, AllocError>
-    ensures shapes { OnOk result (out.new.items ≡ out.old.items ++ shapes_text (spec.rows shown.now.view shown.now.width shown.now.records.now shown.now.history.now 116 spec.requesters)) }
+    ensures shapes { OnOk result (out.new.items ≡ out.old.items ++
+        shapes_text (spec.rows shown.now.view shown.now.width shown.now.records.now shown.now.history.now 116 spec.requesters)) }
     ensures bottom { IfOk result (λ bottom. bottom ≡ spec.bottom_of shown.now.view shown.now.records.now shown.now.history.now) }
     ensures range { IfOk result (λ bottom. bottom ≤ 100000) }
 {

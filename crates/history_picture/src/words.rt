@@ -5,7 +5,7 @@ ghost use Rattle.history_picture.specs.Words as said;
 
 use arrayvec::ArrayString;
 use flaw_places::write_flaw;
-use history_check::{Flaw, Record};
+use history_words::{Flaw, Record};
 use operation_text::{write_decimal, write_hexadecimal, write_op, write_reply};
 use seq_memory::Reply;
 use std::alloc::AllocError;
@@ -90,7 +90,7 @@ fn put_request(requester: u8, number: u32, op: &Op, text: &mut ArrayString<512>)
     text.push_str("request ");
     put_pair(requester, number, text);
     text.push_str(" ");
-    write_op(op, text);
+    write_op(&op.lend(), text);
 }
 
 fn put_acted(acted: Option<u64>, text: &mut ArrayString<512>)
@@ -134,7 +134,7 @@ fn put_reply(n: u64, reply: &Reply, text: &mut ArrayString<512>)
     text.push_str("; answered at ");
     write_decimal(n, text);
     text.push_str(": ");
-    write_reply(reply, text);
+    write_reply(&reply.lend(), text);
 }
 
 fn put_answered(answer: Option<&Record>, text: &mut ArrayString<512>)

@@ -58,13 +58,16 @@ impl Lane {
     /// Keeps room for one packet of this need: after Ok, the next `enter` of that need is accepted and takes no memory.
     pub fn make_room(&mut self, need: Need) -> Result<(), LaneRefusal>
         ensures no_credits { (result ≡ Err (LaneRefusal.NoCredits need.class)) ↔ (gate_covers self.old.sender.gate need ≡ false) }
-        ensures no_room { need.header ≤ 127 → need.units ≤ 2047 → (credits : LaneCredits) (calls : List Call) → IsInLimits credits → AreCalls calls → after_calls (new_lane credits) calls ≡ self.old →
+        ensures no_room { need.header ≤ 127 → need.units ≤ 2047 → (credits : LaneCredits) (calls : List Call) → IsInLimits credits → AreCalls calls →
+            after_calls (new_lane credits) calls ≡ self.old →
             (result ≡ Err (LaneRefusal.NoCredits need.class)) ↔ (¬ HasRoom credits (numbers_of credits calls) need) }
         ensures full { (result ≡ Err LaneRefusal.WindowFull) ↔ (IsTrue (gate_covers self.old.sender.gate need) × (2047 ≤ length self.old.sender.sending.kept)) }
-        ensures errors { IfErr result (λ refusal. (refusal ≡ LaneRefusal.NoCredits need.class) ⊎ (refusal ≡ LaneRefusal.WindowFull) ⊎ (refusal ≡ LaneRefusal.Memory)) }
+        ensures errors { IfErr result (λ refusal. (refusal ≡ LaneRefusal.NoCredits need.class) ⊎ (refusal ≡ LaneRefusal.WindowFull) ⊎
+            (refusal ≡ LaneRefusal.Memory)) }
         ensures refused { IfErr result (λ refusal. LacksRoom self.old.sender need refusal) }
         ensures may { OnOk result (may_enter self.old.sender need ≡ true) }
-        ensures made { IsTrue self.old.sender.sending.reserved → IsTrue (gate_covers self.old.sender.gate need) → length self.old.sender.sending.kept < 2047 → IsOk result }
+        ensures made { IsTrue self.old.sender.sending.reserved → IsTrue (gate_covers self.old.sender.gate need) →
+            length self.old.sender.sending.kept < 2047 → IsOk result }
         ensures ok { OnOk result (self.new ≡ after_call self.old (MakeRoom need)) }
         ensures content { content self.new ≡ content self.old }
         ensures err { OnErr result (self.new ≡ self.old) }
@@ -79,11 +82,14 @@ impl Lane {
         ensures no_credits { (result ≡ Err (LaneRefusal.NoCredits (need tlp.now).class)) ↔ (gate_covers self.old.sender.gate (need tlp.now) ≡ false) }
         ensures no_room { (credits : LaneCredits) (calls : List Call) → IsInLimits credits → AreCalls calls → after_calls (new_lane credits) calls ≡ self.old →
             (result ≡ Err (LaneRefusal.NoCredits (need tlp.now).class)) ↔ (¬ HasRoom credits (numbers_of credits calls) (need tlp.now)) }
-        ensures full { (result ≡ Err LaneRefusal.WindowFull) ↔ (IsTrue (gate_covers self.old.sender.gate (need tlp.now)) × (2047 ≤ length self.old.sender.sending.kept)) }
-        ensures errors { IfErr result (λ refusal. (refusal ≡ LaneRefusal.NoCredits (need tlp.now).class) ⊎ (refusal ≡ LaneRefusal.WindowFull) ⊎ (refusal ≡ LaneRefusal.Memory)) }
+        ensures full { (result ≡ Err LaneRefusal.WindowFull) ↔ (IsTrue (gate_covers self.old.sender.gate (need tlp.now)) ×
+            (2047 ≤ length self.old.sender.sending.kept)) }
+        ensures errors { IfErr result (λ refusal. (refusal ≡ LaneRefusal.NoCredits (need tlp.now).class) ⊎ (refusal ≡ LaneRefusal.WindowFull) ⊎
+            (refusal ≡ LaneRefusal.Memory)) }
         ensures refused { IfErr result (λ refusal. LacksRoom self.old.sender (need tlp.now) refusal) }
         ensures may { OnOk result (may_enter self.old.sender (need tlp.now) ≡ true) }
-        ensures room_was_made { IsTrue self.old.sender.sending.reserved → IsTrue (gate_covers self.old.sender.gate (need tlp.now)) → length self.old.sender.sending.kept < 2047 → IsOk result }
+        ensures room_was_made { IsTrue self.old.sender.sending.reserved → IsTrue (gate_covers self.old.sender.gate (need tlp.now)) →
+            length self.old.sender.sending.kept < 2047 → IsOk result }
         ensures number { IfOk result (λ number. number ≡ next_number self.old.sender.sending) }
         ensures ok { OnOk result (self.new ≡ after_call self.old (Enter tlp.now mark)) }
         ensures spelled { OnOk result (Spells (canonical tlp.now) tlp.now) }
@@ -198,7 +204,8 @@ impl Lane {
     /// The accepted packet of a place and its mark if [`take`](Self::take) would take them, otherwise none.
     pub fn peek(&self, place: usize) -> Option<(&Tlp, u32)>
         ensures none { IsNone result ↔ (is_takeable self.now.receiver.queue place ≡ false) }
-        ensures item { IfSome result (λ x. IsTrue (is_takeable self.now.receiver.queue place) × (slice_get self.now.receiver.queue place ≡ Some (x.0.now, x.1))) }
+        ensures item { IfSome result (λ x. IsTrue (is_takeable self.now.receiver.queue place) ×
+            (slice_get self.now.receiver.queue place ≡ Some (x.0.now, x.1))) }
     {
         self.ends.receiver.peek(place)
     }

@@ -119,9 +119,11 @@ pub fn credits_are_whole_numbers()
 pub fn found_within_the_window()
     ensures sent { (credits : LaneCredits) (before : List Call) (number : ℕ) → transmitted (after_calls (new_lane credits) before).sender ≡ Some number →
         (after_calls (new_lane credits) before).sender.sending.place < length (after_calls (new_lane credits) before).sender.sending.kept }
-    ensures numbered { (credits : LaneCredits) (before : List Call) (number : ℕ) → AreCalls before → transmitted (after_calls (new_lane credits) before).sender ≡ Some number →
+    ensures numbered { (credits : LaneCredits) (before : List Call) (number : ℕ) → AreCalls before →
+        transmitted (after_calls (new_lane credits) before).sender ≡ Some number →
         number ≡ (oldest_unacknowledged credits before + (after_calls (new_lane credits) before).sender.sending.place) % 4096 }
-    ensures found { (credits : LaneCredits) (before after : List Call) → AreCalls before → deliveries after ≤ length (after_calls (new_lane credits) before).forward →
+    ensures found { (credits : LaneCredits) (before after : List Call) → AreCalls before →
+        deliveries after ≤ length (after_calls (new_lane credits) before).forward →
         (oldest_unacknowledged credits before ≤ next_accepted credits (before ++ after)) × (next_accepted credits (before ++ after) ≤ next_entered credits before) }
 {
     reading_is_spelling();

@@ -64,7 +64,8 @@ impl SenderEnd {
     pub fn make_room(&mut self, need: Need) -> Result<(), LaneRefusal>
         ensures no_credits { (result ≡ Err (LaneRefusal.NoCredits need.class)) ↔ (gate_covers self.old.gate need ≡ false) }
         ensures full { (result ≡ Err LaneRefusal.WindowFull) ↔ (IsTrue (gate_covers self.old.gate need) × (2047 ≤ length self.old.sending.kept)) }
-        ensures errors { IfErr result (λ refusal. (refusal ≡ LaneRefusal.NoCredits need.class) ⊎ (refusal ≡ LaneRefusal.WindowFull) ⊎ (refusal ≡ LaneRefusal.Memory)) }
+        ensures errors { IfErr result (λ refusal. (refusal ≡ LaneRefusal.NoCredits need.class) ⊎ (refusal ≡ LaneRefusal.WindowFull) ⊎
+            (refusal ≡ LaneRefusal.Memory)) }
         ensures refused { IfErr result (λ refusal. LacksRoom self.old need refusal) }
         ensures may { OnOk result (may_enter self.old need ≡ true) }
         ensures made { IsTrue self.old.sending.reserved → IsTrue (gate_covers self.old.gate need) → length self.old.sending.kept < 2047 → IsOk result }
@@ -114,10 +115,12 @@ impl SenderEnd {
     pub fn enter(&mut self, tlp: &Tlp, mark: u32) -> Result<Seq12, LaneRefusal>
         ensures no_credits { (result ≡ Err (LaneRefusal.NoCredits (need tlp.now).class)) ↔ (gate_covers self.old.gate (need tlp.now) ≡ false) }
         ensures full { (result ≡ Err LaneRefusal.WindowFull) ↔ (IsTrue (gate_covers self.old.gate (need tlp.now)) × (2047 ≤ length self.old.sending.kept)) }
-        ensures errors { IfErr result (λ refusal. (refusal ≡ LaneRefusal.NoCredits (need tlp.now).class) ⊎ (refusal ≡ LaneRefusal.WindowFull) ⊎ (refusal ≡ LaneRefusal.Memory)) }
+        ensures errors { IfErr result (λ refusal. (refusal ≡ LaneRefusal.NoCredits (need tlp.now).class) ⊎ (refusal ≡ LaneRefusal.WindowFull) ⊎
+            (refusal ≡ LaneRefusal.Memory)) }
         ensures refused { IfErr result (λ refusal. LacksRoom self.old (need tlp.now) refusal) }
         ensures may { OnOk result (may_enter self.old (need tlp.now) ≡ true) }
-        ensures room_was_made { IsTrue self.old.sending.reserved → IsTrue (gate_covers self.old.gate (need tlp.now)) → length self.old.sending.kept < 2047 → IsOk result }
+        ensures room_was_made { IsTrue self.old.sending.reserved → IsTrue (gate_covers self.old.gate (need tlp.now)) → length self.old.sending.kept < 2047 →
+            IsOk result }
         ensures number { IfOk result (λ number. number ≡ next_number self.old.sending) }
         ensures ok { OnOk result (self.new ≡ entered self.old tlp.now mark) }
         ensures err { OnErr result (self.new ≡ self.old) }

@@ -119,8 +119,10 @@ impl<P: Responder> Engine<P> {
     /// Answers the line that ends in these bytes, and begins a new one.
     fn end_line(&mut self, tail: &[u8]) -> Result<(), AllocError>
         ensures responder { OnOk result (self.new.responder ≡ (on_ended_line P.responses self.old.responder (self.old.line.items ++ tail.now)).state) }
-        ensures text { OnOk result (self.new.pending.items ≡ self.old.pending.items ++ (on_ended_line P.responses self.old.responder (self.old.line.items ++ tail.now)).text) }
-        ensures status { OnOk result (self.new.status ≡ (if (on_ended_line P.responses self.old.responder (self.old.line.items ++ tail.now)).is_fault then 1 else self.old.status)) }
+        ensures text { OnOk result (self.new.pending.items ≡ self.old.pending.items ++
+            (on_ended_line P.responses self.old.responder (self.old.line.items ++ tail.now)).text) }
+        ensures status { OnOk result (self.new.status ≡
+            (if (on_ended_line P.responses self.old.responder (self.old.line.items ++ tail.now)).is_fault then 1 else self.old.status)) }
         ensures line { OnOk result (self.new.line.items ≡ []) }
         ensures err { OnErr result (self.new.pending.items ≡ self.old.pending.items) }
     {
@@ -259,7 +261,8 @@ pub fn run<P: Responder, R: Read, W: Write>(
 
     // Where reading failed, the answers to the lines that had ended were written: so they were written before more was
     // to be read.
-    ensures read { IfErr result (λ f. f ≡ EngineFault.Read → IsCaughtUp P.responses responder (R.remaining reader.old) (R.remaining reader.new) (W.contents writer.old) (W.contents writer.new)) }
+    ensures read { IfErr result (λ f. f ≡ EngineFault.Read →
+        IsCaughtUp P.responses responder (R.remaining reader.old) (R.remaining reader.new) (W.contents writer.old) (W.contents writer.new)) }
 {
     let mut engine = Engine::new(alloc, responder);
     let mut buffer = [0u8; BLOCK];

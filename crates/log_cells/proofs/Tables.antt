@@ -4,8 +4,8 @@ use Rattle.std.specs.Prelude.{slice_get}
 use Rattle.std.proofs.Math.Seq.{take-suc}
 use Rattle.std.proofs.lemmas.Bool.{cases_eq}
 use Rattle.std.proofs.lemmas.Option.{same_Some, slice_get_within, get_or_from_slice_get}
-use Rattle.tlp_core.specs.declared.operation.Op.{Op}
-use Rattle.seq_memory.specs.declared.Reply.{Reply}
+use Rattle.tlp_core.specs.Ops.{Op}
+use Rattle.seq_memory.specs.Entries.{Reply}
 use Rattle.log_runs.specs.EventView.{EventView}
 use Rattle.log_runs.specs.EventView as events
 use Rattle.log_runs.specs.LogView.{LogView}

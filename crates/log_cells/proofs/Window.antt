@@ -3,7 +3,7 @@ use Rattle.std.proofs.Common.{◌≡◌, ◌∙◌, ℕ, ◌+◌, ◌-◌, ◌<�
 use Rattle.std.specs.Prelude.{not, ◌||◌, if◌then◌else◌, is_some, slice_index}
 use Rattle.std.proofs.lemmas.Bool.{le-leb, cases_lt}
 use Rattle.std.proofs.lemmas.List.{length-take-le, get_or-take, get_or-drop, ext_get_or}
-use Rattle.tlp_core.specs.declared.operation.Op.{Op}
+use Rattle.tlp_core.specs.Ops.{Op}
 use Rattle.tlp_core.specs.Operation.{address_of, count_of, op_fault}
 use Rattle.seq_memory.specs.declared.Refusal.{Refusal}
 use Rattle.seq_memory.specs.declared.Refusal.TheVariants as refusals

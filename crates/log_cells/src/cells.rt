@@ -251,7 +251,8 @@ impl Cells {
     pub fn around(&self, address: u64) -> Option<(u64, u64)>
         ensures range { IfSome result (λ r. (j : ℕ) × (slice_get self.now.bounds j ≡ Some r.0) × (slice_get self.now.bounds (j + 1) ≡ Some r.1)) }
         ensures has { IfSome result (λ r. (r.0 ≤ address) × (address < r.1)) }
-        ensures none { IfNone result ((x : limits.Extent) → IsDivided x self.now.bounds → x.base ≤ address → address < x.base + x.size → address + 1 < 2 ^ 64 → ⊥) }
+        ensures none { IfNone result ((x : limits.Extent) → IsDivided x self.now.bounds → x.base ≤ address → address < x.base + x.size →
+            address + 1 < 2 ^ 64 → ⊥) }
     {
         let behind = up_to(&self.bounds, address);
         let (low, high) = self.range(behind.checked_sub(1)?)?;

@@ -1,16 +1,16 @@
 -- Counts after one record more.
-use Rattle.std.proofs.Common.{◌≡◌, ◌∙◌, ℕ, zero, suc, Bool, ◌+◌, ◌<◌, ◌≤◌, ◌++◌, ◌∷◌, [], List, Some, length, take, set, get_or, replicate, refl, sym, ap, subst, inl, inr, arith, true, false, length-append}
+use Rattle.std.proofs.Common.{◌≡◌, ◌∙◌, ℕ, zero, suc, Bool, ◌+◌, ◌<◌, ◌≤◌, ◌++◌, ◌∷◌, [], List, Option, Some, length, take, set, get_or, replicate, refl, sym, ap, subst, inl, inr, arith, true, false, length-append}
 use Rattle.std.specs.Prelude.{slice_get, ◌||◌, ◌&&◌, ◌==◌}
 use Rattle.std.specs.List.{list_any}
 use Rattle.std.proofs.lemmas.Bool.{cases_eq, cases_lt, cases_Bool, eqb-true, eq-eqb, and_parts}
 use Rattle.std.proofs.lemmas.List.{length-set, get_or-set_same, get_or-set_other, get_or-replicate, get_or_past, length-replicate, take-take}
 use Rattle.std.proofs.lemmas.List.Folds.{list_any_more}
 use Rattle.std.proofs.lemmas.Option.{slice_get_read, slice_get_within, get_or_from_slice_get, same_Some}
-use Rattle.tlp_core.specs.declared.operation.Op.{Op}
-use Rattle.seq_memory.specs.declared.Reply.{Reply}
-use Rattle.history_check.specs.declared.Record.{Record}
-use Rattle.history_check.specs.declared.Record.TheVariants as records
-use Rattle.history_check.specs.Trace.{submissions, IsNumbered, answers_to}
+use Rattle.tlp_core.specs.Ops.{Op}
+use Rattle.seq_memory.specs.Entries.{Reply}
+use Rattle.history_words.specs.Records.{Record}
+use Rattle.history_words.specs.declared.record.RecordOf.TheVariants as records
+use Rattle.history_words.specs.Trace.{submissions, IsNumbered, answers_to}
 use Rattle.log_runs.specs.Tasks.{IsMisformed}
 use Rattle.log_events.specs.Formed.{AreFormed, IsOpen, submits}
 use Rattle.log_events.specs.Counts.{AreMarks, AreRight, IsCounted}
@@ -52,14 +52,14 @@ Numbered = (rs : List Record) (a i k n : ℕ) (op : Op) → IsNumbered (take a r
 abbrev pub NumberedAnswer : Type 0
 NumberedAnswer = (rs : List Record) (a i k n : ℕ) (reply : Reply) → IsNumbered (take a rs) → slice_get rs a ≡ Some (records.Ans i k reply n) → IsNumbered (take (a + 1) rs)
 
-pub no_answer : (i k n j l m : ℕ) (op : Op) (reply : Reply) → Some (records.Sub i k op n) ≡ Some (records.Ans j l reply m) → ⊥
+pub no_answer : (i k n j l m : ℕ) (op : Op) (reply : Reply) → ◌≡◌ {A = Option Record} (Some (records.Sub i k op n)) (Some (records.Ans j l reply m)) → ⊥
 no_answer i k n j l m op reply e = cc
 
 pub record SameAnswer (i k j l : ℕ) : Type 0 where
   pub who : i ≡ j
   pub number : k ≡ l
 
-pub same_answer : (i k n j l m : ℕ) (r q : Reply) → Some (records.Ans i k r n) ≡ Some (records.Ans j l q m) → SameAnswer i k j l
+pub same_answer : (i k n j l m : ℕ) (r q : Reply) → ◌≡◌ {A = Option Record} (Some (records.Ans i k r n)) (Some (records.Ans j l q m)) → SameAnswer i k j l
 same_answer i k n j l m r q e = record { who = cc; number = cc }
 
 pub clash : {b : Bool} → b ≡ true → b ≡ false → ⊥
@@ -113,7 +113,7 @@ pub record SameSubmission (i k j l : ℕ) : Type 0 where
   pub who : i ≡ j
   pub number : k ≡ l
 
-pub same_submission : (i k n j l m : ℕ) (op w : Op) → Some (records.Sub i k op n) ≡ Some (records.Sub j l w m) → SameSubmission i k j l
+pub same_submission : (i k n j l m : ℕ) (op w : Op) → ◌≡◌ {A = Option Record} (Some (records.Sub i k op n)) (Some (records.Sub j l w m)) → SameSubmission i k j l
 same_submission i k n j l m op w e = record { who = cc; number = cc }
 
 -- ---- marks

@@ -1,11 +1,11 @@
 -- Counts of submissions, and marks of those that were answered.
 use Rattle.std.specs.Prelude.{ℕ, ◌≡◌, ◌<◌, ◌≤◌, Bool, false, List, length, get_or, take, slice_get, Some}
 use Rattle.std.specs.List.{list_any}
-use Rattle.tlp_core.specs.declared.operation.Op.{Op}
-use Rattle.seq_memory.specs.declared.Reply.{Reply}
-use Rattle.history_check.specs.declared.Record.{Record}
-use Rattle.history_check.specs.declared.Record.TheVariants as records
-use Rattle.history_check.specs.Trace.{submissions, answers_to, IsNumbered}
+use Rattle.tlp_core.specs.Ops.{Op}
+use Rattle.seq_memory.specs.Entries.{Reply}
+use Rattle.history_words.specs.Records.{Record}
+use Rattle.history_words.specs.declared.record.RecordOf.TheVariants as records
+use Rattle.history_words.specs.Trace.{submissions, answers_to, IsNumbered}
 use Rattle.log_events.specs.Formed.{IsOpen}
 
 -- by requester, how many requests it submitted in those records

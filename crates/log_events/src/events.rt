@@ -1,16 +1,16 @@
 //! The events of records.
 ghost use Rattle.std.specs.Prelude.{◌≡◌, ◌≤◌, ℕ, IfOk, IfSome, IsTrue, length, map, option_map, slice_get, take, Some, true};
-ghost use Rattle.tlp_core.specs.declared.operation.Op.{Op};
-ghost use Rattle.seq_memory.specs.declared.Reply.{Reply};
-ghost use Rattle.history_check.specs.declared.Record.{Record};
-ghost use Rattle.history_check.specs.declared.Record.TheVariants as kinds;
-ghost use Rattle.history_check.specs.TraceView.{observed};
+ghost use Rattle.tlp_core.specs.Ops.{Op};
+ghost use Rattle.seq_memory.specs.Entries.{Reply};
+ghost use Rattle.history_words.specs.Records.{Record};
+ghost use Rattle.history_words.specs.declared.record.RecordOf.TheVariants as kinds;
+ghost use Rattle.history_words.specs.TraceView.{observed};
 ghost use Rattle.log_runs.specs.EventView.{event_of};
 ghost use Rattle.log_runs.specs.Tasks.{known, Says, AreEvents, AreAllEvents};
 ghost use Rattle.log_events.specs.Joined.{partner, ArePartners, SaysAll};
 
 use crate::partners::Partners;
-use history_check::{Record, Trace};
+use history_words::{Record, Trace};
 use log_runs::{Event, Log};
 use seq_memory::Reply;
 use std::alloc::{AllocError, Global};
@@ -49,8 +49,10 @@ pub fn reply_at<'a>(
     requester: u8,
     number: u32,
 ) -> Option<&'a Reply>
-    ensures some { IfSome result (λ r. (a : ℕ) × (n : ℕ) × (at ≡ Some a) × (slice_get records.now a ≡ Some (kinds.Ans requester number r.now n)) × (known r.now ≡ Some r.now)) }
-    ensures own { (a n : ℕ) (reply : Reply) → at ≡ Some a → slice_get records.now a ≡ Some (kinds.Ans requester number reply n) → option_map (λ r. r.now) result ≡ known reply }
+    ensures some { IfSome result (λ r. (a : ℕ) × (n : ℕ) × (at ≡ Some a) × (slice_get records.now a ≡ Some (kinds.Ans requester number r.now n)) ×
+        (known r.now ≡ Some r.now)) }
+    ensures own { (a n : ℕ) (reply : Reply) → at ≡ Some a → slice_get records.now a ≡ Some (kinds.Ans requester number reply n) →
+        option_map (λ r. r.now) result ≡ known reply }
 {
     match records.get(at?) {
         Some(record) => reply_of(record, requester, number),

@@ -1,11 +1,11 @@
 //! The form of records: whether each submission has its number, and each answer its submission.
 ghost use Rattle.std.specs.Prelude.{◌≡◌, ◌<◌, ◌≤◌, ℕ, IfOk, IfSome, IfNone, OnOk, IsTrue, ◌+◌, length, take, slice_get, get_or, set, replicate, Some, true, false};
 ghost use Rattle.std.specs.List.{list_any};
-ghost use Rattle.tlp_core.specs.declared.operation.Op.{Op};
+ghost use Rattle.tlp_core.specs.Ops.{Op};
 ghost use Rattle.tlp_core.specs.Operation.{is_posted};
-ghost use Rattle.seq_memory.specs.declared.Reply.{Reply};
-ghost use Rattle.history_check.specs.declared.Record.TheVariants as kinds;
-ghost use Rattle.history_check.specs.Trace.{IsNumbered, answers_to};
+ghost use Rattle.seq_memory.specs.Entries.{Reply};
+ghost use Rattle.history_words.specs.declared.record.RecordOf.TheVariants as kinds;
+ghost use Rattle.history_words.specs.Trace.{IsNumbered, answers_to};
 ghost use Rattle.log_runs.specs.Tasks.{IsMisformed};
 ghost use Rattle.log_events.specs.Counts.{AreAsked, AreMarks, IsCounted};
 ghost use Rattle.log_events.specs.Formed.{MisformedAt, AreFormed, IsOpen};
@@ -15,7 +15,7 @@ ghost use Rattle.log_events.specs.Joined.{AreJoined, ArePartners};
 use crate::counts::Counts;
 use crate::events::submission_at;
 use crate::partners::Partners;
-use history_check::Record;
+use history_words::Record;
 use log_runs::laws::{numbers_name_submissions, submissions_grow_by_records};
 use std::alloc::{AllocError, Global};
 use tlp_core::Op;

@@ -1,12 +1,12 @@
 -- Where the pieces of each record end.
 use Rattle.std.proofs.Common.{◌≡◌, ◌∙◌, ℕ, suc, zero, ◌+◌, ◌<◌, ◌++◌, ◌∷◌, [], List, Option, Some, length, slice_get, take, get_or, sym, ap, subst, arith, length-append}
 use Rattle.std.specs.Prelude.{◌==◌}
-use Rattle.tlp_core.specs.declared.operation.Op.{Op}
-use Rattle.seq_memory.specs.declared.Reply.{Reply}
-use Rattle.history_check.specs.Trace.{submissions}
-use Rattle.history_check.specs.declared.Record.TheVariants as records
-use Rattle.history_check.specs.declared.Record.{Record}
-use Rattle.history_check.specs.TraceView.{TraceView, observed}
+use Rattle.tlp_core.specs.Ops.{Op}
+use Rattle.seq_memory.specs.Entries.{Reply}
+use Rattle.history_words.specs.Trace.{submissions}
+use Rattle.history_words.specs.declared.record.RecordOf.TheVariants as records
+use Rattle.history_words.specs.Records.{Record}
+use Rattle.history_words.specs.TraceView.{TraceView, observed}
 use Rattle.seq_memory.specs.Limits.{Extent}
 use Rattle.log_runs.specs.Explainable.{prefix}
 use Rattle.log_pieces.specs.declared.Granularity.{Granularity}
@@ -40,10 +40,10 @@ of_prefixes size bytes t x rs ends is extent same known a l =
 pub some_answers : (p : Op → List Op) (k : ℕ) (op : Op) (i next n : ℕ) (reply : Reply) → length (answers_by p (Some (k, op)) i next n reply) ≡ length (p op)
 some_answers p k op i next n reply = length_answers i k n (parts (p op) reply) ∙ many_parts (p op) reply
 
-pub sub_count : (p : Op → List Op) (rs : List Record) (i k n : ℕ) (op : Op) (item : Record) (ops : List Op) → item ≡ records.Sub i k op n → ops ≡ p op → length (split p rs item) ≡ length ops
-sub_count p rs i k n op item ops is all =
+pub sub_count : (p : Op → List Op) (rs : List Record) (i k n : ℕ) (op : Op) (item : Record) → item ≡ records.Sub i k op n → length (split p rs item) ≡ length (p op)
+sub_count p rs i k n op item is =
     ap (λ (r : Record). length (split p rs r)) is
-    ∙ length_subs i (next_number (k == length (submissions rs i)) (width p (submissions rs i))) n (p op) ∙ ap length (sym all)
+    ∙ length_subs i (next_number (k == length (submissions rs i)) (width p (submissions rs i))) n (p op)
 
 pub answer_count : (p : Op → List Op) (rows : List RowView) (rs : List Record) (i k n : ℕ) (reply : Reply) (row d : RowView) (item : Record) (count : ℕ)
     → AreRows p rows rs → i < 256 → row ≡ get_or rows i d → item ≡ records.Ans i k reply n

@@ -7,19 +7,19 @@ use Rattle.std.proofs.lemmas.List.{take_at, length-replicate, length-take-le}
 use Rattle.std.proofs.lemmas.List.Elements.{filter_map-append}
 use Rattle.std.proofs.lemmas.Grind.{fold-append}
 use Rattle.std.proofs.lemmas.Option.{same_Some, slice_get_within}
-use Rattle.tlp_core.specs.declared.operation.Op.{Op}
+use Rattle.tlp_core.specs.Ops.{Op}
 use Rattle.tlp_core.specs.Operation.{is_posted}
-use Rattle.seq_memory.specs.declared.Entry.{Entry}
-use Rattle.seq_memory.specs.declared.Reply.{Reply}
+use Rattle.seq_memory.specs.Entries.{Entry}
+use Rattle.seq_memory.specs.Entries.{Reply}
 use Rattle.seq_memory.specs.Limits.{Extent}
 use Rattle.seq_memory.specs.Step.{after, answer}
 use Rattle.seq_memory.specs.History.{contents, contents_at, reply_at}
-use Rattle.history_check.specs.declared.Record.{Record}
-use Rattle.history_check.specs.declared.Record.TheVariants as records
-use Rattle.history_check.specs.Claim.{Claim}
-use Rattle.history_check.specs.Clocks.{IsClocked}
-use Rattle.history_check.specs.Flaws.{moment}
-use Rattle.history_check.specs.Trace.{submissions, submission, answers_to, is_request, stands, IsNumbered, IsLawful, IsLegal, IsLinear, Explains}
+use Rattle.history_words.specs.Records.{Record}
+use Rattle.history_words.specs.declared.record.RecordOf.TheVariants as records
+use Rattle.history_words.specs.Claim.{Claim}
+use Rattle.history_words.specs.Clocks.{IsClocked}
+use Rattle.history_words.specs.Flaws.{moment}
+use Rattle.history_words.specs.Trace.{submissions, submission, answers_to, is_request, stands, IsNumbered, IsLawful, IsLegal, IsLinear, Explains}
 use Rattle.op_pieces.specs.Pieces.{parts}
 use Rattle.log_pieces.specs.InPieces.{width, numbered, subs, answers, answers_by}
 use Rattle.log_pieces.proofs.Chunks.{get_add, concat, start, placed, start_rises, start_next, one_place, start_below, take_placed, take_map, get_map, In, found, take_get, get_take, any_from, any_is, none_from, apart, get_left}
@@ -292,10 +292,10 @@ some_same a b e = same_Some a b e
 
 -- ---- the answers to the pieces
 
-sub_is_no_answer : (i j k m n o : ℕ) (op : Op) (reply : Reply) → records.Sub i k op n ≡ records.Ans j m reply o → ⊥
+sub_is_no_answer : (i j k m n o : ℕ) (op : Op) (reply : Reply) → ◌≡◌ {A = Record} (records.Sub i k op n) (records.Ans j m reply o) → ⊥
 sub_is_no_answer i j k m n o op reply e = cc
 
-ans_is_no_sub : (i j k m n o : ℕ) (op : Op) (reply : Reply) → records.Ans j m reply o ≡ records.Sub i k op n → ⊥
+ans_is_no_sub : (i j k m n o : ℕ) (op : Op) (reply : Reply) → ◌≡◌ {A = Record} (records.Ans j m reply o) (records.Sub i k op n) → ⊥
 ans_is_no_sub i j k m n o op reply e = cc
 
 record SameAnswer (i j k l n m : ℕ) (r q : Reply) : Type 0 where
@@ -304,7 +304,7 @@ record SameAnswer (i j k l n m : ℕ) (r q : Reply) : Type 0 where
   reply : r ≡ q
   time : n ≡ m
 
-same_answer : (i j k l n m : ℕ) (r q : Reply) → records.Ans i k r n ≡ records.Ans j l q m → SameAnswer i j k l n m r q
+same_answer : (i j k l n m : ℕ) (r q : Reply) → ◌≡◌ {A = Record} (records.Ans i k r n) (records.Ans j l q m) → SameAnswer i j k l n m r q
 same_answer i j k l n m r q e = record { who = cc; number = cc; reply = cc; time = cc }
 
 record SameSub (i j k l n m : ℕ) (r q : Op) : Type 0 where
@@ -313,7 +313,7 @@ record SameSub (i j k l n m : ℕ) (r q : Op) : Type 0 where
   op : r ≡ q
   time : n ≡ m
 
-same_sub : (i j k l n m : ℕ) (r q : Op) → records.Sub i k r n ≡ records.Sub j l q m → SameSub i j k l n m r q
+same_sub : (i j k l n m : ℕ) (r q : Op) → ◌≡◌ {A = Record} (records.Sub i k r n) (records.Sub j l q m) → SameSub i j k l n m r q
 same_sub i j k l n m r q e = record { who = cc; number = cc; op = cc; time = cc }
 
 -- an answer to a piece is one of the answers to its request

@@ -5,4 +5,5 @@ pub mod Shapes
 pub mod Explained
 pub mod Alike
 pub mod PieceLemmas
+pub mod CountLemmas
 pub mod PrefixLemmas

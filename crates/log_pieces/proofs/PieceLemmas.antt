@@ -4,9 +4,9 @@ use Rattle.std.specs.Prelude.{slice_get, ◌&&◌, if◌then◌else◌}
 use Rattle.std.specs.List.{list_all}
 use Rattle.std.proofs.lemmas.Bool.{cases_Bool}
 use Rattle.std.proofs.lemmas.Option.{same_Some}
-use Rattle.tlp_core.specs.declared.operation.Op.{Op}
+use Rattle.tlp_core.specs.Ops.{Op}
 use Rattle.tlp_core.specs.Operation.{is_posted, count_of}
-use Rattle.seq_memory.specs.declared.Reply.{Reply}
+use Rattle.seq_memory.specs.Entries.{Reply}
 use Rattle.seq_memory.specs.Limits.{Extent}
 use Rattle.seq_memory.specs.Step.{answer}
 use Rattle.op_pieces.specs.Pieces.{dw_of, cut, is_served, left_by, back_of, parts}

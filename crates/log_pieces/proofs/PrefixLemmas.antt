@@ -3,8 +3,8 @@ use Rattle.std.proofs.Common.{◌≡◌, ◌∙◌, ℕ, zero, suc, ◌+◌, ◌
 use Rattle.std.proofs.lemmas.List.{length-take, length-take-le}
 use Rattle.std.specs.declared.alloc.AllocError.{AllocError}
 use Rattle.seq_memory.specs.Limits.{Extent}
-use Rattle.history_check.specs.declared.Record.{Record}
-use Rattle.history_check.specs.TraceView.{TraceView, observed}
+use Rattle.history_words.specs.Records.{Record}
+use Rattle.history_words.specs.TraceView.{TraceView, observed}
 use Rattle.log_runs.specs.Explainable.{IsExplainable, prefix}
 use Rattle.log_pieces.specs.declared.Granularity.{Granularity}
 use Rattle.log_pieces.specs.declared.Granularity.TheVariants.{Whole}

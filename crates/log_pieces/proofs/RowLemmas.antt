@@ -5,11 +5,11 @@ use Rattle.std.proofs.lemmas.Option.{same_Some, slice_get-get_or}
 use Rattle.std.proofs.lemmas.List.Elements.{filter_map-append}
 use Rattle.std.proofs.lemmas.Bool.{cases_eq, eq-eqb, ne_eqb}
 use Rattle.std.proofs.lemmas.List.{append-nil, append_assoc, length-replicate, length-set, take_at, take-append-drop, take-append-le}
-use Rattle.seq_memory.specs.declared.Reply.{Reply}
-use Rattle.tlp_core.specs.declared.operation.Op.{Op}
-use Rattle.history_check.specs.declared.Record.{Record}
-use Rattle.history_check.specs.declared.Record.TheVariants as records
-use Rattle.history_check.specs.Trace.{submissions, submission}
+use Rattle.seq_memory.specs.Entries.{Reply}
+use Rattle.tlp_core.specs.Ops.{Op}
+use Rattle.history_words.specs.Records.{Record}
+use Rattle.history_words.specs.declared.record.RecordOf.TheVariants as records
+use Rattle.history_words.specs.Trace.{submissions, submission}
 use Rattle.log_pieces.specs.InPieces.{width, numbered, subs, answers_by, next_number, split, split_all}
 use Rattle.log_pieces.specs.RowView.{RowView, AreRows, row_of}
 

@@ -3,12 +3,12 @@ use Rattle.std.proofs.Common.{◌≡◌, ◌∙◌, ℕ, zero, suc, ◌+◌, ◌
 use Rattle.std.specs.Prelude.{slice_get, filter_map}
 use Rattle.std.proofs.lemmas.Bool.{eq-eqb, ne_eqb}
 use Rattle.std.proofs.lemmas.Option.{same_Some}
-use Rattle.tlp_core.specs.declared.operation.Op.{Op}
-use Rattle.seq_memory.specs.declared.Entry.{Entry}
-use Rattle.seq_memory.specs.declared.Reply.{Reply}
-use Rattle.history_check.specs.declared.Record.{Record}
-use Rattle.history_check.specs.declared.Record.TheVariants as records
-use Rattle.history_check.specs.Trace.{submission}
+use Rattle.tlp_core.specs.Ops.{Op}
+use Rattle.seq_memory.specs.Entries.{Entry}
+use Rattle.seq_memory.specs.Entries.{Reply}
+use Rattle.history_words.specs.Records.{Record}
+use Rattle.history_words.specs.declared.record.RecordOf.TheVariants as records
+use Rattle.history_words.specs.Trace.{submission}
 use Rattle.log_pieces.specs.InPieces.{width, numbered, subs, answers}
 use Rattle.log_pieces.proofs.Chunks.{concat, start}
 

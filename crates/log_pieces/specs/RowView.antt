@@ -1,8 +1,8 @@
 -- The submissions of each requester, with the numbers of their pieces.
 use Rattle.std.specs.Prelude.{ℕ, ◌≡◌, ◌<◌, List, length, slice_get, Some}
-use Rattle.tlp_core.specs.declared.operation.Op.{Op}
-use Rattle.history_check.specs.declared.Record.{Record}
-use Rattle.history_check.specs.Trace.{submissions}
+use Rattle.tlp_core.specs.Ops.{Op}
+use Rattle.history_words.specs.Records.{Record}
+use Rattle.history_words.specs.Trace.{submissions}
 use Rattle.log_pieces.specs.InPieces.{width, numbered}
 
 -- the number of the next piece, and each operation with the number of its first piece

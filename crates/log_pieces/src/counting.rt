@@ -1,7 +1,7 @@
 //! How many pieces records have: they are counted, and not made.
 ghost use Rattle.std.specs.Prelude.{ℕ, ◌≡◌, ◌+◌, ◌<◌, ◌≤◌, ◌++◌, ◌∷◌, [], List, IfOk, IfSome, IfNone, OnOk, Some, length, slice_get, take};
-ghost use Rattle.history_check.specs.declared.Record.{Record};
-ghost use Rattle.seq_memory.specs.declared.Reply.{Reply};
+ghost use Rattle.history_words.specs.Records.{Record};
+ghost use Rattle.seq_memory.specs.Entries.{Reply};
 ghost use Rattle.log_runs.specs.Explainable.{IsExplainable, prefix};
 ghost use Rattle.log_pieces.specs.Pieces.{pieces};
 ghost use Rattle.log_pieces.specs.InPieces as spec;
@@ -11,52 +11,47 @@ use crate::Granularity;
 use crate::cutting::Splitter;
 use crate::rows::{Row, rows};
 use crate::splitting::bytes_of;
-use history_check::{Record, Trace};
+use history_words::{Record, Trace};
 use log_runs::laws::prefix_is_explainable;
 use std::alloc::{AllocError, Global};
 use tlp_core::Op;
 
-/// The pieces of a submission, which its requester's row gets, are counted. Fails where its requester has no
+/// So many pieces of a submission are counted, which its requester's row gets. Fails where its requester has no
 /// numbers left for them.
 fn count_submission<'a>(
     row: &mut Row<'a>,
     number: u32,
     op: &'a Op,
-    ops: &[Op],
+    count: usize,
 ) -> Result<usize, AllocError>
-    ensures count { IfOk result (λ count. count ≡ length ops.now) }
-    ensures row { OnOk result (row.new ≡ record { next = row.old.next + length ops.now; requests = row.old.requests ++ (row.old.next, op.now) ∷ [] }) }
+    ensures count { IfOk result (λ all. all ≡ count) }
+    ensures row { OnOk result (row.new ≡ record { next = row.old.next + count; requests = row.old.requests ++ (row.old.next, op.now) ∷ [] }) }
 {
     let Some(first) = row.start(number) else {
         return Err(AllocError);
     };
-    if ops.len() > (u32::MAX - first) as usize {
+    if count > (u32::MAX - first) as usize {
         return Err(AllocError);
     }
-    row.add(op, ops.len())?;
-    Ok(ops.len())
+    row.add(op, count)?;
+    Ok(count)
 }
 
 /// How many pieces a reply to the request of that number has.
-fn count_answer(
-    alloc: Global,
-    row: &Row<'_>,
-    cut: &Splitter,
-    number: u32,
-) -> Result<usize, AllocError>
+fn count_answer(row: &Row<'_>, cut: &Splitter, number: u32) -> usize
     requires some { 4 ≤ cut.now.bytes }
     requires few { cut.now.bytes ≤ 64 }
-    ensures { IfOk result (λ count. (i next n : ℕ) (reply : Reply) → count ≡ length (spec.answers_by (pieces cut.now.bytes cut.now.extent) (slice_get row.now.requests number) i next n reply)) }
+    ensures { (i next n : ℕ) (reply : Reply) →
+        result ≡ length (spec.answers_by (pieces cut.now.bytes cut.now.extent) (slice_get row.now.requests number) i next n reply) }
 {
     match row.request(number) {
-        None => Ok(1),
-        Some(request) => cut.count(alloc, request.op),
+        None => 1,
+        Some(request) => cut.count(request.op),
     }
 }
 
 /// How many pieces a record has, behind those whose rows these are.
 fn count_record<'a>(
-    alloc: Global,
     rows: &mut [Row<'a>],
     cut: &Splitter,
     item: &'a Record,
@@ -64,8 +59,10 @@ fn count_record<'a>(
     requires len { length rows.old ≡ 256 }
     requires some { 4 ≤ cut.now.bytes }
     requires few { cut.now.bytes ≤ 64 }
-    ensures count { IfOk result (λ count. (before : List Record) → AreRows (pieces cut.now.bytes cut.now.extent) rows.old before → count ≡ length (spec.split (pieces cut.now.bytes cut.now.extent) before item.now)) }
-    ensures rows { OnOk result ((before : List Record) → AreRows (pieces cut.now.bytes cut.now.extent) rows.old before → AreRows (pieces cut.now.bytes cut.now.extent) rows.new (before ++ item.now ∷ [])) }
+    ensures count { IfOk result (λ count. (before : List Record) → AreRows (pieces cut.now.bytes cut.now.extent) rows.old before →
+        count ≡ length (spec.split (pieces cut.now.bytes cut.now.extent) before item.now)) }
+    ensures rows { OnOk result ((before : List Record) → AreRows (pieces cut.now.bytes cut.now.extent) rows.old before →
+        AreRows (pieces cut.now.bytes cut.now.extent) rows.new (before ++ item.now ∷ [])) }
     ensures len { length rows.new ≡ 256 }
 {
     match item {
@@ -75,14 +72,14 @@ fn count_record<'a>(
             op,
             ..
         } => {
-            let ops = cut.pieces(alloc, op)?;
-            count_submission(&mut rows[usize::from(*requester)], *number, op, &ops)
+            let pieces = cut.count(op);
+            count_submission(&mut rows[usize::from(*requester)], *number, op, pieces)
         }
         Record::Ans {
             requester,
             number,
             ..
-        } => count_answer(alloc, &rows[usize::from(*requester)], cut, *number),
+        } => Ok(count_answer(&rows[usize::from(*requester)], cut, *number)),
     }
 }
 
@@ -116,7 +113,7 @@ fn reach(
         if count <= so_far {
             return Ok(at);
         }
-        let more = count_record(alloc, &mut table, cut, &records[at])?;
+        let more = count_record(&mut table, cut, &records[at])?;
         let all = sum(so_far, more)?;
         so_far = all;
     }
@@ -128,13 +125,14 @@ fn ends(alloc: Global, cut: &Splitter, records: &[Record]) -> Result<Vec<usize>,
     requires some { 4 ≤ cut.now.bytes }
     requires few { cut.now.bytes ≤ 64 }
     ensures len { IfOk result (λ v. length v.items ≡ length records.now) }
-    ensures each { IfOk result (λ v. (a : ℕ) → a < length records.now → slice_get v.items a ≡ Some (length (spec.split_all (pieces cut.now.bytes cut.now.extent) [] (take (a + 1) records.now)))) }
+    ensures each { IfOk result (λ v. (a : ℕ) → a < length records.now →
+        slice_get v.items a ≡ Some (length (spec.split_all (pieces cut.now.bytes cut.now.extent) [] (take (a + 1) records.now)))) }
 {
     let mut so_far = 0;
     let mut ends = Vec::new(alloc);
     let mut table = rows(alloc)?;
     for item in records {
-        let more = count_record(alloc, &mut table, cut, item)?;
+        let more = count_record(&mut table, cut, item)?;
         let all = sum(so_far, more)?;
         so_far = all;
         ends.push(all)?;
@@ -150,7 +148,8 @@ pub fn ends_of(
     granularity: Granularity,
 ) -> Result<Option<Vec<usize>>, AllocError>
     ensures len { IfOk result (λ o. IfSome o (λ v. length v.items ≡ length trace.now.records)) }
-    ensures each { IfOk result (λ o. IfSome o (λ v. (a : ℕ) → a < length trace.now.records → slice_get v.items a ≡ Some (length (spec.in_pieces granularity (prefix (a + 1) trace.now)).records))) }
+    ensures each { IfOk result (λ o. IfSome o (λ v. (a : ℕ) → a < length trace.now.records →
+        slice_get v.items a ≡ Some (length (spec.in_pieces granularity (prefix (a + 1) trace.now)).records))) }
     ensures whole { IfOk result (λ o. IfNone o (granularity ≡ Granularity.Whole)) }
 {
     match bytes_of(granularity) {
@@ -177,7 +176,8 @@ pub fn records_of(
     ensures within { IfOk result (λ n. n ≤ length trace.now.records) }
     ensures reaches { IfOk result (λ n. count ≤ length (spec.in_pieces granularity (prefix n trace.now)).records) }
     ensures least { IfOk result (λ n. (m : ℕ) → m < n → length (spec.in_pieces granularity (prefix m trace.now)).records < count) }
-    ensures unexplained { IfOk result (λ n. (IsExplainable (prefix count (spec.in_pieces granularity trace.now)) → ⊥) → spec.IsExplainableIn granularity (prefix n trace.now) → ⊥) }
+    ensures unexplained { IfOk result (λ n. (IsExplainable (prefix count (spec.in_pieces granularity trace.now)) → ⊥) →
+        spec.IsExplainableIn granularity (prefix n trace.now) → ⊥) }
 {
     prefix_is_explainable();
     match bytes_of(granularity) {

@@ -1,5 +1,5 @@
 //! Laws of logs in pieces.
-ghost use Rattle.history_check.specs.TraceView.{TraceView};
+ghost use Rattle.history_words.specs.TraceView.{TraceView};
 ghost use Rattle.log_pieces.specs.InPieces.{IsExplainableIn};
 ghost use Rattle.log_pieces.specs.declared.Granularity.{Granularity};
 ghost use Rattle.log_runs.specs.Explainable.{IsExplainable};

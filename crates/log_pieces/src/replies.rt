@@ -1,20 +1,9 @@
 //! A reply in parts, one for each piece of its request.
-ghost use Rattle.std.specs.Prelude.{◌≡◌, ◌≤◌, length, min};
+ghost use Rattle.std.specs.Prelude.{◌≡◌, min};
 ghost use Rattle.op_pieces.specs.Pieces as spec;
 
-use arrayvec::ArrayVec;
 use seq_memory::Reply;
-use tlp_core::MAX_PAYLOAD;
-
-/// A payload of these bytes.
-fn payload(bytes: &[u8]) -> ArrayVec<u8, MAX_PAYLOAD>
-    requires { length bytes.now ≤ 128 }
-    ensures { result.items ≡ bytes.now }
-{
-    let mut copy = ArrayVec::new();
-    let _ = copy.try_extend_from_slice(bytes);
-    copy
-}
+use tlp_core::payload_of;
 
 /// The lesser of the two.
 fn within(count: usize, all: usize) -> usize
@@ -30,7 +19,7 @@ pub(crate) fn front_of(count: usize, reply: &Reply) -> Reply
     match reply {
         Reply::Data(bytes) => {
             let end = within(count, bytes.len());
-            Reply::Data(payload(&bytes.as_slice()[..end]))
+            Reply::Data(payload_of(&bytes.as_slice()[..end]))
         }
         Reply::Done => Reply::Done,
         Reply::Unsupported => Reply::Unsupported,
@@ -45,7 +34,7 @@ pub(crate) fn back_of(count: usize, reply: &Reply) -> Reply
     match reply {
         Reply::Data(bytes) => {
             let end = within(count, bytes.len());
-            Reply::Data(payload(&bytes.as_slice()[end..]))
+            Reply::Data(payload_of(&bytes.as_slice()[end..]))
         }
         Reply::Done => Reply::Done,
         Reply::Unsupported => Reply::Unsupported,

@@ -1,7 +1,7 @@
 //! A log in pieces.
 ghost use Rattle.std.specs.Prelude.{◌≡◌, ◌+◌, ◌≤◌, ◌++◌, ◌∷◌, ◌==◌, [], List, IfOk, IfSome, IfNone, OnOk, length, slice_get};
-ghost use Rattle.history_check.specs.declared.Record.{Record};
-ghost use Rattle.history_check.specs.TraceView.{TraceView};
+ghost use Rattle.history_words.specs.Records.{Record};
+ghost use Rattle.history_words.specs.TraceView.{TraceView};
 ghost use Rattle.op_pieces.specs.Pieces.{parts};
 ghost use Rattle.log_pieces.specs.Pieces.{pieces};
 ghost use Rattle.log_pieces.specs.InPieces as spec;
@@ -12,7 +12,7 @@ use crate::Granularity;
 use crate::cutting::Splitter;
 use crate::replies::{back_of, front_of};
 use crate::rows::{Row, rows};
-use history_check::{Record, Trace};
+use history_words::{Record, Trace};
 use seq_memory::Reply;
 use std::alloc::{AllocError, Global};
 use tlp_core::{Op, copy_of};
@@ -97,7 +97,8 @@ fn submit<'a>(
     op: &'a Op,
     ops: &[Op],
 ) -> Result<(), AllocError>
-    ensures records { OnOk result (records.new.items ≡ records.old.items ++ spec.subs of.requester (next_number (of.number == length row.old.requests) row.old.next) of.n ops.now) }
+    ensures records { OnOk result (records.new.items ≡ records.old.items ++
+        spec.subs of.requester (next_number (of.number == length row.old.requests) row.old.next) of.n ops.now) }
     ensures row { OnOk result (row.new ≡ record { next = row.old.next + length ops.now; requests = row.old.requests ++ (row.old.next, op.now) ∷ [] }) }
 {
     let Some(number) = row.start(of.number) else {
@@ -117,7 +118,8 @@ fn answer(
 ) -> Result<(), AllocError>
     requires some { 4 ≤ cut.now.bytes }
     requires few { cut.now.bytes ≤ 64 }
-    ensures { OnOk result (records.new.items ≡ records.old.items ++ spec.answers_by (pieces cut.now.bytes cut.now.extent) (slice_get row.now.requests answered.entry.of.number) answered.entry.of.requester row.now.next answered.entry.of.n answered.entry.reply.now) }
+    ensures { OnOk result (records.new.items ≡ records.old.items ++
+        spec.answers_by (pieces cut.now.bytes cut.now.extent) (slice_get row.now.requests answered.entry.of.number) answered.entry.of.requester row.now.next answered.entry.of.n answered.entry.reply.now) }
 {
     let Answered { of, reply } = answered;
     match row.request(of.number) {
@@ -150,8 +152,10 @@ fn add<'a>(
     requires len { length rows.old ≡ 256 }
     requires some { 4 ≤ cut.now.bytes }
     requires few { cut.now.bytes ≤ 64 }
-    ensures records { OnOk result ((before : List Record) → AreRows (pieces cut.now.bytes cut.now.extent) rows.old before → records.new.items ≡ records.old.items ++ spec.split (pieces cut.now.bytes cut.now.extent) before item.now) }
-    ensures rows { OnOk result ((before : List Record) → AreRows (pieces cut.now.bytes cut.now.extent) rows.old before → AreRows (pieces cut.now.bytes cut.now.extent) rows.new (before ++ item.now ∷ [])) }
+    ensures records { OnOk result ((before : List Record) → AreRows (pieces cut.now.bytes cut.now.extent) rows.old before →
+        records.new.items ≡ records.old.items ++ spec.split (pieces cut.now.bytes cut.now.extent) before item.now) }
+    ensures rows { OnOk result ((before : List Record) → AreRows (pieces cut.now.bytes cut.now.extent) rows.old before →
+        AreRows (pieces cut.now.bytes cut.now.extent) rows.new (before ++ item.now ∷ [])) }
     ensures len { length rows.new ≡ 256 }
 {
     match item {

@@ -6,15 +6,15 @@ use Rattle.std.proofs.lemmas.Bool.{cases_Bool, eqb-true, and_parts}
 use Rattle.std.proofs.lemmas.Option.{slice_get-map, same_Some, get_or_from_slice_get}
 use Rattle.std.proofs.lemmas.Simd.{map-map}
 use Rattle.std.proofs.Math.Seq.{drop-length}
-use Rattle.tlp_core.specs.declared.operation.Op.{Op}
-use Rattle.seq_memory.specs.declared.Entry.{Entry}
-use Rattle.seq_memory.specs.declared.Reply.{Reply}
-use Rattle.seq_memory.specs.declared.Reply.TheVariants as replies
+use Rattle.tlp_core.specs.Ops.{Op}
+use Rattle.seq_memory.specs.Entries.{Entry}
+use Rattle.seq_memory.specs.Entries.{Reply}
+use Rattle.seq_memory.specs.declared.reply.ReplyOf.TheVariants as replies
 use Rattle.seq_memory.specs.Limits.{Extent}
 use Rattle.seq_memory.specs.Step.{after, answer}
-use Rattle.history_check.specs.declared.Record.{Record}
-use Rattle.history_check.specs.declared.Record.TheVariants as records
-use Rattle.history_check.specs.Trace.{is_request}
+use Rattle.history_words.specs.Records.{Record}
+use Rattle.history_words.specs.declared.record.RecordOf.TheVariants as records
+use Rattle.history_words.specs.Trace.{is_request}
 use Rattle.log_runs.specs.declared.Step.{Step}
 use Rattle.log_runs.specs.declared.Step.TheVariants as steps
 use Rattle.log_runs.specs.Histories.{submitted, history_of, with_answer, completed}
@@ -25,7 +25,7 @@ use Rattle.log_replies.specs.Completing.{lacks_reply, waits, with_reply}
 
 -- ---- one record
 
-by_request : (b : Bool) (i k n : ℕ) (made : Reply) → b ≡ true → records.Ans i k made n ≡ records.Ans i k (cond b made replies.Done) n
+by_request : (b : Bool) (i k n : ℕ) (made : Reply) → b ≡ true → ◌≡◌ {A = Record} (records.Ans i k made n) (records.Ans i k (cond b made replies.Done) n)
 by_request true i k n made e = refl
 by_request false i k n made e = cc
 
@@ -57,7 +57,7 @@ back_sub e made (records.Ans j l (replies.Data bytes) m) i k n op is = cc
 back_sub e made (records.Ans j l replies.Unsupported m) i k n op is = cc
 back_sub e made (records.Ans j l replies.Aborted m) i k n op is = cc
 
-renamed : (told : Reply) (j l m i k n : ℕ) (made reply : Reply) → records.Ans j l made m ≡ records.Ans i k reply n → records.Ans j l told m ≡ records.Ans i k told n
+renamed : (told : Reply) (j l m i k n : ℕ) (made reply : Reply) → ◌≡◌ {A = Record} (records.Ans j l made m) (records.Ans i k reply n) → ◌≡◌ {A = Record} (records.Ans j l told m) (records.Ans i k told n)
 renamed told j l m i k n made reply is =
     let one : j ≡ i = cc in
     let two : l ≡ k = cc in

@@ -1,11 +1,11 @@
 -- Answers that have only that a request was done.
 use Rattle.std.specs.Prelude.{Bool, true, false}
-use Rattle.seq_memory.specs.declared.Entry.{Entry}
-use Rattle.seq_memory.specs.declared.Reply.{Reply}
-use Rattle.seq_memory.specs.declared.Reply.TheVariants as replies
-use Rattle.history_check.specs.declared.Record.{Record}
-use Rattle.history_check.specs.declared.Record.TheVariants as records
-use Rattle.history_check.specs.Trace.{is_request}
+use Rattle.seq_memory.specs.Entries.{Entry}
+use Rattle.seq_memory.specs.Entries.{Reply}
+use Rattle.seq_memory.specs.declared.reply.ReplyOf.TheVariants as replies
+use Rattle.history_words.specs.Records.{Record}
+use Rattle.history_words.specs.declared.record.RecordOf.TheVariants as records
+use Rattle.history_words.specs.Trace.{is_request}
 
 abbrev pub is_done : Reply → Bool
 is_done replies.Done = true

@@ -1,14 +1,14 @@
 //! The replies of a run, where a log has only that requests were done.
 ghost use Rattle.std.specs.Prelude.{◌≡◌, ◌∷◌, IfOk, OnErr, OnOk, List, None, Some, map, option_and_then, replicate, set, slice_get, ℕ};
 ghost use Rattle.std.specs.List.{list_any};
-ghost use Rattle.history_check.specs.declared.Record.{Record};
+ghost use Rattle.history_words.specs.Records.{Record};
 ghost use Rattle.log_events.specs.Joined.{ArePartners};
 ghost use Rattle.log_runs.specs.Histories.{completed, history_of, submitted, with_answer, with_replies};
 ghost use Rattle.log_runs.specs.Tasks.{IsWellFormed};
 ghost use Rattle.log_runs.specs.declared.Step.{Step};
 ghost use Rattle.log_replies.specs.Completing as spec;
 
-use history_check::{Record, Trace};
+use history_words::{Record, Trace};
 use log_events::{Partners, form_of};
 use log_runs::Step;
 use seq_memory::{Entry, Extent, Reply, perform};
@@ -115,7 +115,8 @@ fn answer_there(records: &mut Vec<Record>, place: usize, entry: &Entry, made: Re
 
 /// The same of the record at the place, if one is told.
 fn answer_at(records: &mut Vec<Record>, at: Option<usize>, entry: &Entry, made: Reply)
-    ensures some { (a : ℕ) (r : Record) → at ≡ Some a → slice_get records.old.items a ≡ Some r → records.new.items ≡ set records.old.items a (with_answer entry.now made r) }
+    ensures some { (a : ℕ) (r : Record) → at ≡ Some a → slice_get records.old.items a ≡ Some r →
+        records.new.items ≡ set records.old.items a (with_answer entry.now made r) }
     ensures past { (a : ℕ) → at ≡ Some a → slice_get records.old.items a ≡ None → records.new.items ≡ records.old.items }
     ensures none { at ≡ None → records.new.items ≡ records.old.items }
 {
@@ -135,7 +136,9 @@ struct Memory<'a> {
 /// The request at the place acts: its answer has its reply, if it has only that it was done.
 fn act(records: &mut Vec<Record>, bytes: &mut [u8], memory: &Memory<'_>, b: usize)
     requires { ArePartners memory.now.partners.now records.old.items }
-    ensures records { (ys : List Step) → map (completed memory.now.extent bytes.old (history_of records.old.items (Step.Act b ∷ ys))) records.old.items ≡ map (completed memory.now.extent bytes.new (history_of records.new.items ys)) records.new.items }
+    ensures records { (ys : List Step) →
+        map (completed memory.now.extent bytes.old (history_of records.old.items (Step.Act b ∷ ys))) records.old.items ≡
+        map (completed memory.now.extent bytes.new (history_of records.new.items ys)) records.new.items }
     ensures partners { ArePartners memory.now.partners.now records.new.items }
 {
     if let Some(entry) = entry_at(records, b) {
@@ -148,7 +151,9 @@ fn act(records: &mut Vec<Record>, bytes: &mut [u8], memory: &Memory<'_>, b: usiz
 /// Does the step.
 fn step_on(records: &mut Vec<Record>, bytes: &mut [u8], memory: &Memory<'_>, step: Step)
     requires { ArePartners memory.now.partners.now records.old.items }
-    ensures records { (ys : List Step) → map (completed memory.now.extent bytes.old (history_of records.old.items (step ∷ ys))) records.old.items ≡ map (completed memory.now.extent bytes.new (history_of records.new.items ys)) records.new.items }
+    ensures records { (ys : List Step) →
+        map (completed memory.now.extent bytes.old (history_of records.old.items (step ∷ ys))) records.old.items ≡
+        map (completed memory.now.extent bytes.new (history_of records.new.items ys)) records.new.items }
     ensures partners { ArePartners memory.now.partners.now records.new.items }
 {
     match step {

@@ -1,9 +1,9 @@
 -- What a log's records say of a request.
 use Rattle.std.specs.Prelude.{ℕ, ◌≡◌, List, slice_get, Some}
-use Rattle.tlp_core.specs.declared.operation.Op.{Op}
-use Rattle.seq_memory.specs.declared.Reply.{Reply}
-use Rattle.history_check.specs.declared.Record.{Record}
-use Rattle.history_check.specs.declared.Record.TheVariants as records
+use Rattle.tlp_core.specs.Ops.{Op}
+use Rattle.seq_memory.specs.Entries.{Reply}
+use Rattle.history_words.specs.Records.{Record}
+use Rattle.history_words.specs.declared.record.RecordOf.TheVariants as records
 
 -- the record at the place submits the operation
 pub record IsSubmitted (rs : List Record) (place : ℕ) (op : Op) : Type 0 where

@@ -1,7 +1,7 @@
 //! The first records of a log.
 ghost use Rattle.std.specs.Prelude.{◌≡◌, ◌≤◌, ◌<◌, [], length, take};
 
-use history_check::{Record, Trace};
+use history_words::{Record, Trace};
 
 /// The first records of a log.
 #[derive(Clone, Copy)]

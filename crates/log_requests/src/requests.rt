@@ -1,10 +1,11 @@
 //! The requests of a log, with what is known of when they act.
 ghost use Rattle.std.specs.Prelude.{◌≡◌, ℕ, IfOk, IfSome, Some};
-ghost use Rattle.history_check.specs.declared.Record.TheVariants as kinds;
+ghost use Rattle.tlp_core.specs.Ops.{Op};
+ghost use Rattle.history_words.specs.declared.record.RecordOf.TheVariants as kinds;
 ghost use Rattle.log_requests.specs.Asked.{IsSubmitted, IsOf, IsAnswered};
 
 use crate::prefix::Prefix;
-use history_check::Record;
+use history_words::Record;
 use log_events::form_of;
 use seq_memory::{Extent, Reply};
 use std::alloc::{AllocError, Global};

@@ -1,12 +1,12 @@
 -- Logs that no history explains.
-use Rattle.std.proofs.Common.{◌≡◌, ℕ, zero, suc, List, [], ◌∷◌, Some, refl, subst, ap}
+use Rattle.std.proofs.Common.{◌≡◌, ℕ, zero, suc, List, [], ◌∷◌, Option, Some, refl, subst, ap}
 use Rattle.std.specs.Prelude.{slice_get}
 use Rattle.std.proofs.lemmas.Option.{same_Some}
 use Rattle.tlp_core.specs.Enables.{enables, ends_in_gap, is_one_run}
-use Rattle.seq_memory.specs.declared.Reply.{Reply}
-use Rattle.history_check.specs.declared.Record.{Record}
-use Rattle.history_check.specs.declared.Record.TheVariants as records
-use Rattle.history_check.specs.TraceView.{TraceView, observed}
+use Rattle.seq_memory.specs.Entries.{Reply}
+use Rattle.history_words.specs.Records.{Record}
+use Rattle.history_words.specs.declared.record.RecordOf.TheVariants as records
+use Rattle.history_words.specs.TraceView.{TraceView, observed}
 use Rattle.log_runs.specs.EventView.{EventView}
 use Rattle.log_runs.specs.EventView as events
 use Rattle.log_runs.specs.Runs.{Live, start, reply_of, bytes_after, acted_on}
@@ -21,8 +21,11 @@ Law = (t : TraceView) (es : List EventView) → AreEvents t.records es → IsExp
 says : (rs : List Record) (x r : Record) (y e : EventView) → Some x ≡ Some r → Some y ≡ Some e → Says rs x y → Says rs r e
 says rs x r y e at there s = subst (λ z. Says rs r z) (same_Some y e there) (subst (λ z. Says rs z y) (same_Some x r at) s)
 
-answered : (i : ℕ) (x r : Reply) → Some x ≡ Some r → Some (records.Ans i 0 x 0) ≡ Some (records.Ans i 0 r 0)
-answered i x r e = ap (λ z. Some (records.Ans i 0 z 0)) (same_Some x r e)
+abbrev answer_with : ℕ → Reply → Option Record
+answer_with i r = Some (records.Ans i 0 r 0)
+
+answered : (i : ℕ) (x r : Reply) → Some x ≡ Some r → answer_with i x ≡ answer_with i r
+answered i x r e = ap (answer_with i) (same_Some x r e)
 
 -- a value is known
 is_known : (v : ℕ) (r : Reply) → Some (value v) ≡ Some r → known r ≡ Some r

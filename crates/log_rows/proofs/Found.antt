@@ -1,14 +1,14 @@
 -- Logs that a history explains.
 use Rattle.std.proofs.Common.{◌≡◌, ℕ, List, [], ◌∷◌, length, true, None, refl, inr}
-use Rattle.tlp_core.specs.declared.operation.Op.{Op}
+use Rattle.tlp_core.specs.Ops.{Op}
 use Rattle.tlp_core.specs.Enables.{enables, ends_in_gap, is_one_run}
-use Rattle.seq_memory.specs.declared.Entry.{Entry}
+use Rattle.seq_memory.specs.Entries.{Entry}
 use Rattle.seq_memory.specs.History.{contents}
-use Rattle.history_check.specs.declared.Record.TheVariants as records
-use Rattle.history_check.specs.TraceView.{TraceView}
-use Rattle.history_check.specs.Claim.{Claim, claim_of}
-use Rattle.history_check.specs.Flaws.{first_flaw, first_at, any_below, misses, numbering_at, entry_at, answer_at}
-use Rattle.history_check.specs.Trace.{Explains}
+use Rattle.history_words.specs.declared.record.RecordOf.TheVariants as records
+use Rattle.history_words.specs.TraceView.{TraceView}
+use Rattle.history_words.specs.Claim.{Claim, claim_of}
+use Rattle.history_words.specs.Flaws.{first_flaw, first_at, any_below, misses, numbering_at, entry_at, answer_at}
+use Rattle.history_words.specs.Trace.{Explains}
 use Rattle.log_runs.specs.Explainable.{IsExplainable, SeenAlike}
 use Rattle.log_rows.specs.Logs.{log_of, read, write, swap, value, write_passes_read, unanswered_swap}
 use Rattle.log_rows.proofs.Clocks.{climbs, all_late, clocked}

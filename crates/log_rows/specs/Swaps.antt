@@ -1,8 +1,8 @@
 -- Which neighbouring lines of a log may be swapped.
 use Rattle.std.specs.Prelude.{◌≡◌, List}
-use Rattle.history_check.specs.declared.Record.{Record}
-use Rattle.history_check.specs.declared.Record.TheVariants as records
-use Rattle.history_check.specs.TraceView.{TraceView}
+use Rattle.history_words.specs.Records.{Record}
+use Rattle.history_words.specs.declared.record.RecordOf.TheVariants as records
+use Rattle.history_words.specs.TraceView.{TraceView}
 
 -- two lines, the second behind the first: an answer may come later, and a submission earlier, but not before another
 -- one of its own requester; a submission may not come later than an answer

@@ -1,7 +1,7 @@
 //! Which lines of a log may stand in another order.
 ghost use Rattle.std.specs.Prelude.{◌++◌, ◌∷◌, List};
-ghost use Rattle.history_check.specs.declared.Record.{Record};
-ghost use Rattle.history_check.specs.TraceView.{TraceView};
+ghost use Rattle.history_words.specs.Records.{Record};
+ghost use Rattle.history_words.specs.TraceView.{TraceView};
 ghost use Rattle.log_rows.specs.Swaps.{MaySwap, with_records};
 ghost use Rattle.log_runs.specs.Explainable.{IsExplainable};
 

@@ -6,21 +6,21 @@ use Rattle.std.proofs.lemmas.Bool.{cases_lt, cases_eq, cases_Bool, eq-eqb, eqb-t
 use Rattle.std.proofs.lemmas.List.{append-nil, take-append-le, map-append}
 use Rattle.std.proofs.Math.Seq.{take-append_seam, take-length, drop-length}
 use Rattle.std.proofs.lemmas.Option.{slice_get_within, same_Some}
-use Rattle.tlp_core.specs.declared.operation.Op.{Op}
+use Rattle.tlp_core.specs.Ops.{Op}
 use Rattle.tlp_core.specs.Operation.{is_posted}
-use Rattle.seq_memory.specs.declared.Entry.{Entry}
-use Rattle.seq_memory.specs.declared.Reply.{Reply}
-use Rattle.seq_memory.specs.declared.Reply.TheVariants as replies
+use Rattle.seq_memory.specs.Entries.{Entry}
+use Rattle.seq_memory.specs.Entries.{Reply}
+use Rattle.seq_memory.specs.declared.reply.ReplyOf.TheVariants as replies
 use Rattle.seq_memory.specs.Limits.{Extent}
 use Rattle.seq_memory.specs.Step.{answer}
 use Rattle.seq_memory.specs.History.{contents, contents_at, reply_at}
-use Rattle.history_check.specs.declared.Record.{Record}
-use Rattle.history_check.specs.declared.Record.TheVariants as records
-use Rattle.history_check.specs.TraceView.{TraceView, observed}
-use Rattle.history_check.specs.Claim.{claim_of}
-use Rattle.history_check.specs.Flaws.{moment}
-use Rattle.history_check.specs.Trace.{submissions, answers_to, is_request, stands, IsNumbered, IsLawful, IsLegal, IsExplained, Explains}
-use Rattle.history_check.specs.Clocks.{IsClocked}
+use Rattle.history_words.specs.Records.{Record}
+use Rattle.history_words.specs.declared.record.RecordOf.TheVariants as records
+use Rattle.history_words.specs.TraceView.{TraceView, observed}
+use Rattle.history_words.specs.Claim.{claim_of}
+use Rattle.history_words.specs.Flaws.{moment}
+use Rattle.history_words.specs.Trace.{submissions, answers_to, is_request, stands, IsNumbered, IsLawful, IsLegal, IsExplained, Explains}
+use Rattle.history_words.specs.Clocks.{IsClocked}
 use Rattle.log_runs.specs.EventView.{EventView}
 use Rattle.log_runs.specs.EventView as events
 use Rattle.log_runs.specs.declared.Step.{Step}
@@ -376,7 +376,7 @@ module _ (t : TraceView) (es : List EventView) (formed : IsWellFormed t.records)
       unfolding contents
       made_is = by c.told refl
         where
-          same_reply : {y z : Reply} → records.Ans i k y n ≡ records.Ans i k z n → y ≡ z
+          same_reply : {y z : Reply} → ◌≡◌ {A = Record} (records.Ans i k y n) (records.Ans i k z n) → y ≡ z
           same_reply e = cc
 
           own : is_request i k (entry i k op) ≡ true

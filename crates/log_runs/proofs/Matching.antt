@@ -1,14 +1,14 @@
 -- The state after a history.
-use Rattle.std.proofs.Common.{◌≡◌, ◌∙◌, ℕ, ◌<◌, true, false, List, [], ◌∷◌, ◌++◌, Some, length, refl, sym, ap, subst, inl, inr}
+use Rattle.std.proofs.Common.{◌≡◌, Option, ◌∙◌, ℕ, ◌<◌, true, false, List, [], ◌∷◌, ◌++◌, Some, length, refl, sym, ap, subst, inl, inr}
 use Rattle.std.specs.Prelude.{slice_get}
 use Rattle.std.proofs.lemmas.Bool.{cases_eq}
 use Rattle.std.proofs.lemmas.Option.{slice_get_within}
-use Rattle.tlp_core.specs.declared.operation.Op.{Op}
-use Rattle.seq_memory.specs.declared.Entry.{Entry}
+use Rattle.tlp_core.specs.Ops.{Op}
+use Rattle.seq_memory.specs.Entries.{Entry}
 use Rattle.seq_memory.specs.History.{contents}
-use Rattle.history_check.specs.declared.Record.{Record}
-use Rattle.history_check.specs.declared.Record.TheVariants as records
-use Rattle.history_check.specs.Trace.{stands, IsNumbered}
+use Rattle.history_words.specs.Records.{Record}
+use Rattle.history_words.specs.declared.record.RecordOf.TheVariants as records
+use Rattle.history_words.specs.Trace.{stands, IsNumbered}
 use Rattle.log_runs.specs.EventView as events
 use Rattle.log_runs.specs.declared.Step.TheVariants as steps
 use Rattle.log_runs.specs.LogView.{LogView}
@@ -50,5 +50,5 @@ matches_act rs log s h b n j e o numbered at event m = record {
   bytes = acted_is log s.bytes b j e.op o event ∙ ap (λ x. bytes_after log.extent x e.op) m.bytes ∙ sym (contents_push log.extent h e);
 }
   where
-    named : (e : Entry) (i k n : ℕ) → i ≡ e.requester → k ≡ e.number → Some (records.Sub e.requester e.number e.op n) ≡ Some (records.Sub i k e.op n)
+    named : (e : Entry) (i k n : ℕ) → i ≡ e.requester → k ≡ e.number → ◌≡◌ {A = Option Record} (Some (records.Sub e.requester e.number e.op n)) (Some (records.Sub i k e.op n))
     named e i k n one two = rw (one, two) refl

@@ -6,11 +6,11 @@ use Rattle.std.proofs.lemmas.Bool.{cases_lt, cases_Bool, eq-eqb, eqb-true, ne_eq
 use Rattle.std.proofs.lemmas.Option.{same_Some, slice_get_within}
 use Rattle.std.proofs.Math.Seq.{take-length}
 use Rattle.std.proofs.lemmas.List.Elements.{filter_map-append}
-use Rattle.tlp_core.specs.declared.operation.Op.{Op}
-use Rattle.seq_memory.specs.declared.Reply.{Reply}
-use Rattle.history_check.specs.declared.Record.{Record}
-use Rattle.history_check.specs.declared.Record.TheVariants as records
-use Rattle.history_check.specs.Trace.{submission, submissions, IsNumbered}
+use Rattle.tlp_core.specs.Ops.{Op}
+use Rattle.seq_memory.specs.Entries.{Reply}
+use Rattle.history_words.specs.Records.{Record}
+use Rattle.history_words.specs.declared.record.RecordOf.TheVariants as records
+use Rattle.history_words.specs.Trace.{submission, submissions, IsNumbered}
 use Rattle.log_runs.proofs.Lists.{take_more_at, take_of_take, from_take, to_take}
 
 own : (i k n : ℕ) (op : Op) → submission i (records.Sub i k op n) ≡ Some op

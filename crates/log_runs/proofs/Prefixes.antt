@@ -4,19 +4,19 @@ use Rattle.std.specs.Prelude.{slice_get, option_map}
 use Rattle.std.proofs.lemmas.Bool.{cases_lt, cases_eq}
 use Rattle.std.proofs.lemmas.List.{length-take-le}
 use Rattle.std.proofs.lemmas.Option.{slice_get_within, same_Some}
-use Rattle.tlp_core.specs.declared.operation.Op.{Op}
-use Rattle.seq_memory.specs.declared.Entry.{Entry}
-use Rattle.seq_memory.specs.declared.Reply.{Reply}
+use Rattle.tlp_core.specs.Ops.{Op}
+use Rattle.seq_memory.specs.Entries.{Entry}
+use Rattle.seq_memory.specs.Entries.{Reply}
 use Rattle.seq_memory.specs.Limits.{Extent}
 use Rattle.seq_memory.specs.Step.{answer}
 use Rattle.seq_memory.specs.History.{contents, contents_at, reply_at}
-use Rattle.history_check.specs.declared.Record.{Record}
-use Rattle.history_check.specs.declared.Record.TheVariants as records
-use Rattle.history_check.specs.TraceView.{TraceView, observed}
-use Rattle.history_check.specs.Claim.{claim_of}
-use Rattle.history_check.specs.Flaws.{moment}
-use Rattle.history_check.specs.Trace.{submissions, stands, Explains, IsNumbered, IsLegal, IsExplained}
-use Rattle.history_check.specs.Clocks.{IsClocked}
+use Rattle.history_words.specs.Records.{Record}
+use Rattle.history_words.specs.declared.record.RecordOf.TheVariants as records
+use Rattle.history_words.specs.TraceView.{TraceView, observed}
+use Rattle.history_words.specs.Claim.{claim_of}
+use Rattle.history_words.specs.Flaws.{moment}
+use Rattle.history_words.specs.Trace.{submissions, stands, Explains, IsNumbered, IsLegal, IsExplained}
+use Rattle.history_words.specs.Clocks.{IsClocked}
 use Rattle.log_runs.specs.Explainable.{IsExplainable, prefix}
 use Rattle.log_runs.proofs.Lists.{some_at, from_take, to_take, take_of_take}
 use Rattle.log_runs.proofs.Alike.{same_prefix}

@@ -6,11 +6,11 @@ use Rattle.std.specs.List.{list_any}
 use Rattle.std.proofs.lemmas.List.Folds.{list_any-append}
 use Rattle.std.proofs.lemmas.List.Sums.{fold-append}
 use Rattle.std.proofs.Math.Bool.{or-false, or-true}
-use Rattle.seq_memory.specs.declared.Entry.{Entry}
+use Rattle.seq_memory.specs.Entries.{Entry}
 use Rattle.seq_memory.specs.Limits.{Extent}
 use Rattle.seq_memory.specs.Step.{after}
 use Rattle.seq_memory.specs.History.{contents}
-use Rattle.history_check.specs.Trace.{is_request, stands}
+use Rattle.history_words.specs.Trace.{is_request, stands}
 use Rattle.log_runs.proofs.Lists.{to_take}
 
 own : (e : Entry) → is_request e.requester e.number e ≡ true

@@ -1,7 +1,7 @@
 -- What a log has at one place. A request is named by the place of its submission, from 0.
 use Rattle.std.specs.Prelude.{ℕ, Option, option_map}
-use Rattle.tlp_core.specs.declared.operation.Op.{Op}
-use Rattle.seq_memory.specs.declared.Reply.{Reply}
+use Rattle.tlp_core.specs.Ops.{Op}
+use Rattle.seq_memory.specs.Entries.{Reply}
 use Rattle.log_runs.specs.declared.Event.{Event}
 use Rattle.log_runs.specs.declared.Event.TheVariants as lent
 

@@ -1,14 +1,14 @@
 -- When a history explains a log: what requesters saw, without n's and without a history.
 use Rattle.std.specs.Prelude.{ℕ, ◌≡◌, ◌⊎◌, List, [], ◌∷◌, take, remove}
-use Rattle.seq_memory.specs.declared.Entry.{Entry}
-use Rattle.seq_memory.specs.declared.Reply.{Reply}
-use Rattle.seq_memory.specs.declared.Reply.TheVariants as replies
-use Rattle.history_check.specs.declared.Record.{Record}
-use Rattle.history_check.specs.declared.Record.TheVariants as records
-use Rattle.history_check.specs.TraceView.{TraceView}
-use Rattle.history_check.specs.Claim.{Claim, claim_of}
-use Rattle.history_check.specs.Clocks.{IsClocked}
-use Rattle.history_check.specs.Trace.{Explains}
+use Rattle.seq_memory.specs.Entries.{Entry}
+use Rattle.seq_memory.specs.Entries.{Reply}
+use Rattle.seq_memory.specs.declared.reply.ReplyOf.TheVariants as replies
+use Rattle.history_words.specs.Records.{Record}
+use Rattle.history_words.specs.declared.record.RecordOf.TheVariants as records
+use Rattle.history_words.specs.TraceView.{TraceView}
+use Rattle.history_words.specs.Claim.{Claim, claim_of}
+use Rattle.history_words.specs.Clocks.{IsClocked}
+use Rattle.history_words.specs.Trace.{Explains}
 
 -- the reply is the one that the log has, or the log has only that the request was done
 abbrev pub MayBe : Reply → Reply → Type 0

@@ -1,9 +1,9 @@
 -- Runs through a log: records are passed in their order, and requests act between them.
 use Rattle.std.specs.Prelude.{ℕ, ◌≡◌, ◌+◌, ◌<◌, List, [], ◌∷◌, length, replicate, slice_get, slice_set, Option, Some, None, Bool, true, false}
 use Rattle.std.specs.List.{All}
-use Rattle.tlp_core.specs.declared.operation.Op.{Op}
+use Rattle.tlp_core.specs.Ops.{Op}
 use Rattle.tlp_core.specs.Operation.{is_posted}
-use Rattle.seq_memory.specs.declared.Reply.{Reply}
+use Rattle.seq_memory.specs.Entries.{Reply}
 use Rattle.seq_memory.specs.Limits.{Extent}
 use Rattle.seq_memory.specs.Step.{after, answer}
 use Rattle.log_runs.specs.EventView.{EventView}

@@ -1,14 +1,14 @@
 //! Laws of logs.
 ghost use Rattle.std.specs.Prelude.{ℕ, ◌≡◌, ◌<◌, ◌+◌, ◌++◌, ◌∷◌, [], List, length, take, slice_get, Some};
-ghost use Rattle.tlp_core.specs.declared.operation.Op.{Op};
-ghost use Rattle.seq_memory.specs.declared.Entry.{Entry};
-ghost use Rattle.seq_memory.specs.declared.Reply.{Reply};
-ghost use Rattle.history_check.specs.declared.Record.{Record};
-ghost use Rattle.history_check.specs.declared.Record.TheVariants as records;
-ghost use Rattle.history_check.specs.Claim.{claim_of};
-ghost use Rattle.history_check.specs.Clocks.{IsClocked};
-ghost use Rattle.history_check.specs.Trace.{Explains, IsNumbered, submissions};
-ghost use Rattle.history_check.specs.TraceView.{TraceView, observed};
+ghost use Rattle.tlp_core.specs.Ops.{Op};
+ghost use Rattle.seq_memory.specs.Entries.{Entry};
+ghost use Rattle.seq_memory.specs.Entries.{Reply};
+ghost use Rattle.history_words.specs.Records.{Record};
+ghost use Rattle.history_words.specs.declared.record.RecordOf.TheVariants as records;
+ghost use Rattle.history_words.specs.Claim.{claim_of};
+ghost use Rattle.history_words.specs.Clocks.{IsClocked};
+ghost use Rattle.history_words.specs.Trace.{Explains, IsNumbered, submissions};
+ghost use Rattle.history_words.specs.TraceView.{TraceView, observed};
 ghost use Rattle.log_runs.specs.EventView.{EventView};
 ghost use Rattle.log_runs.specs.Explainable.{IsExplainable, SeenAlike, prefix, without};
 ghost use Rattle.log_runs.specs.Histories.{history_of, timed, with_replies};
@@ -28,7 +28,8 @@ pub fn prefix_is_explainable()
 
 /// An explainable log without one of its answers is explainable.
 pub fn fewer_answers_are_explainable()
-    ensures { (t : TraceView) (a i k n : ℕ) (reply : Reply) → slice_get t.records a ≡ Some (records.Ans i k reply n) → IsExplainable t → IsExplainable (without a t) }
+    ensures { (t : TraceView) (a i k n : ℕ) (reply : Reply) → slice_get t.records a ≡ Some (records.Ans i k reply n) → IsExplainable t →
+        IsExplainable (without a t) }
 {}
 
 /// An explainable log has no record whose form is wrong.
@@ -38,32 +39,47 @@ pub fn explainable_is_well_formed()
 
 /// Some run leads through the events of an explainable log to the end.
 pub fn explainable_has_a_run()
-    ensures { (t : TraceView) (es : List EventView) → AreEvents t.records es → IsExplainable t → Live (record { extent = observed t; events = es }) (start (record { extent = observed t; events = es })) }
+    ensures { (t : TraceView) (es : List EventView) → AreEvents t.records es → IsExplainable t →
+        Live (record { extent = observed t; events = es }) (start (record { extent = observed t; events = es })) }
 {}
 
 /// A run through all events of a log whose form is right is a history that explains the log. Its entries are the
 /// requests in the order in which they act, and n of a record is the number of requests that had acted when it was passed.
 /// An answer that has only that its request was done gets the reply of the memory.
 pub fn a_run_is_a_history()
-    ensures explains { (t : TraceView) (es : List EventView) → IsWellFormed t.records → AreAllEvents t.records es → (run : Live (record { extent = observed t; events = es }) (start (record { extent = observed t; events = es }))) → Explains (claim_of (timed run.steps (with_replies (history_of t.records run.steps) t)) (history_of t.records run.steps)) }
-    ensures clocked { (t : TraceView) (es : List EventView) → IsWellFormed t.records → AreAllEvents t.records es → (run : Live (record { extent = observed t; events = es }) (start (record { extent = observed t; events = es }))) → IsClocked (claim_of (timed run.steps (with_replies (history_of t.records run.steps) t)) (history_of t.records run.steps)) }
-    ensures alike { (t : TraceView) (es : List EventView) → IsWellFormed t.records → AreAllEvents t.records es → (run : Live (record { extent = observed t; events = es }) (start (record { extent = observed t; events = es }))) → SeenAlike t (timed run.steps (with_replies (history_of t.records run.steps) t)) }
-    ensures explainable { (t : TraceView) (es : List EventView) → IsWellFormed t.records → AreAllEvents t.records es → Live (record { extent = observed t; events = es }) (start (record { extent = observed t; events = es })) → IsExplainable t }
+    ensures explains { (t : TraceView) (es : List EventView) → IsWellFormed t.records → AreAllEvents t.records es →
+        (run : Live (record { extent = observed t; events = es }) (start (record { extent = observed t; events = es }))) →
+        Explains (claim_of (timed run.steps (with_replies (history_of t.records run.steps) t)) (history_of t.records run.steps)) }
+    ensures clocked { (t : TraceView) (es : List EventView) → IsWellFormed t.records → AreAllEvents t.records es →
+        (run : Live (record { extent = observed t; events = es }) (start (record { extent = observed t; events = es }))) →
+        IsClocked (claim_of (timed run.steps (with_replies (history_of t.records run.steps) t)) (history_of t.records run.steps)) }
+    ensures alike { (t : TraceView) (es : List EventView) → IsWellFormed t.records → AreAllEvents t.records es →
+        (run : Live (record { extent = observed t; events = es }) (start (record { extent = observed t; events = es }))) →
+        SeenAlike t (timed run.steps (with_replies (history_of t.records run.steps) t)) }
+    ensures explainable { (t : TraceView) (es : List EventView) → IsWellFormed t.records → AreAllEvents t.records es →
+        Live (record { extent = observed t; events = es }) (start (record { extent = observed t; events = es })) → IsExplainable t }
 {}
 
 /// Where the numbers of submissions are right, a number names one submission, and is below the
 /// number of its requester's submissions; and each number below that names one.
 pub fn numbers_name_submissions()
     ensures below { (rs : List Record) (b i k n : ℕ) (op : Op) → IsNumbered rs → slice_get rs b ≡ Some (records.Sub i k op n) → k < length (submissions rs i) }
-    ensures unique { (rs : List Record) (a b i k n m : ℕ) (op w : Op) → IsNumbered rs → slice_get rs a ≡ Some (records.Sub i k op n) → slice_get rs b ≡ Some (records.Sub i k w m) → a ≡ b }
-    ensures named { (rs : List Record) (i k : ℕ) (op : Op) → IsNumbered rs → slice_get (submissions rs i) k ≡ Some op → (b : ℕ) × (n : ℕ) × (slice_get rs b ≡ Some (records.Sub i k op n)) }
+    ensures unique { (rs : List Record) (a b i k n m : ℕ) (op w : Op) → IsNumbered rs → slice_get rs a ≡ Some (records.Sub i k op n) →
+        slice_get rs b ≡ Some (records.Sub i k w m) → a ≡ b }
+    ensures named { (rs : List Record) (i k : ℕ) (op : Op) → IsNumbered rs → slice_get (submissions rs i) k ≡ Some op →
+        (b : ℕ) × (n : ℕ) × (slice_get rs b ≡ Some (records.Sub i k op n)) }
 {}
 
 /// A record more is a submission more of its requester, if it is one.
 pub fn submissions_grow_by_records()
-    ensures own { (rs : List Record) (a i k n : ℕ) (op : Op) → slice_get rs a ≡ Some (records.Sub i k op n) → submissions (take (a + 1) rs) i ≡ submissions (take a rs) i ++ op ∷ [] }
-    ensures other { (rs : List Record) (a i j k n : ℕ) (op : Op) → slice_get rs a ≡ Some (records.Sub i k op n) → (j ≡ i → ⊥) → submissions (take (a + 1) rs) j ≡ submissions (take a rs) j }
-    ensures answer { (rs : List Record) (a i j k n : ℕ) (reply : Reply) → slice_get rs a ≡ Some (records.Ans i k reply n) → submissions (take (a + 1) rs) j ≡ submissions (take a rs) j }
-    ensures numbered { (rs : List Record) (a i k n : ℕ) (op : Op) → IsNumbered (take a rs) → slice_get rs a ≡ Some (records.Sub i k op n) → k ≡ length (submissions (take a rs) i) → IsNumbered (take (a + 1) rs) }
-    ensures numbered_answer { (rs : List Record) (a i k n : ℕ) (reply : Reply) → IsNumbered (take a rs) → slice_get rs a ≡ Some (records.Ans i k reply n) → IsNumbered (take (a + 1) rs) }
+    ensures own { (rs : List Record) (a i k n : ℕ) (op : Op) → slice_get rs a ≡ Some (records.Sub i k op n) →
+        submissions (take (a + 1) rs) i ≡ submissions (take a rs) i ++ op ∷ [] }
+    ensures other { (rs : List Record) (a i j k n : ℕ) (op : Op) → slice_get rs a ≡ Some (records.Sub i k op n) → (j ≡ i → ⊥) →
+        submissions (take (a + 1) rs) j ≡ submissions (take a rs) j }
+    ensures answer { (rs : List Record) (a i j k n : ℕ) (reply : Reply) → slice_get rs a ≡ Some (records.Ans i k reply n) →
+        submissions (take (a + 1) rs) j ≡ submissions (take a rs) j }
+    ensures numbered { (rs : List Record) (a i k n : ℕ) (op : Op) → IsNumbered (take a rs) → slice_get rs a ≡ Some (records.Sub i k op n) →
+        k ≡ length (submissions (take a rs) i) → IsNumbered (take (a + 1) rs) }
+    ensures numbered_answer { (rs : List Record) (a i k n : ℕ) (reply : Reply) → IsNumbered (take a rs) → slice_get rs a ≡ Some (records.Ans i k reply n) →
+        IsNumbered (take (a + 1) rs) }
 {}

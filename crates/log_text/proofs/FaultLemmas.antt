@@ -2,8 +2,8 @@
 use Rattle.std.proofs.Common.{◌≡◌, ◌∙◌, ℕ, Bool, true, false, List, [], ◌∷◌, length, ap, refl, fold, Option, Some, None, Result, Ok, Err}
 use Rattle.std.specs.Prelude.{nat_lt, cond, is_some}
 use Rattle.text_lines.specs.Lines.{lines_of, bare, said, is_skipped}
-use Rattle.history_check.specs.Claim.{Claim}
-use Rattle.history_check.specs.TraceView.{TraceView}
+use Rattle.history_words.specs.Claim.{Claim}
+use Rattle.history_words.specs.TraceView.{TraceView}
 use Rattle.record_text.specs.declared.fault.ReadFault.{ReadFault}
 use Rattle.record_text.specs.declared.fault.ReadFaultKind.{ReadFaultKind}
 use Rattle.record_text.specs.declared.fault.ReadFaultKind.TheVariants as faults

@@ -1,7 +1,7 @@
 -- A log, or else a trace.
 use Rattle.std.proofs.Common.{◌≡◌, ◌∙◌, ℕ, List, ap, sym, inl, inr, Result, Ok, Err}
 use Rattle.std.specs.Prelude.{IfOk, IfErr, ◌⊎◌, Bool, true, false, cond}
-use Rattle.history_check.specs.TraceView.{TraceView}
+use Rattle.history_words.specs.TraceView.{TraceView}
 use Rattle.record_text.specs.declared.fault.ReadFault.{ReadFault}
 use Rattle.record_text.specs.declared.fault.Misread.{Misread}
 use Rattle.trace_text.specs.TraceReaderView as traces

@@ -4,12 +4,12 @@ use Rattle.std.specs.Prelude.{All, nat_lt, cond, codes, bytes_eq, is_some}
 use Rattle.std.proofs.lemmas.List.Elements.{All-nil, All-cons, All-head, All-tail, All-append}
 use Rattle.text_lines.specs.Lines.{lines_of, bare, said, is_skipped}
 use Rattle.seq_memory.specs.Limits.{IsWithinLimits, Extent}
-use Rattle.history_check.specs.declared.Record.{Record}
-use Rattle.history_check.specs.declared.Record.TheVariants as records
-use Rattle.history_check.specs.Claim.{Claim}
-use Rattle.history_check.specs.TraceView.{TraceView}
-use Rattle.tlp_core.specs.declared.operation.Op.{Op}
-use Rattle.seq_memory.specs.declared.Reply.{Reply}
+use Rattle.history_words.specs.Records.{Record}
+use Rattle.history_words.specs.declared.record.RecordOf.TheVariants as records
+use Rattle.history_words.specs.Claim.{Claim}
+use Rattle.history_words.specs.TraceView.{TraceView}
+use Rattle.tlp_core.specs.Ops.{Op}
+use Rattle.seq_memory.specs.Entries.{Reply}
 use Rattle.operation_text.specs.Operations.{op_spelled}
 use Rattle.operation_text.specs.Words.{words, field, then_with, ended}
 use Rattle.record_text.specs.declared.fault.ReadFault.{ReadFault}
@@ -20,8 +20,8 @@ use Rattle.record_text.specs.RecordReaderView.{RecordReaderView}
 use Rattle.record_text.specs.RecordReaderView as reads
 use Rattle.trace_text.specs.Tellable.{IsRequest, IsTellableRecord, IsTellable}
 use Rattle.trace_text.specs.TraceReaderView as traces
-use Rattle.log_text.specs.Lines.{LogLine}
-use Rattle.log_text.specs.Lines as lines
+use Rattle.log_text.specs.declared.line.LogLine.{LogLine}
+use Rattle.log_text.specs.declared.line.LogLine.TheVariants as lines
 use Rattle.log_text.specs.Forms as forms
 use Rattle.log_text.specs.Forms.{line_of, section_after}
 use Rattle.log_text.specs.Told.{IsToldLog}

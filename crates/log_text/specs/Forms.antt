@@ -1,15 +1,15 @@
 -- The forms of a log's lines: those of a trace of version 2, whose records have no n, and in version 2 of a log `done`.
 use Rattle.std.specs.Prelude.{ℕ, true, if◌then◌else◌, List, [], ◌∷◌, Option, Some, None, codes, bytes_eq}
-use Rattle.seq_memory.specs.declared.Reply.{Reply}
-use Rattle.seq_memory.specs.declared.Reply.TheVariants as replies
-use Rattle.history_check.specs.declared.Record.TheVariants as records
+use Rattle.seq_memory.specs.Entries.{Reply}
+use Rattle.seq_memory.specs.declared.reply.ReplyOf.TheVariants as replies
+use Rattle.history_words.specs.declared.record.RecordOf.TheVariants as records
 use Rattle.operation_text.specs.Words.{words, then_with, field, ended}
 use Rattle.operation_text.specs.Operations.{op_spelled, reply_spelled}
 use Rattle.record_text.specs.Forms.{requester, number, memory_of}
 use Rattle.record_text.specs.declared.form.Section.{Section}
 use Rattle.record_text.specs.declared.form.Section.TheVariants as sections
-use Rattle.log_text.specs.Lines.{LogLine}
-use Rattle.log_text.specs.Lines as lines
+use Rattle.log_text.specs.declared.line.LogLine.{LogLine}
+use Rattle.log_text.specs.declared.line.LogLine.TheVariants as lines
 use Rattle.log_text.specs.declared.line.Version.{Version}
 use Rattle.log_text.specs.declared.line.Version.TheVariants as versions
 

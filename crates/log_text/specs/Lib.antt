@@ -1,4 +1,3 @@
-pub mod Lines
 pub mod Forms
 pub mod LogReaderView
 pub mod Told

@@ -1,17 +1,17 @@
 -- What a text of a log is read as, line by line; and a text that has a log or a trace.
 use Rattle.std.specs.Prelude.{ℕ, ◌≡◌, ◌⊎◌, Bool, true, false, if◌then◌else◌, List, [], ◌∷◌, ◌++◌, Result, Ok, Err}
 use Rattle.seq_memory.specs.Limits.{Extent}
-use Rattle.history_check.specs.declared.Record.{Record}
-use Rattle.history_check.specs.Claim.{Claim}
-use Rattle.history_check.specs.TraceView.{TraceView}
+use Rattle.history_words.specs.Records.{Record}
+use Rattle.history_words.specs.Claim.{Claim}
+use Rattle.history_words.specs.TraceView.{TraceView}
 use Rattle.record_text.specs.declared.fault.ReadFault.{ReadFault}
 use Rattle.record_text.specs.declared.fault.ReadFaultKind.{ReadFaultKind}
 use Rattle.record_text.specs.declared.fault.ReadFaultKind.TheVariants as faults
 use Rattle.record_text.specs.Grammar.{Grammar}
 use Rattle.record_text.specs.RecordReaderView as reads
 use Rattle.trace_text.specs.TraceReaderView as traces
-use Rattle.log_text.specs.Lines.{LogLine}
-use Rattle.log_text.specs.Lines as lines
+use Rattle.log_text.specs.declared.line.LogLine.{LogLine}
+use Rattle.log_text.specs.declared.line.LogLine.TheVariants as lines
 use Rattle.log_text.specs.Forms.{line_of, section_after}
 use Rattle.log_text.specs.declared.line.Version.{Version}
 use Rattle.log_text.specs.declared.line.Version.TheVariants as versions

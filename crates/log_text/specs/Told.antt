@@ -1,7 +1,7 @@
 -- Logs that lines can tell.
 use Rattle.std.specs.Prelude.{All}
 use Rattle.seq_memory.specs.Limits.{IsWithinLimits}
-use Rattle.history_check.specs.TraceView.{TraceView, observed}
+use Rattle.history_words.specs.TraceView.{TraceView, observed}
 use Rattle.told_laws.specs.Told.{IsToldSub}
 
 -- lines can tell the memory, and each submission

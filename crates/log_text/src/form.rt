@@ -2,10 +2,9 @@
 ghost use Rattle.std.specs.Prelude.{◌≡◌};
 ghost use Rattle.log_text.specs.LogReaderView as reads;
 ghost use Rattle.log_text.specs.Forms as forms;
-ghost use Rattle.log_text.specs.Lines.{owned_line};
 
-use crate::line::{LineForm, Version, read_line};
-use history_check::{Record, Trace};
+use crate::line::{LogLine, Version, read_line};
+use history_words::{Record, Trace};
 use operation_text::Expected;
 use record_text::{Form, Section, Taken};
 use seq_memory::{Extent, MIN_SIZE};
@@ -71,23 +70,23 @@ impl LogForm {
 }
 
 /// The section after a line, if the line is due in the section.
-fn section_after(section: Section, line: &LineForm<'_>) -> Option<Section>
-    ensures { result ≡ forms.section_after section (owned_line line.now) }
+fn section_after(section: Section, line: &LogLine<'_>) -> Option<Section>
+    ensures { result ≡ forms.section_after section line.now }
 {
     match (section, line) {
-        (Section::FirstLine, LineForm::FirstLine(_)) => Some(Section::Memory),
-        (Section::Memory, LineForm::Memory(_)) => Some(Section::Records),
-        (Section::Records, LineForm::Sub { .. } | LineForm::Ans { .. }) => Some(Section::Records),
-        (Section::Records, LineForm::End) => Some(Section::End),
+        (Section::FirstLine, LogLine::FirstLine(_)) => Some(Section::Memory),
+        (Section::Memory, LogLine::Memory(_)) => Some(Section::Records),
+        (Section::Records, LogLine::Record(_)) => Some(Section::Records),
+        (Section::Records, LogLine::End) => Some(Section::End),
         _ => None,
     }
 }
 
 impl Form for LogForm {
-    ghost use Rattle.log_text.specs.Lines as lines;
+    ghost use Rattle.log_text.specs.declared.line.LogLine.{LogLine};
     ghost use Rattle.log_text.specs.LogReaderView.{log_grammar};
 
-    ghost Line = { lines.LogLine };
+    ghost Line = { LogLine };
 
     ghost grammar = { log_grammar };
 
@@ -100,29 +99,10 @@ impl Form for LogForm {
             return Ok(Taken::NotDue);
         };
         match line {
-            LineForm::FirstLine(version) => self.version = version,
-            LineForm::Memory(extent) => self.extent = extent,
-            LineForm::Sub {
-                requester,
-                number,
-                op,
-            } => self.records.push(Record::Sub {
-                requester,
-                number,
-                op: op.to_owned(),
-                n: 0,
-            })?,
-            LineForm::Ans {
-                requester,
-                number,
-                reply,
-            } => self.records.push(Record::Ans {
-                requester,
-                number,
-                reply: reply.to_owned(),
-                n: 0,
-            })?,
-            LineForm::End => {}
+            LogLine::FirstLine(version) => self.version = version,
+            LogLine::Memory(extent) => self.extent = extent,
+            LogLine::Record(record) => self.records.push(record.to_owned())?,
+            LogLine::End => {}
         }
         Ok(Taken::Kept(after))
     }

@@ -1,6 +1,6 @@
 //! Laws of what was seen.
 ghost use Rattle.std.specs.Prelude.{◌≡◌, List, ℕ, Ok, Err};
-ghost use Rattle.history_check.specs.TraceView.{TraceView};
+ghost use Rattle.history_words.specs.TraceView.{TraceView};
 ghost use Rattle.record_text.specs.declared.fault.ReadFault.{ReadFault};
 ghost use Rattle.record_text.specs.declared.fault.ReadFaultKind.TheVariants.{Memory};
 ghost use Rattle.trace_text.specs.TraceReaderView.{read_of};

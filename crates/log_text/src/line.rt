@@ -1,17 +1,14 @@
 //! The forms of lines.
-ghost use Rattle.std.specs.Prelude.{◌≡◌, IfOk, option_map};
+ghost use Rattle.std.specs.Prelude.{◌≡◌};
 ghost use Rattle.std.specs.Result.{result_ok};
-ghost use Rattle.seq_memory.specs.Outcome.{owned_reply, HasRoom};
 ghost use Rattle.operation_text.specs.Words.{words, words_behind};
 ghost use Rattle.log_text.specs.Forms as forms;
-ghost use Rattle.log_text.specs.Lines.{owned_line, LendsSized};
 
-use operation_text::{
-    Expected, Misfit, alone, cut, op_behind_lent, read_reply_lent, reply_behind_lent,
-};
+use history_words::RecordRef;
+use operation_text::{Expected, Misfit, alone, cut, op_behind, read_reply, reply_behind};
 use record_text::{memory, request, requester};
-use seq_memory::{Extent, ReplyForm};
-use tlp_core::{MAX_PAYLOAD, OpForm};
+use seq_memory::{Extent, ReplyRef};
+use tlp_core::MAX_PAYLOAD;
 
 /// A line, by its first word.
 const LINE: Expected = Expected::Of("a line of a log", "pciex-log, memory, sub, ans, end");
@@ -28,46 +25,37 @@ pub(crate) enum Version {
     Two,
 }
 
-/// What a line of a log says: the bytes of its operation or its reply are lent.
-#[derive(Clone, Copy)]
-pub(crate) enum LineForm<'r> {
+/// What a line of a log says: its record is lent, and `n` of it is 0.
+#[derive(Drop)]
+pub(crate) enum LogLine<'r> {
     FirstLine(Version),
     Memory(Extent),
-    Sub {
-        requester: u8,
-        number: u32,
-        op: OpForm<'r>,
-    },
-    Ans {
-        requester: u8,
-        number: u32,
-        reply: ReplyForm<'r>,
-    },
+    Record(RecordRef<'r>),
     End,
 }
 
-fn memory_line<'r>(rest: Option<&[u8]>) -> Result<LineForm<'r>, Misfit>
-    ensures value { option_map owned_line (result_ok result) ≡ forms.memory_line_of (words_behind rest.entry) }
-    ensures sized { IfOk result LendsSized }
+fn memory_line<'r>(rest: Option<&[u8]>) -> Result<LogLine<'r>, Misfit>
+    ensures { result_ok result ≡ forms.memory_line_of (words_behind rest.entry) }
 {
     match memory(rest, true) {
-        Ok(extent) => Ok(LineForm::Memory(extent)),
+        Ok(extent) => Ok(LogLine::Memory(extent)),
         Err(misfit) => Err(misfit),
     }
 }
 
-fn sub<'r>(rest: Option<&[u8]>, room: &'r mut [u8; MAX_PAYLOAD]) -> Result<LineForm<'r>, Misfit>
-    ensures value { option_map owned_line (result_ok result) ≡ forms.sub_of (words_behind rest.entry) }
-    ensures sized { IfOk result LendsSized }
+#[inline(always)]
+fn sub<'r>(rest: Option<&[u8]>, room: &'r mut [u8; MAX_PAYLOAD]) -> Result<LogLine<'r>, Misfit>
+    ensures { result_ok result ≡ forms.sub_of (words_behind rest.entry) }
 {
     let (requester, rest) = requester(rest)?;
     let (number, rest) = request(rest)?;
-    let op = op_behind_lent(rest, room)?;
-    Ok(LineForm::Sub {
+    let op = op_behind(rest, room)?;
+    Ok(LogLine::Record(RecordRef::Sub {
         requester,
         number,
         op,
-    })
+        n: 0,
+    }))
 }
 
 /// What is wrong with a reply, if `done` may stand there too.
@@ -81,64 +69,64 @@ fn of_version_2(misfit: Misfit, text: &[u8]) -> Misfit {
 }
 
 /// That a request was done, or another reply.
-fn done_or<'r>(text: &[u8], room: &'r mut [u8; MAX_PAYLOAD]) -> Result<ReplyForm<'r>, Misfit>
-    ensures value { option_map owned_reply (result_ok result) ≡ forms.done_or_reply (words text.now) }
-    ensures room { IfOk result HasRoom }
+fn done_or<'r>(text: &[u8], room: &'r mut [u8; MAX_PAYLOAD]) -> Result<ReplyRef<'r>, Misfit>
+    ensures { result_ok result ≡ forms.done_or_reply (words text.now) }
 {
     let (kind, rest) = cut(text);
     if kind == b"done".as_slice() {
-        return alone(ReplyForm::Done, rest);
+        return alone(ReplyRef::Done, rest);
     }
-    match read_reply_lent(text, room) {
+    match read_reply(text, room) {
         Ok(reply) => Ok(reply),
         Err(misfit) => Err(of_version_2(misfit, text)),
     }
 }
 
 /// The reply that the rest of a line spells.
+#[inline(always)]
 fn reply<'r>(
     rest: Option<&[u8]>,
     version: Version,
     room: &'r mut [u8; MAX_PAYLOAD],
-) -> Result<ReplyForm<'r>, Misfit>
-    ensures value { option_map owned_reply (result_ok result) ≡ forms.reply_of version (words_behind rest.entry) }
-    ensures room { IfOk result HasRoom }
+) -> Result<ReplyRef<'r>, Misfit>
+    ensures { result_ok result ≡ forms.reply_of version (words_behind rest.entry) }
 {
     match (version, rest) {
         (Version::Two, Some(text)) => done_or(text, room),
         (Version::Two, None) => Err(REPLY.at(rest)),
-        (Version::One, _) => reply_behind_lent(rest, room),
+        (Version::One, _) => reply_behind(rest, room),
     }
 }
 
+#[inline(always)]
 fn ans<'r>(
     rest: Option<&[u8]>,
     version: Version,
     room: &'r mut [u8; MAX_PAYLOAD],
-) -> Result<LineForm<'r>, Misfit>
-    ensures value { option_map owned_line (result_ok result) ≡ forms.ans_of version (words_behind rest.entry) }
-    ensures sized { IfOk result LendsSized }
+) -> Result<LogLine<'r>, Misfit>
+    ensures { result_ok result ≡ forms.ans_of version (words_behind rest.entry) }
 {
     let (requester, rest) = requester(rest)?;
     let (number, rest) = request(rest)?;
     let reply = reply(rest, version, room)?;
-    Ok(LineForm::Ans {
+    Ok(LogLine::Record(RecordRef::Ans {
         requester,
         number,
         reply,
-    })
+        n: 0,
+    }))
 }
 
 /// The line of that kind that the rest of it spells.
+#[inline(always)]
 fn line_by<'r>(
     kind: &[u8],
     rest: Option<&[u8]>,
     text: &[u8],
     version: Version,
     room: &'r mut [u8; MAX_PAYLOAD],
-) -> Result<LineForm<'r>, Misfit>
-    ensures value { option_map owned_line (result_ok result) ≡ forms.line_by version kind.now (words_behind rest.entry) }
-    ensures sized { IfOk result LendsSized }
+) -> Result<LogLine<'r>, Misfit>
+    ensures { result_ok result ≡ forms.line_by version kind.now (words_behind rest.entry) }
 {
     if kind == b"sub".as_slice() {
         sub(rest, room)
@@ -147,37 +135,37 @@ fn line_by<'r>(
     } else if kind == b"memory".as_slice() {
         memory_line(rest)
     } else if kind == b"end".as_slice() {
-        alone(LineForm::End, rest)
+        alone(LogLine::End, rest)
     } else {
         Err(LINE.at(Some(text)))
     }
 }
 
+#[inline(always)]
 fn line_in_words<'r>(
     text: &[u8],
     version: Version,
     room: &'r mut [u8; MAX_PAYLOAD],
-) -> Result<LineForm<'r>, Misfit>
-    ensures value { option_map owned_line (result_ok result) ≡ forms.line_in_words version (words text.now) }
-    ensures sized { IfOk result LendsSized }
+) -> Result<LogLine<'r>, Misfit>
+    ensures { result_ok result ≡ forms.line_in_words version (words text.now) }
 {
     let (kind, rest) = cut(text);
     line_by(kind, rest, text, version, room)
 }
 
 /// The line that the text spells in a log of that version: its bytes are put into the room, whose content doesn't count.
+#[inline(always)]
 pub(crate) fn read_line<'r>(
     text: &[u8],
     version: Version,
     room: &'r mut [u8; MAX_PAYLOAD],
-) -> Result<LineForm<'r>, Misfit>
-    ensures value { option_map owned_line (result_ok result) ≡ forms.line_of version text.now }
-    ensures sized { IfOk result LendsSized }
+) -> Result<LogLine<'r>, Misfit>
+    ensures { result_ok result ≡ forms.line_of version text.now }
 {
     if text == b"pciex-log 1".as_slice() {
-        Ok(LineForm::FirstLine(Version::One))
+        Ok(LogLine::FirstLine(Version::One))
     } else if text == b"pciex-log 2".as_slice() {
-        Ok(LineForm::FirstLine(Version::Two))
+        Ok(LogLine::FirstLine(Version::Two))
     } else {
         line_in_words(text, version, room)
     }

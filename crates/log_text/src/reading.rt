@@ -4,7 +4,7 @@ ghost use Rattle.trace_text.specs.TraceReaderView.{read_of, IsRefused};
 ghost use Rattle.log_text.specs.LogReaderView.{log_of, seen_of, is_head, without_history, Tells, SeenTells};
 
 use crate::form::LogForm;
-use history_check::Trace;
+use history_words::Trace;
 use record_text::{Cause, Misread, ReadFault, ReadFaultKind, read_records};
 use std::alloc::Global;
 use trace_text::read_owned_trace;

@@ -2,7 +2,7 @@
 use arrayvec::ArrayVec;
 use requester_core::{CompletionFault, Requester, SubmitRefusal};
 use seq_memory::Reply;
-use tlp_core::{Op, Tlp, TlpFault, Width, decode, encode};
+use tlp_core::{Op, Tlp, TlpFault, Width, decode, encode, payload_of};
 
 fn fetch_add() -> Op {
     Op::FetchAdd {
@@ -21,13 +21,11 @@ fn unaligned() -> Op {
 }
 
 fn write() -> Op {
-    let mut bytes = ArrayVec::new();
-    let _ = bytes.try_extend_from_slice(&[1, 2, 3, 4]);
     Op::Write {
         address: 0x40,
         first: 15,
         last: 0,
-        bytes,
+        bytes: payload_of(&[1, 2, 3, 4]),
     }
 }
 
@@ -41,7 +39,7 @@ fn is_spelled(packet: &Tlp) -> bool {
 
 /// Whether the first request has the number 0 and its bytes.
 fn is_first(requester: &Requester, op: &Op) -> bool {
-    match requester.prepare(op) {
+    match requester.prepare(&op.lend()) {
         Ok((number, request)) => number == 0 && is_spelled(&request),
         Err(_) => false,
     }
@@ -49,7 +47,7 @@ fn is_first(requester: &Requester, op: &Op) -> bool {
 
 /// Whether no request can ask for this.
 fn refuses(requester: &Requester, op: &Op) -> bool {
-    let refusal = requester.prepare(op).err();
+    let refusal = requester.prepare(&op.lend()).err();
     refusal == Some(SubmitRefusal::Profile(TlpFault::Unaligned))
 }
 
@@ -65,7 +63,7 @@ fn first_request(rt: HostRuntime) {
 
 /// Prepares and opens a request; its number and its tag.
 fn submit(requester: &mut Requester, op: &Op) -> Result<(u32, u8), SubmitRefusal> {
-    let (number, request) = requester.prepare(op)?;
+    let (number, request) = requester.prepare(&op.lend())?;
     requester.opened(&request);
     Ok((number, request.tag))
 }

@@ -1,97 +1,109 @@
 //! Traces and histories that are put in as they are lent.
-ghost use Rattle.tlp_core.specs.Lent.{HasSizes};
-ghost use Rattle.seq_memory.specs.Outcome.{HasRoom};
-
-use history_check::{AsClaim, Flaw, FlawKind, Record, check, check_claim};
-use seq_memory::{Entry, Extent, ReplyData, ReplyForm};
+use history_check::{check, check_claim};
+use history_words::{AsClaim, Flaw, FlawKind, RecordRef};
+use seq_memory::{EntryRef, Extent, ReplyData, ReplyRef};
 use std::alloc::{AllocError, Global};
-use tlp_core::OpForm;
+use tlp_core::{OpRef, PayloadRef, Width};
 use trace_store::TraceStore;
 
 /// How many operations there are.
-const OPS: u8 = 9;
+const OPS: u8 = 11;
 
 /// The answer to the posted write.
 const UNASKED: Flaw = Flaw {
     kind: FlawKind::Unasked,
-    place: 10,
+    place: 12,
 };
 
-/// Operations, no two of them the same. The first seven are served at 40h, the others aren't.
-fn form(which: u8) -> OpForm<'static>
-    ensures { HasSizes result }
-{
+/// Operations, no two of them the same. The first seven are served at 40h, the others aren't. The last two have
+/// operands that are too great for their widths.
+fn op(which: u8) -> OpRef<'static> {
     let address = 0x40;
     match which {
-        0 => OpForm::Read {
+        0 => OpRef::Read {
             address,
             dw: 1,
             first: 15,
             last: 0,
         },
-        1 => OpForm::Write {
+        1 => OpRef::Write {
             address,
             first: 15,
             last: 0,
-            bytes: &[1, 2, 3, 4],
+            bytes: PayloadRef::new(&[1, 2, 3, 4]),
         },
-        2 => OpForm::FetchAdd {
+        2 => OpRef::FetchAdd {
             address,
-            operand: &[1, 0, 0, 0],
+            width: Width::Four,
+            operand: 1,
         },
-        3 => OpForm::FetchAdd {
+        3 => OpRef::FetchAdd {
             address,
-            operand: &[1, 0, 0, 0, 0, 0, 0, 0],
+            width: Width::Eight,
+            operand: 1,
         },
-        4 => OpForm::Swap {
+        4 => OpRef::Swap {
             address,
-            operand: &[1, 0, 0, 0],
+            width: Width::Four,
+            operand: 1,
         },
-        5 => OpForm::Cas {
+        5 => OpRef::Cas {
             address,
-            compare: &[1, 0, 0, 0],
-            swap: &[5, 6, 7, 8],
+            width: Width::Four,
+            compare: 1,
+            swap: 0x08070605,
         },
-        6 => OpForm::Cas {
+        6 => OpRef::Cas {
             address,
-            compare: &[1, 0, 0, 0],
-            swap: &[5, 6, 7, 9],
+            width: Width::Four,
+            compare: 1,
+            swap: 0x09070605,
         },
-        7 => OpForm::Swap {
+        7 => OpRef::Swap {
             address,
-            operand: &[0; 16],
+            width: Width::Sixteen,
+            operand: 0,
         },
-        _ => OpForm::Read {
+        8 => OpRef::Read {
             address: 4096,
             dw: 1,
             first: 15,
             last: 0,
         },
+        9 => OpRef::Swap {
+            address,
+            width: Width::Four,
+            operand: 0x1_0000_0001,
+        },
+        _ => OpRef::Cas {
+            address,
+            width: Width::Eight,
+            compare: 1,
+            swap: 0x1_0000_0000_0000_0001,
+        },
     }
 }
 
 /// What a memory of zeros answers to them, one after the other.
-fn reply(which: u8) -> ReplyForm<'static>
-    ensures { HasRoom result }
-{
+fn reply(which: u8) -> ReplyRef<'static> {
     match which {
-        0 => ReplyForm::Data(&[0, 0, 0, 0]),
-        1 => ReplyForm::Done,
-        2 => ReplyForm::Data(&[1, 2, 3, 4]),
-        3 => ReplyForm::Data(&[2, 2, 3, 4, 0, 0, 0, 0]),
-        4 => ReplyForm::Data(&[3, 2, 3, 4]),
-        5 => ReplyForm::Data(&[1, 0, 0, 0]),
-        6 => ReplyForm::Data(&[5, 6, 7, 8]),
-        7 => ReplyForm::Aborted,
-        _ => ReplyForm::Unsupported,
+        0 => ReplyRef::Data(PayloadRef::new(&[0, 0, 0, 0])),
+        1 => ReplyRef::Done,
+        2 => ReplyRef::Data(PayloadRef::new(&[1, 2, 3, 4])),
+        3 => ReplyRef::Data(PayloadRef::new(&[2, 2, 3, 4, 0, 0, 0, 0])),
+        4 => ReplyRef::Data(PayloadRef::new(&[3, 2, 3, 4])),
+        5 => ReplyRef::Data(PayloadRef::new(&[1, 0, 0, 0])),
+        6 => ReplyRef::Data(PayloadRef::new(&[5, 6, 7, 8])),
+        8 => ReplyRef::Unsupported,
+        _ => ReplyRef::Aborted,
     }
 }
 
 /// Submits them, and puts them into the history.
 fn submit(store: &mut TraceStore) -> Result<(), AllocError> {
     for which in 0..OPS {
-        store.submitted(1, u32::from(which), 0, &form(which))?;
-        store.acted(1, u32::from(which), &form(which))?;
+        store.submitted(1, u32::from(which), 0, &op(which))?;
+        store.acted(1, u32::from(which), &op(which))?;
     }
     Ok(())
 }
@@ -99,39 +111,44 @@ fn submit(store: &mut TraceStore) -> Result<(), AllocError> {
 /// Answers them from one on, of which the second is posted.
 fn answer_from(store: &mut TraceStore, from: u8) -> Result<(), AllocError> {
     for which in from..OPS {
-        store.answered(1, u32::from(which), 9, &reply(which))?;
+        store.answered(1, u32::from(which), 11, &reply(which))?;
     }
     Ok(())
 }
 
 /// Whether the record submits that operation.
-fn is_submission(record: Option<Record>, which: u8) -> bool {
+fn is_submission(record: Option<RecordRef<'_>>, which: u8) -> bool {
     match record {
-        Some(Record::Sub { number, op, .. }) => {
-            number == u32::from(which) && op == form(which).to_owned()
-        }
+        Some(
+            RecordRef::Sub {
+                number,
+                op: got,
+                ..
+            },
+        ) => { number == u32::from(which) && got.to_owned() == op(which).to_owned() }
         _ => false,
     }
 }
 
 /// Whether the record has that answer.
-fn is_answer(record: Option<Record>, which: u8) -> bool {
+fn is_answer(record: Option<RecordRef<'_>>, which: u8) -> bool {
     match record {
         Some(
-            Record::Ans {
+            RecordRef::Ans {
                 number,
                 reply: got,
                 ..
             },
-        ) => number == u32::from(which) && got == reply(which).to_owned(),
+        ) => number == u32::from(which) && got.to_owned() == reply(which).to_owned(),
         _ => false,
     }
 }
 
 /// Whether the entry is that operation.
-fn is_act(entry: Option<Entry>, which: u8) -> bool {
+fn is_act(entry: Option<EntryRef<'_>>, which: u8) -> bool {
     match entry {
-        Some(entry) => entry.number == u32::from(which) && entry.op == form(which).to_owned(),
+        Some(entry) => entry.number == u32::from(which)
+            && entry.op.to_owned() == op(which).to_owned(),
         None => false,
     }
 }
@@ -143,7 +160,7 @@ fn place_behind(which: u8, behind: u8) -> usize {
 
 /// Whether each record and each entry is what was put in.
 fn are_kept(store: &TraceStore) -> bool {
-    let mut right = store.records() == 18 && store.entries() == 9;
+    let mut right = store.records() == 22 && store.entries() == 11;
     for which in 0..OPS {
         right &= is_submission(store.record(usize::from(which)), which);
         right &= is_answer(store.record(place_behind(which, OPS)), which);

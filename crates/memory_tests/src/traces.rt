@@ -1,9 +1,9 @@
 //! Worked traces of one requester, of reads and writes at 40h.
-use arrayvec::ArrayVec;
-use history_check::{Flaw, FlawKind, Record, Trace, check};
+use history_check::check;
+use history_words::{Flaw, FlawKind, Record, Trace};
 use seq_memory::{Entry, Extent, Reply};
 use std::alloc::{AllocError, Global};
-use tlp_core::{MAX_PAYLOAD, Op};
+use tlp_core::{Op, Payload, payload_of};
 
 /// A record, by its request's number and the length of the history.
 #[derive(Clone, Copy)]
@@ -25,10 +25,8 @@ enum Act {
     WideRead(u32),
 }
 
-fn four(byte: u8) -> ArrayVec<u8, MAX_PAYLOAD> {
-    let mut bytes = ArrayVec::new();
-    let _ = bytes.try_extend_from_slice(&[byte; 4]);
-    bytes
+fn four(byte: u8) -> Payload {
+    payload_of(&[byte; 4])
 }
 
 fn read() -> Op {

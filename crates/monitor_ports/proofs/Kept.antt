@@ -4,12 +4,12 @@ use Rattle.std.specs.Prelude.{slice_get, slice_set, replicate, Result, Ok, Err}
 use Rattle.std.specs.List.{list_any}
 use Rattle.std.proofs.lemmas.List.{append-nil, get_or-set_same, get_or-set_other, get_or_past, get_or-replicate, length-replicate, length-append, length-set}
 use Rattle.std.proofs.lemmas.Bool.{cases_eq}
-use Rattle.tlp_core.specs.declared.operation.Op.{Op}
+use Rattle.tlp_core.specs.Ops.{Op}
 use Rattle.tlp_core.specs.Operation.{is_posted}
-use Rattle.seq_memory.specs.declared.Reply.{Reply}
-use Rattle.history_check.specs.declared.Record.{Record}
-use Rattle.history_check.specs.declared.Record.TheVariants as records
-use Rattle.history_check.specs.Trace.{submissions, answers_to}
+use Rattle.seq_memory.specs.Entries.{Reply}
+use Rattle.history_words.specs.Records.{Record}
+use Rattle.history_words.specs.declared.record.RecordOf.TheVariants as records
+use Rattle.history_words.specs.Trace.{submissions, answers_to}
 use Rattle.monitor_ports.specs.declared.watched.OpenRequest.{OpenRequest}
 use Rattle.monitor_ports.specs.declared.watched.Watched.{Watched}
 use Rattle.monitor_ports.specs.Watched.{fresh, open_at, closed}

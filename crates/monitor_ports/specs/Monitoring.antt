@@ -1,15 +1,15 @@
 -- A monitor: what it knows, and what each call records and changes.
 use Rattle.std.specs.Prelude.{ℕ, ⊤, ◌≡◌, ◌+◌, ◌==◌, ◌&&◌, nat_le, Bool, true, false, if◌then◌else◌, List, [], ◌∷◌, ◌++◌, length, replicate, slice_set, slice_get, get_or, remove, position, sum_by, is_some, Option, Some, None, Result, Ok, Err}
-use Rattle.tlp_core.specs.declared.operation.Op.{Op}
+use Rattle.tlp_core.specs.Ops.{Op}
 use Rattle.tlp_core.specs.declared.fault.TlpFault.{TlpFault}
 use Rattle.tlp_core.specs.TlpView.{TlpView}
 use Rattle.tlp_core.specs.Operation.{op_of, is_completion}
 use Rattle.tlp_core.specs.Faults.{reading}
-use Rattle.seq_memory.specs.declared.Entry.{Entry}
-use Rattle.seq_memory.specs.declared.Reply.{Reply}
-use Rattle.history_check.specs.declared.Record.{Record}
-use Rattle.history_check.specs.declared.Record.TheVariants as records
-use Rattle.history_check.specs.Trace.{is_request}
+use Rattle.seq_memory.specs.Entries.{Entry}
+use Rattle.seq_memory.specs.Entries.{Reply}
+use Rattle.history_words.specs.Records.{Record}
+use Rattle.history_words.specs.declared.record.RecordOf.TheVariants as records
+use Rattle.history_words.specs.Trace.{is_request}
 use Rattle.monitor_ports.specs.declared.watched.Watched.{Watched}
 use Rattle.monitor_ports.specs.declared.fault.MonitorFault.{MonitorFault}
 use Rattle.monitor_ports.specs.declared.fault.MonitorFault.TheVariants as faults

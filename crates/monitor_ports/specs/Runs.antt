@@ -1,12 +1,12 @@
 -- Any list of calls on a new monitor: what it records, and the form of the records.
 use Rattle.std.specs.Prelude.{ℕ, ◌≡◌, ◌<◌, Bool, false, List, [], ◌∷◌, ◌++◌, take, slice_get, Some, Result, Ok, Err}
 use Rattle.std.specs.List.{list_any}
-use Rattle.tlp_core.specs.declared.operation.Op.{Op}
+use Rattle.tlp_core.specs.Ops.{Op}
 use Rattle.tlp_core.specs.Operation.{is_posted}
-use Rattle.seq_memory.specs.declared.Reply.{Reply}
-use Rattle.history_check.specs.declared.Record.{Record}
-use Rattle.history_check.specs.declared.Record.TheVariants as records
-use Rattle.history_check.specs.Trace.{IsNumbered, answers_to}
+use Rattle.seq_memory.specs.Entries.{Reply}
+use Rattle.history_words.specs.Records.{Record}
+use Rattle.history_words.specs.declared.record.RecordOf.TheVariants as records
+use Rattle.history_words.specs.Trace.{IsNumbered, answers_to}
 use Rattle.monitor_ports.specs.declared.fault.MonitorFault.{MonitorFault}
 use Rattle.monitor_ports.specs.Monitoring.{Monitor, Outcome, request, completion, given_up, acted}
 

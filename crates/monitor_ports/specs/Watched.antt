@@ -6,8 +6,8 @@ use Rattle.tlp_core.specs.declared.packet.Body.{Body}
 use Rattle.tlp_core.specs.declared.packet.Body.TheVariants as bodies
 use Rattle.tlp_core.specs.declared.packet.Status.TheVariants as statuses
 use Rattle.tlp_core.specs.TlpView.{TlpView}
-use Rattle.seq_memory.specs.declared.Reply.{Reply}
-use Rattle.seq_memory.specs.declared.Reply.TheVariants as replies
+use Rattle.seq_memory.specs.Entries.{Reply}
+use Rattle.seq_memory.specs.declared.reply.ReplyOf.TheVariants as replies
 use Rattle.seq_memory.specs.Step.{read_over}
 use Rattle.requester_core.specs.RequesterView.{size_for}
 use Rattle.monitor_ports.specs.declared.watched.OpenRequest.{OpenRequest}

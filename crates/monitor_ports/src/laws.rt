@@ -1,11 +1,11 @@
 //! Laws over any list of calls on a monitor.
 ghost use Rattle.std.specs.Prelude.{◌≡◌, Bool, ℕ, List, Ok, Some};
-ghost use Rattle.tlp_core.specs.declared.operation.Op as operations;
+ghost use Rattle.tlp_core.specs.Ops as operations;
 ghost use Rattle.tlp_core.specs.Operation.{op_of};
 ghost use Rattle.tlp_core.specs.TlpView.{TlpView};
 ghost use Rattle.tlp_core.specs.Faults.{reading};
-ghost use Rattle.history_check.specs.declared.Record as recorded_things;
-ghost use Rattle.history_check.specs.declared.Record.TheVariants as records;
+ghost use Rattle.history_words.specs.Records as recorded_things;
+ghost use Rattle.history_words.specs.declared.record.RecordOf.TheVariants as records;
 ghost use Rattle.monitor_ports.specs.Monitoring.{Monitor, new, request, watched};
 ghost use Rattle.monitor_ports.specs.Runs.{Call, recorded, IsWellFormed};
 

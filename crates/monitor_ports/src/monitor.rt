@@ -1,6 +1,6 @@
 //! The monitor.
 ghost use Rattle.std.specs.Prelude.{◌≡◌, ◌<◌, ◌≤◌, ◌∷◌, ◌++◌, [], true, length, replicate, position, Some, Err, IfOk, OnOk, IfErr, OnErr, IsOk};
-ghost use Rattle.history_check.specs.Trace.{is_request};
+ghost use Rattle.history_words.specs.Trace.{is_request};
 ghost use Rattle.monitor_ports.specs.declared.fault.MonitorFault.TheVariants as faults;
 ghost use Rattle.monitor_ports.specs.Watched.{fresh};
 ghost use Rattle.monitor_ports.specs.Monitoring as spec;
@@ -8,7 +8,7 @@ ghost use Rattle.monitor_ports.specs.Monitoring as spec;
 use crate::fault::MonitorFault;
 use crate::reading::{is_requester, packet_from};
 use crate::watched::Watched;
-use history_check::Record;
+use history_words::Record;
 use seq_memory::Entry;
 use std::alloc::{AllocError, Global};
 use std::marker::Model;
@@ -115,7 +115,8 @@ impl Monitor {
         ensures answer { IfOk result (λ r. (spec.opening self.old requester request.now op.now).answer ≡ Ok r) }
         ensures state { OnOk result (self.new ≡ (spec.opening self.old requester request.now op.now).monitor) }
         ensures fault { IfErr result (λ f. ¬ (f ≡ faults.Memory) → (spec.opening self.old requester request.now op.now).answer ≡ Err f) }
-        ensures no_memory { IfErr result (λ f. f ≡ faults.Memory → (self.old.is_trace ≡ true) × IsOk (spec.opening self.old requester request.now op.now).answer) }
+        ensures no_memory { IfErr result (λ f. f ≡ faults.Memory →
+            (self.old.is_trace ≡ true) × IsOk (spec.opening self.old requester request.now op.now).answer) }
         ensures unchanged { OnErr result (self.new ≡ self.old) }
     {
         let watched = &self.requesters[usize::from(requester)];

@@ -4,10 +4,9 @@ ghost use Rattle.requester_core.specs.RequesterView as requesting;
 ghost use Rattle.monitor_ports.specs.Watched as spec;
 
 use crate::fault::MonitorFault;
-use arrayvec::ArrayVec;
 use requester_core::NUMBERS;
 use seq_memory::{Reply, enabled_bytes};
-use tlp_core::{Body, Kind, MAX_PAYLOAD, Status, TlpRef};
+use tlp_core::{Body, Kind, Payload, Status, TlpRef, payload_of};
 
 /// The number of tags of 8 bits.
 const TAGS: usize = 256;
@@ -55,18 +54,8 @@ fn enables_of(packet: &TlpRef<'_>) -> Option<(u8, u8)>
     }
 }
 
-/// The bytes as data.
-fn copy_of(bytes: &[u8]) -> ArrayVec<u8, MAX_PAYLOAD>
-    requires { length bytes.now ≤ 128 }
-    ensures { result.items ≡ bytes.now }
-{
-    let mut copy = ArrayVec::new();
-    let _ = copy.try_extend_from_slice(bytes);
-    copy
-}
-
 /// The data as the requester sees it.
-fn seen(enables: Option<(u8, u8)>, bytes: &[u8]) -> ArrayVec<u8, MAX_PAYLOAD>
+fn seen(enables: Option<(u8, u8)>, bytes: &[u8]) -> Payload
     requires some { 4 ≤ length bytes.now }
     requires few { length bytes.now ≤ 128 }
     requires whole { length bytes.now % 4 ≡ 0 }
@@ -74,7 +63,7 @@ fn seen(enables: Option<(u8, u8)>, bytes: &[u8]) -> ArrayVec<u8, MAX_PAYLOAD>
 {
     match enables {
         Some((first, last)) => enabled_bytes(bytes, first, last),
-        None => copy_of(bytes),
+        None => payload_of(bytes),
     }
 }
 

@@ -6,7 +6,7 @@ ghost use Rattle.trace_text.specs.Texts.{entry_line};
 ghost use Rattle.monitor_ports.specs.Texts.{record_line, moment_text};
 
 use arrayvec::ArrayString;
-use history_check::Record;
+use history_words::Record;
 use operation_text::{write_decimal, write_op, write_reply};
 use seq_memory::Entry;
 
@@ -52,7 +52,7 @@ pub fn write_record(is_trace: bool, seen: &Record, line: &mut ArrayString<512>)
         } => {
             put_request("sub ", *requester, *number, line);
             put_moment(is_trace, *n, line);
-            write_op(op, line);
+            write_op(&op.lend(), line);
         }
         Record::Ans {
             requester,
@@ -62,7 +62,7 @@ pub fn write_record(is_trace: bool, seen: &Record, line: &mut ArrayString<512>)
         } => {
             put_request("ans ", *requester, *number, line);
             put_moment(is_trace, *n, line);
-            write_reply(reply, line);
+            write_reply(&reply.lend(), line);
         }
     }
 }
@@ -74,5 +74,5 @@ pub fn write_entry(entry: &Entry, line: &mut ArrayString<512>)
     ensures len { array_string_len line.new ≤ 400 }
 {
     put_request("ent ", entry.requester, entry.number, line);
-    write_op(&entry.op, line);
+    write_op(&entry.op.lend(), line);
 }

@@ -8,13 +8,13 @@ use Rattle.std.proofs.lemmas.Option.{same_Some}
 use Rattle.std.proofs.Math.Seq.{take-append-add}
 use Rattle.std.proofs.lemmas.List.{take_at, drop_at, take-append-drop, drop-drop, length-replicate, replicate-append-replicate, length-take-le}
 use Rattle.arrayvec.specs.ArrayVec.{ArrayVec}
-use Rattle.tlp_core.specs.declared.operation.Op.{Op}
-use Rattle.tlp_core.specs.declared.operation.Op.TheVariants as ops
+use Rattle.tlp_core.specs.Ops.{Op}
+use Rattle.tlp_core.specs.declared.operation.OpOf.TheVariants as ops
 use Rattle.tlp_core.specs.declared.fault.TlpFault.TheVariants as faults
 use Rattle.tlp_core.specs.Enables.{enables}
 use Rattle.tlp_core.specs.Operation.{is_posted, address_of, count_of, op_fault, wrong_length, wrong_enables, wrong_operand, wrong_address}
 use Rattle.seq_memory.specs.declared.Refusal.TheVariants as refusals
-use Rattle.seq_memory.specs.declared.Reply.{Reply}
+use Rattle.seq_memory.specs.Entries.{Reply}
 use Rattle.seq_memory.specs.Limits.{Extent}
 use Rattle.seq_memory.specs.Step.{refusal, is_in_block, is_inside, merged, bytes_at, patched, place_after, read_back, data_of, after, answer, after_by, answer_by}
 use Rattle.op_pieces.specs.Pieces.{inner, rest_first, rest_last, front, back, dw_of, dw_to, cut, is_served, left_by, front_of, back_of, parts}

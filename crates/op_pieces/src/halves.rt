@@ -1,19 +1,17 @@
 //! Two parts of a read or a write: its first DW, and the others.
 ghost use Rattle.std.specs.Prelude.{◌≡◌, ◌+◌, ◌*◌, ◌<◌, ◌≤◌, ◌^◌};
-ghost use Rattle.tlp_core.specs.Lent.{owned, HasSizes};
 ghost use Rattle.tlp_core.specs.Operation.{address_of, count_of};
 ghost use Rattle.op_pieces.specs.Pieces as spec;
 
-use tlp_core::OpForm;
+use tlp_core::{OpRef, PayloadRef};
 
 /// How many DW a read or a write has; none of an AtomicOp.
-pub fn dw_of(form: &OpForm<'_>) -> u16
-    requires { HasSizes form.now }
-    ensures { result ≡ spec.dw_of (owned form.now) }
+pub fn dw_of(op: &OpRef<'_>) -> u16
+    ensures { result ≡ spec.dw_of op.now }
 {
-    match form {
-        OpForm::Read { dw, .. } => *dw,
-        OpForm::Write { bytes, .. } => (bytes.len() / 4) as u16,
+    match op {
+        OpRef::Read { dw, .. } => *dw,
+        OpRef::Write { bytes, .. } => (bytes.as_slice().len() / 4) as u16,
         _ => 0,
     }
 }
@@ -47,73 +45,72 @@ fn rest_last(dw: u16, last: u8) -> u8
     if dw == 1 { 0 } else { last }
 }
 
-/// The first so many DW. The bytes of a write are borrowed.
-pub fn front<'a>(dw: u16, form: &OpForm<'a>) -> OpForm<'a>
-    requires sizes { HasSizes form.now }
-    requires fewer { dw < spec.dw_of (owned form.now) }
-    ensures value { owned result ≡ spec.front dw (owned form.now) }
-    ensures sizes { HasSizes result }
+/// The first so many DW. The bytes of a write are lent.
+pub fn front<'a>(dw: u16, op: &OpRef<'a>) -> OpRef<'a>
+    requires { dw < spec.dw_of op.now }
+    ensures { result ≡ spec.front dw op.now }
 {
-    match *form {
-        OpForm::Read { address, first, .. } => OpForm::Read {
-            address,
+    match op {
+        OpRef::Read { address, first, .. } => OpRef::Read {
+            address: *address,
             dw,
-            first,
+            first: *first,
             last: inner(dw),
         },
-        OpForm::Write {
+        OpRef::Write {
             address,
             first,
             bytes,
             ..
-        } => OpForm::Write {
-            address,
-            first,
+        } => OpRef::Write {
+            address: *address,
+            first: *first,
             last: inner(dw),
-            bytes: &bytes[..4 * usize::from(dw)],
+            bytes: PayloadRef::new(&bytes.as_slice()[..4 * usize::from(dw)]),
         },
-        other => other,
+        // an AtomicOp has no DW
+        _ => unreachable!(),
     }
 }
 
-/// All but the first so many DW. The bytes of a write are borrowed.
-pub fn back<'a>(dw: u16, form: &OpForm<'a>) -> OpForm<'a>
-    requires sizes { HasSizes form.now }
-    requires fewer { dw < spec.dw_of (owned form.now) }
-    requires fits { address_of (owned form.now) + count_of (owned form.now) ≤ 2 ^ 64 }
-    ensures value { owned result ≡ spec.back dw (owned form.now) }
-    ensures sizes { HasSizes result }
-    ensures same_end { address_of (owned result) + count_of (owned result) ≡ address_of (owned form.now) + count_of (owned form.now) }
+/// All but the first so many DW. The bytes of a write are lent.
+pub fn back<'a>(dw: u16, op: &OpRef<'a>) -> OpRef<'a>
+    requires fewer { dw < spec.dw_of op.now }
+    requires fits { address_of op.now + count_of op.now ≤ 2 ^ 64 }
+    ensures value { result ≡ spec.back dw op.now }
+    ensures same_end { address_of result + count_of result ≡ address_of op.now + count_of op.now }
 {
-    match *form {
-        OpForm::Read {
+    match op {
+        OpRef::Read {
             address,
             dw: all,
             last,
             ..
         } => {
-            let rest = all - dw;
-            OpForm::Read {
-                address: address + 4 * u64::from(dw),
+            let rest = *all - dw;
+            OpRef::Read {
+                address: *address + 4 * u64::from(dw),
                 dw: rest,
-                first: rest_first(rest, last),
-                last: rest_last(rest, last),
+                first: rest_first(rest, *last),
+                last: rest_last(rest, *last),
             }
         }
-        OpForm::Write {
+        OpRef::Write {
             address,
             last,
             bytes,
             ..
         } => {
-            let rest = (bytes.len() / 4) as u16 - dw;
-            OpForm::Write {
-                address: address + 4 * u64::from(dw),
-                first: rest_first(rest, last),
-                last: rest_last(rest, last),
-                bytes: &bytes[4 * usize::from(dw)..],
+            let behind = &bytes.as_slice()[4 * usize::from(dw)..];
+            let rest = (behind.len() / 4) as u16;
+            OpRef::Write {
+                address: *address + 4 * u64::from(dw),
+                first: rest_first(rest, *last),
+                last: rest_last(rest, *last),
+                bytes: PayloadRef::new(behind),
             }
         }
-        other => other,
+        // an AtomicOp has no DW
+        _ => unreachable!(),
     }
 }

@@ -1,9 +1,10 @@
 //! Laws of pieces: together they are the request.
 ghost use Rattle.std.specs.Prelude.{ℕ, ◌≡◌, ◌+◌, ◌≤◌, List, None, Some, [], ◌∷◌, length, fold, map, take, drop, slice_get, true, false, is_none};
 ghost use Rattle.std.specs.List.{list_all};
-ghost use Rattle.tlp_core.specs.declared.operation.Op.{Op};
+ghost use Rattle.tlp_core.specs.Ops.{Op};
+ghost use Rattle.tlp_core.specs.declared.operation.OpOf.TheVariants as ops;
 ghost use Rattle.tlp_core.specs.Operation.{address_of, count_of, is_posted, op_fault};
-ghost use Rattle.seq_memory.specs.declared.Reply.{Reply};
+ghost use Rattle.seq_memory.specs.Entries.{Reply};
 ghost use Rattle.seq_memory.specs.Limits.{Extent};
 ghost use Rattle.seq_memory.specs.Step.{after, answer};
 ghost use Rattle.op_pieces.specs.Pieces.{dw_of, cut, parts, is_served, left_by, AreAdjacent, all_enables, enables_of, all_bytes, bytes_of, is_in_one_block, begins_a_block, is_faultless, returned};
@@ -14,11 +15,13 @@ use seq_memory::laws::{only_the_place_changes, refused_and_read_change_nothing};
 /// answered its reply in parts. They are posted if it is; if it isn't, none changes a byte before the last has acted.
 pub fn pieces_act_as_their_request()
     ensures posted { (b : ℕ) (op piece : Op) (j : ℕ) → slice_get (cut b (dw_of op) op) j ≡ Some piece → is_posted piece ≡ is_posted op }
-    ensures acts { (x : Extent) (b : ℕ) (m : List ℕ) (op : Op) → length m ≡ x.size → is_served x op ≡ true → list_all (is_served x) (cut b (dw_of op) op) ≡ true →
+    ensures acts { (x : Extent) (b : ℕ) (m : List ℕ) (op : Op) → length m ≡ x.size → is_served x op ≡ true →
+        list_all (is_served x) (cut b (dw_of op) op) ≡ true →
         fold (left_by x) m (cut b (dw_of op) op) ≡ left_by x m op }
     ensures still { (x : Extent) (b : ℕ) (m : List ℕ) (op piece : Op) (j : ℕ) → is_posted op ≡ false → slice_get (cut b (dw_of op) op) j ≡ Some piece →
         fold (left_by x) m (take j (cut b (dw_of op) op)) ≡ m }
-    ensures replied { (x : Extent) (b : ℕ) (m : List ℕ) (op piece : Op) (j : ℕ) (part : Reply) → length m ≡ x.size → is_served x op ≡ true → list_all (is_served x) (cut b (dw_of op) op) ≡ true → is_posted op ≡ false →
+    ensures replied { (x : Extent) (b : ℕ) (m : List ℕ) (op piece : Op) (j : ℕ) (part : Reply) → length m ≡ x.size → is_served x op ≡ true →
+        list_all (is_served x) (cut b (dw_of op) op) ≡ true → is_posted op ≡ false →
         slice_get (cut b (dw_of op) op) j ≡ Some piece → slice_get (parts (cut b (dw_of op) op) (answer x.base x.block m op)) j ≡ Some part → answer x.base x.block m piece ≡ part }
 {
     only_the_place_changes();
@@ -42,7 +45,8 @@ pub fn blocks_are_the_request()
 /// a read's pieces in turn, if nothing acts between, are the data of the read.
 #[tactic(auto, using(crate::proofs::Blocks::served_blocks, crate::proofs::Blocks::read_blocks))]
 pub fn a_read_of_blocks_is_a_read()
-    ensures served { (x : Extent) (op : Op) → is_served x op ≡ true → list_all (is_served (record { base = x.base; size = x.size; block = 128 })) (cut 128 (dw_of op) op) ≡ true }
-    ensures whole { (x : Extent) (m : List ℕ) (a dw f l : ℕ) → length m ≡ x.size → is_served x (Op.Read a dw f l) ≡ true →
-        returned (map (answer x.base 128 m) (cut 128 dw (Op.Read a dw f l))) ≡ returned (answer x.base x.block m (Op.Read a dw f l) ∷ []) }
+    ensures served { (x : Extent) (op : Op) → is_served x op ≡ true →
+        list_all (is_served (record { base = x.base; size = x.size; block = 128 })) (cut 128 (dw_of op) op) ≡ true }
+    ensures whole { (x : Extent) (m : List ℕ) (a dw f l : ℕ) → length m ≡ x.size → is_served x (ops.Read a dw f l) ≡ true →
+        returned (map (answer x.base 128 m) (cut 128 dw (ops.Read a dw f l))) ≡ returned (answer x.base x.block m (ops.Read a dw f l) ∷ []) }
 {}

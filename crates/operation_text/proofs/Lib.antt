@@ -3,5 +3,4 @@ mod DigitLemmas
 mod OnePassLemmas
 mod FewBytesLemmas
 mod ReadBackLemmas
-mod NumberLemmas
 mod OpLemmas

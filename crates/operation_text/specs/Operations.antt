@@ -1,11 +1,11 @@
 -- The text of operations and replies.
 use Rattle.std.specs.Prelude.{ℕ, ◌≡◌, ◌==◌, if◌then◌else◌, List, [], ◌∷◌, Option, Some, None, codes, bytes_eq}
-use Rattle.tlp_core.specs.declared.operation.Op.{Op}
-use Rattle.tlp_core.specs.declared.operation.Op.TheVariants as ops
+use Rattle.tlp_core.specs.Ops.{Op}
+use Rattle.tlp_core.specs.declared.operation.OpOf.TheVariants as ops
 use Rattle.tlp_core.specs.declared.operation.Width.{Width}
 use Rattle.tlp_core.specs.Operation.{size_of}
-use Rattle.seq_memory.specs.declared.Reply.{Reply}
-use Rattle.seq_memory.specs.declared.Reply.TheVariants as replies
+use Rattle.seq_memory.specs.Entries.{Reply}
+use Rattle.seq_memory.specs.declared.reply.ReplyOf.TheVariants as replies
 use Rattle.operation_text.specs.Words.{then_with, field, ended}
 use Rattle.operation_text.specs.Numbers.{numeral, byte_string, operand_of}
 

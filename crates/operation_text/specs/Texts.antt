@@ -4,12 +4,12 @@ use Rattle.std.specs.List.{join_with_byte}
 use Rattle.std.specs.Fmt.{digits, decimal, digit_glyph}
 use Rattle.byteorder.specs.Endian.{little_bytes}
 use Rattle.hex.specs.Hex.{encode_upper}
-use Rattle.tlp_core.specs.declared.operation.Op.{Op}
-use Rattle.tlp_core.specs.declared.operation.Op.TheVariants as ops
+use Rattle.tlp_core.specs.Ops.{Op}
+use Rattle.tlp_core.specs.declared.operation.OpOf.TheVariants as ops
 use Rattle.tlp_core.specs.declared.operation.Width.{Width}
 use Rattle.tlp_core.specs.Operation.{size_of}
-use Rattle.seq_memory.specs.declared.Reply.{Reply}
-use Rattle.seq_memory.specs.declared.Reply.TheVariants as replies
+use Rattle.seq_memory.specs.Entries.{Reply}
+use Rattle.seq_memory.specs.declared.reply.ReplyOf.TheVariants as replies
 
 -- in capitals, without leading zeros
 abbrev pub hexadecimal : ℕ → List ℕ

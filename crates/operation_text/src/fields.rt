@@ -4,15 +4,13 @@ ghost use Rattle.std.specs.Result.{result_ok};
 ghost use Rattle.std.specs.Char.{digit_value};
 ghost use Rattle.operation_text.specs.Words.{words, words_behind, first_field, has_ended, ended};
 ghost use Rattle.operation_text.specs.Numbers.{numeral, numeral_after, byte_string};
-ghost use Rattle.tlp_core.specs.Operation.{width_of};
-ghost use Rattle.tlp_core.specs.Lent.{number_of, IsOperand};
 ghost use Rattle.operation_text.specs.Operations as spelled;
 
 use crate::digits::quick_number;
 use crate::misfit::{Expected, LINE_END, Misfit};
 use arrayvec::ArrayVec;
 use hex_text::read_digits;
-use tlp_core::MAX_PAYLOAD;
+use tlp_core::{MAX_PAYLOAD, Width, operand_of};
 
 /// The first word of a line, and what is behind the space that ends it, none where the line ends with
 /// the word.
@@ -103,7 +101,7 @@ fn number_in(word: &[u8], radix: u32, most: u64) -> Option<u64>
 
 /// The bytes that the word spells, put to the front of the room: 1 to 128 bytes.
 #[inline(always)]
-fn bytes_lent<'r>(word: &[u8], room: &'r mut [u8; MAX_PAYLOAD]) -> Option<&'r [u8]>
+fn bytes_into<'r>(word: &[u8], room: &'r mut [u8; MAX_PAYLOAD]) -> Option<&'r [u8]>
     ensures value { option_map (λ b. b.now) result ≡ byte_string word.now }
     ensures few { IfSome result (λ b. length b.now ≤ 128) }
 {
@@ -122,24 +120,23 @@ pub fn bytes_in(word: &[u8]) -> Option<ArrayVec<u8, MAX_PAYLOAD>>
     ensures { option_map (λ b. b.items) result ≡ byte_string word.now }
 {
     let mut room = [0u8; MAX_PAYLOAD];
-    ArrayVec::try_from(bytes_lent(word, &mut room)?).ok()
+    ArrayVec::try_from(bytes_into(word, &mut room)?).ok()
 }
 
-/// The operand's bytes that the word spells, put to the front of the room: 4, 8 or 16 bytes.
+/// The operand that the word spells, of 4, 8 or 16 bytes.
 #[inline(always)]
-fn operand_lent<'r>(word: &[u8], room: &'r mut [u8]) -> Option<&'r [u8]>
-    requires { 16 ≤ length room.old }
-    ensures value { option_map (λ b. (width_of (length b.now), number_of b.now)) result ≡ spelled.operand word.now }
-    ensures size { IfSome result (λ b. IsOperand b.now) }
+fn operand_in(word: &[u8]) -> Option<(Width, u128)>
+    ensures { result ≡ spelled.operand word.now }
 {
     if word.len() != 8 && word.len() != 16 && word.len() != 32 {
         return None;
     }
+    let mut room = [0u8; 16];
     let bytes = &mut room[..word.len() / 2];
     if !read_digits(word, bytes) {
         return None;
     }
-    Some(bytes)
+    Some(operand_of(bytes))
 }
 
 /// The next word, and what is behind it. `rest` is what [`cut`] left.
@@ -211,27 +208,35 @@ pub(crate) fn bytes<'l, 'r>(
         }
     }
     let (word, behind) = word(rest, expected)?;
-    let bytes = bytes_lent(word, room).ok_or(expected.at(rest))?;
+    let bytes = bytes_into(word, room).ok_or(expected.at(rest))?;
     Ok((bytes, behind))
 }
 
-/// The bytes of the operand that the next word spells, put to the front of the room, and what is behind it.
+/// The operand whose four bytes are a first word of eight digits, as most operands are, and what is behind it. Of other
+/// words it says nothing.
 #[inline(always)]
-pub(crate) fn operand<'l, 'r>(
-    rest: Option<&'l [u8]>,
+fn few_operand(line: &[u8]) -> Option<((Width, u128), Option<&[u8]>)>
+    ensures { IfSome result (λ s. first_field spelled.operand (words line.now) ≡ Some (s.0, words_behind s.1)) }
+{
+    let mut room = [0u8; 4];
+    let (_, behind) = few_bytes(line, &mut room)?;
+    Some((operand_of(&room), behind))
+}
+
+/// The operand that the next word spells, and what is behind it.
+#[inline(always)]
+pub(crate) fn operand(
+    rest: Option<&[u8]>,
     expected: Expected,
-    room: &'r mut [u8],
-) -> Result<(&'r [u8], Option<&'l [u8]>), Misfit>
-    requires { 16 ≤ length room.old }
-    ensures field { first_field spelled.operand (words_behind rest.entry) ≡ option_map (λ s. ((width_of (length s.0.now), number_of s.0.now), words_behind s.1)) (result_ok result) }
-    ensures size { IfOk result (λ s. IsOperand s.0.now) }
+) -> Result<((Width, u128), Option<&[u8]>), Misfit>
+    ensures { first_field spelled.operand (words_behind rest.entry) ≡ option_map (λ s. (s.0, words_behind s.1)) (result_ok result) }
 {
     if let Some(line) = rest {
-        if let Some((count, behind)) = few_bytes(line, room) {
-            return Ok((&room[..count], behind));
+        if let Some(few) = few_operand(line) {
+            return Ok(few);
         }
     }
     let (word, behind) = word(rest, expected)?;
-    let bytes = operand_lent(word, room).ok_or(expected.at(rest))?;
-    Ok((bytes, behind))
+    let operand = operand_in(word).ok_or(expected.at(rest))?;
+    Ok((operand, behind))
 }

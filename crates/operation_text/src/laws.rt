@@ -1,8 +1,8 @@
 //! Laws of the texts: what holds of the definitions that the contracts cite.
 ghost use Rattle.std.specs.Prelude.{◌≡◌, ◌≤◌, ◌<◌, ◌^◌, List, ℕ, [], ◌∷◌, ◌++◌, Some, length};
 ghost use Rattle.std.specs.Fmt.{decimal};
-ghost use Rattle.tlp_core.specs.declared.operation.Op.{Op};
-ghost use Rattle.seq_memory.specs.declared.Reply.{Reply};
+ghost use Rattle.tlp_core.specs.Ops.{Op};
+ghost use Rattle.seq_memory.specs.Entries.{Reply};
 ghost use Rattle.operation_text.specs.Words.{words};
 ghost use Rattle.operation_text.specs.Numbers.{numeral};
 ghost use Rattle.operation_text.specs.Operations.{op_spelled, reply_spelled};

@@ -26,9 +26,9 @@ mod writing;
 pub use fields::{alone, bytes_in, cut, is_ended, next_word, number, word};
 pub use laws::{own_digits_spell_number, own_text_spells_operation, own_text_spells_reply};
 pub use misfit::{BASE, BLOCK, BYTES, Expected, LINE_END, Misfit, SIZE};
-pub use operations::{OPERATION, op_behind, op_behind_lent, read_op, read_op_lent};
-pub use replies::{read_reply, read_reply_lent, reply_behind, reply_behind_lent};
+pub use operations::{OPERATION, op_behind, read_op};
+pub use replies::{read_reply, reply_behind};
 pub use writing::{
-    write_bytes, write_decimal, write_hexadecimal, write_octet, write_op, write_op_lent,
-    write_reply, write_reply_lent, write_sequence,
+    write_bytes, write_decimal, write_hexadecimal, write_octet, write_op, write_reply,
+    write_sequence,
 };

@@ -1,13 +1,12 @@
 //! The text of operations.
-ghost use Rattle.std.specs.Prelude.{◌≡◌, IfOk, option_map};
+ghost use Rattle.std.specs.Prelude.{◌≡◌, option_map};
 ghost use Rattle.std.specs.Result.{result_ok};
-ghost use Rattle.tlp_core.specs.Lent.{owned, HasSizes};
 ghost use Rattle.operation_text.specs.Words.{words, words_behind, first_field};
 ghost use Rattle.operation_text.specs.Operations as spelled;
 
 use crate::fields::{alone, bytes, cut, number, operand};
 use crate::misfit::{BYTES, Expected, Misfit};
-use tlp_core::{MAX_PAYLOAD, Op, OpForm};
+use tlp_core::{MAX_PAYLOAD, OpRef, PayloadRef};
 
 /// An operation, by its first word.
 pub const OPERATION: Expected = Expected::Of("an operation", "read, write, add, swap, cas");
@@ -55,15 +54,14 @@ fn enables(rest: Option<&[u8]>, expected: Expected) -> Result<(u8, Option<&[u8]>
 }
 
 #[inline(always)]
-fn read<'r>(rest: Option<&[u8]>) -> Result<OpForm<'r>, Misfit>
-    ensures value { option_map owned (result_ok result) ≡ spelled.read_of (words_behind rest.entry) }
-    ensures sizes { IfOk result HasSizes }
+fn read<'r>(rest: Option<&[u8]>) -> Result<OpRef<'r>, Misfit>
+    ensures { result_ok result ≡ spelled.read_of (words_behind rest.entry) }
 {
     let (address, rest) = address(rest)?;
     let (dw, rest) = count(rest)?;
     let (first, rest) = enables(rest, FIRST)?;
     let (last, rest) = enables(rest, LAST)?;
-    let op = OpForm::Read {
+    let op = OpRef::Read {
         address,
         dw,
         first,
@@ -73,63 +71,67 @@ fn read<'r>(rest: Option<&[u8]>) -> Result<OpForm<'r>, Misfit>
 }
 
 #[inline(always)]
-fn write<'r>(rest: Option<&[u8]>, room: &'r mut [u8; MAX_PAYLOAD]) -> Result<OpForm<'r>, Misfit>
-    ensures value { option_map owned (result_ok result) ≡ spelled.write_of (words_behind rest.entry) }
-    ensures sizes { IfOk result HasSizes }
+fn write<'r>(rest: Option<&[u8]>, room: &'r mut [u8; MAX_PAYLOAD]) -> Result<OpRef<'r>, Misfit>
+    ensures { result_ok result ≡ spelled.write_of (words_behind rest.entry) }
 {
     let (address, rest) = address(rest)?;
     let (first, rest) = enables(rest, FIRST)?;
     let (last, rest) = enables(rest, LAST)?;
     let (bytes, rest) = bytes(rest, BYTES, room)?;
-    let op = OpForm::Write {
+    let op = OpRef::Write {
         address,
         first,
         last,
-        bytes,
+        bytes: PayloadRef::new(bytes),
     };
     alone(op, rest)
 }
 
 #[inline(always)]
-fn add<'r>(rest: Option<&[u8]>, room: &'r mut [u8; MAX_PAYLOAD]) -> Result<OpForm<'r>, Misfit>
-    ensures value { option_map owned (result_ok result) ≡ spelled.add_of (words_behind rest.entry) }
-    ensures sizes { IfOk result HasSizes }
+fn add<'r>(rest: Option<&[u8]>) -> Result<OpRef<'r>, Misfit>
+    ensures { result_ok result ≡ spelled.add_of (words_behind rest.entry) }
 {
     let (address, rest) = address(rest)?;
-    let (operand, rest) = operand(rest, OPERAND, room)?;
-    let op = OpForm::FetchAdd { address, operand };
+    let ((width, operand), rest) = operand(rest, OPERAND)?;
+    let op = OpRef::FetchAdd {
+        address,
+        width,
+        operand,
+    };
     alone(op, rest)
 }
 
 #[inline(always)]
-fn swap<'r>(rest: Option<&[u8]>, room: &'r mut [u8; MAX_PAYLOAD]) -> Result<OpForm<'r>, Misfit>
-    ensures value { option_map owned (result_ok result) ≡ spelled.swap_of (words_behind rest.entry) }
-    ensures sizes { IfOk result HasSizes }
+fn swap<'r>(rest: Option<&[u8]>) -> Result<OpRef<'r>, Misfit>
+    ensures { result_ok result ≡ spelled.swap_of (words_behind rest.entry) }
 {
     let (address, rest) = address(rest)?;
-    let (operand, rest) = operand(rest, OPERAND, room)?;
-    let op = OpForm::Swap { address, operand };
+    let ((width, operand), rest) = operand(rest, OPERAND)?;
+    let op = OpRef::Swap {
+        address,
+        width,
+        operand,
+    };
     alone(op, rest)
 }
 
 #[inline(always)]
-fn cas<'r>(rest: Option<&[u8]>, room: &'r mut [u8; MAX_PAYLOAD]) -> Result<OpForm<'r>, Misfit>
-    ensures value { option_map owned (result_ok result) ≡ spelled.cas_of (words_behind rest.entry) }
-    ensures sizes { IfOk result HasSizes }
+fn cas<'r>(rest: Option<&[u8]>) -> Result<OpRef<'r>, Misfit>
+    ensures { result_ok result ≡ spelled.cas_of (words_behind rest.entry) }
 {
-    let (front, back) = room.split_at_mut(16);
     let (address, rest) = address(rest)?;
-    let (compare, rest) = operand(rest, OPERAND, front)?;
-    let (swap, behind) = operand(rest, SWAP_OPERAND, back)?;
-    if compare.len() != swap.len() {
+    let ((width, compare), rest) = operand(rest, OPERAND)?;
+    let ((other, swap), behind) = operand(rest, SWAP_OPERAND)?;
+    if width.size() != other.size() {
         return Err(SWAP_OPERAND.at(rest));
     }
-    let cas = OpForm::Cas {
+    let op = OpRef::Cas {
         address,
+        width,
         compare,
         swap,
     };
-    alone(cas, behind)
+    alone(op, behind)
 }
 
 /// The operation of that kind that the rest of a line spells.
@@ -139,20 +141,19 @@ fn op_by<'r>(
     rest: Option<&[u8]>,
     text: &[u8],
     room: &'r mut [u8; MAX_PAYLOAD],
-) -> Result<OpForm<'r>, Misfit>
-    ensures value { option_map owned (result_ok result) ≡ spelled.op_by kind.now (words_behind rest.entry) }
-    ensures sizes { IfOk result HasSizes }
+) -> Result<OpRef<'r>, Misfit>
+    ensures { result_ok result ≡ spelled.op_by kind.now (words_behind rest.entry) }
 {
     if kind == b"read".as_slice() {
         read(rest)
     } else if kind == b"write".as_slice() {
         write(rest, room)
     } else if kind == b"add".as_slice() {
-        add(rest, room)
+        add(rest)
     } else if kind == b"swap".as_slice() {
-        swap(rest, room)
+        swap(rest)
     } else if kind == b"cas".as_slice() {
-        cas(rest, room)
+        cas(rest)
     } else {
         Err(OPERATION.at(Some(text)))
     }
@@ -160,59 +161,39 @@ fn op_by<'r>(
 
 /// The operation that the text spells, whatever its first word is.
 #[inline(never)]
-fn any_op<'r>(text: &[u8], room: &'r mut [u8; MAX_PAYLOAD]) -> Result<OpForm<'r>, Misfit>
-    ensures value { option_map owned (result_ok result) ≡ spelled.op_spelled (words text.now) }
-    ensures sizes { IfOk result HasSizes }
+fn any_op<'r>(text: &[u8], room: &'r mut [u8; MAX_PAYLOAD]) -> Result<OpRef<'r>, Misfit>
+    ensures { result_ok result ≡ spelled.op_spelled (words text.now) }
 {
     let (kind, rest) = cut(text);
     op_by(kind, rest, text, room)
 }
 
-/// The operation that the text spells: its bytes are put into the room, whose content doesn't count.
+/// The operation that the text spells: the bytes of a write are put into the room, whose content doesn't count.
 #[inline(always)]
-pub fn read_op_lent<'r>(text: &[u8], room: &'r mut [u8; MAX_PAYLOAD]) -> Result<OpForm<'r>, Misfit>
-    ensures value { option_map owned (result_ok result) ≡ spelled.op_spelled (words text.now) }
-    ensures sizes { IfOk result HasSizes }
+pub fn read_op<'r>(text: &[u8], room: &'r mut [u8; MAX_PAYLOAD]) -> Result<OpRef<'r>, Misfit>
+    ensures { result_ok result ≡ spelled.op_spelled (words text.now) }
 {
     match text {
         [b'r', b'e', b'a', b'd', b' ', rest @ ..] => read(Some(rest)),
         [b'w', b'r', b'i', b't', b'e', b' ', rest @ ..] => write(Some(rest), room),
-        [b'a', b'd', b'd', b' ', rest @ ..] => add(Some(rest), room),
-        [b's', b'w', b'a', b'p', b' ', rest @ ..] => swap(Some(rest), room),
-        [b'c', b'a', b's', b' ', rest @ ..] => cas(Some(rest), room),
+        [b'a', b'd', b'd', b' ', rest @ ..] => add(Some(rest)),
+        [b's', b'w', b'a', b'p', b' ', rest @ ..] => swap(Some(rest)),
+        [b'c', b'a', b's', b' ', rest @ ..] => cas(Some(rest)),
         _ => any_op(text, room),
     }
 }
 
-/// As [`read_op_lent`], of the rest of a line; none where there is no rest. `rest` is what [`cut`]
+/// As [`read_op`], of the rest of a line; none where there is no rest. `rest` is what [`cut`]
 /// left.
 #[inline(always)]
-pub fn op_behind_lent<'r>(
+pub fn op_behind<'r>(
     rest: Option<&[u8]>,
     room: &'r mut [u8; MAX_PAYLOAD],
-) -> Result<OpForm<'r>, Misfit>
-    ensures value { option_map owned (result_ok result) ≡ spelled.op_spelled (words_behind rest.entry) }
-    ensures sizes { IfOk result HasSizes }
-{
-    match rest {
-        Some(text) => read_op_lent(text, room),
-        None => Err(OPERATION.at(rest)),
-    }
-}
-
-/// The operation that the text spells.
-pub fn read_op(text: &[u8]) -> Result<Op, Misfit>
-    ensures { result_ok result ≡ spelled.op_spelled (words text.now) }
-{
-    let mut room = [0; MAX_PAYLOAD];
-    Ok(read_op_lent(text, &mut room)?.to_owned())
-}
-
-/// The operation that the rest of a line spells, none where there is no rest. `rest` is what
-/// [`cut`] left.
-pub fn op_behind(rest: Option<&[u8]>) -> Result<Op, Misfit>
+) -> Result<OpRef<'r>, Misfit>
     ensures { result_ok result ≡ spelled.op_spelled (words_behind rest.entry) }
 {
-    let mut room = [0; MAX_PAYLOAD];
-    Ok(op_behind_lent(rest, &mut room)?.to_owned())
+    match rest {
+        Some(text) => read_op(text, room),
+        None => Err(OPERATION.at(rest)),
+    }
 }

@@ -1,25 +1,23 @@
 //! The text of replies.
-ghost use Rattle.std.specs.Prelude.{◌≡◌, IfOk, option_map};
+ghost use Rattle.std.specs.Prelude.{◌≡◌};
 ghost use Rattle.std.specs.Result.{result_ok};
-ghost use Rattle.seq_memory.specs.Outcome.{owned_reply, HasRoom};
 ghost use Rattle.operation_text.specs.Words.{words, words_behind};
 ghost use Rattle.operation_text.specs.Operations as spelled;
 
 use crate::fields::{alone, bytes, cut};
 use crate::misfit::{BYTES, Expected, Misfit};
-use seq_memory::{Reply, ReplyForm};
-use tlp_core::MAX_PAYLOAD;
+use seq_memory::ReplyRef;
+use tlp_core::{MAX_PAYLOAD, PayloadRef};
 
 /// A reply, by its first word.
 const REPLY: Expected = Expected::Of("a reply", "data, ur, ca");
 
 #[inline(always)]
-fn data<'r>(rest: Option<&[u8]>, room: &'r mut [u8; MAX_PAYLOAD]) -> Result<ReplyForm<'r>, Misfit>
-    ensures value { option_map owned_reply (result_ok result) ≡ spelled.data_of (words_behind rest.entry) }
-    ensures room { IfOk result HasRoom }
+fn data<'r>(rest: Option<&[u8]>, room: &'r mut [u8; MAX_PAYLOAD]) -> Result<ReplyRef<'r>, Misfit>
+    ensures { result_ok result ≡ spelled.data_of (words_behind rest.entry) }
 {
     let (bytes, rest) = bytes(rest, BYTES, room)?;
-    alone(ReplyForm::Data(bytes), rest)
+    alone(ReplyRef::Data(PayloadRef::new(bytes)), rest)
 }
 
 /// The reply of that kind that the rest of a line spells.
@@ -29,16 +27,15 @@ fn reply_by<'r>(
     rest: Option<&[u8]>,
     text: &[u8],
     room: &'r mut [u8; MAX_PAYLOAD],
-) -> Result<ReplyForm<'r>, Misfit>
-    ensures value { option_map owned_reply (result_ok result) ≡ spelled.reply_by kind.now (words_behind rest.entry) }
-    ensures room { IfOk result HasRoom }
+) -> Result<ReplyRef<'r>, Misfit>
+    ensures { result_ok result ≡ spelled.reply_by kind.now (words_behind rest.entry) }
 {
     if kind == b"data".as_slice() {
         data(rest, room)
     } else if kind == b"ur".as_slice() {
-        alone(ReplyForm::Unsupported, rest)
+        alone(ReplyRef::Unsupported, rest)
     } else if kind == b"ca".as_slice() {
-        alone(ReplyForm::Aborted, rest)
+        alone(ReplyRef::Aborted, rest)
     } else {
         Err(REPLY.at(Some(text)))
     }
@@ -46,9 +43,8 @@ fn reply_by<'r>(
 
 /// The reply that the text spells, whatever its first word is.
 #[inline(never)]
-fn any_reply<'r>(text: &[u8], room: &'r mut [u8; MAX_PAYLOAD]) -> Result<ReplyForm<'r>, Misfit>
-    ensures value { option_map owned_reply (result_ok result) ≡ spelled.reply_spelled (words text.now) }
-    ensures room { IfOk result HasRoom }
+fn any_reply<'r>(text: &[u8], room: &'r mut [u8; MAX_PAYLOAD]) -> Result<ReplyRef<'r>, Misfit>
+    ensures { result_ok result ≡ spelled.reply_spelled (words text.now) }
 {
     let (kind, rest) = cut(text);
     reply_by(kind, rest, text, room)
@@ -56,12 +52,8 @@ fn any_reply<'r>(text: &[u8], room: &'r mut [u8; MAX_PAYLOAD]) -> Result<ReplyFo
 
 /// The reply that the text spells: its data is put into the room, whose content doesn't count.
 #[inline(always)]
-pub fn read_reply_lent<'r>(
-    text: &[u8],
-    room: &'r mut [u8; MAX_PAYLOAD],
-) -> Result<ReplyForm<'r>, Misfit>
-    ensures value { option_map owned_reply (result_ok result) ≡ spelled.reply_spelled (words text.now) }
-    ensures room { IfOk result HasRoom }
+pub fn read_reply<'r>(text: &[u8], room: &'r mut [u8; MAX_PAYLOAD]) -> Result<ReplyRef<'r>, Misfit>
+    ensures { result_ok result ≡ spelled.reply_spelled (words text.now) }
 {
     match text {
         [b'd', b'a', b't', b'a', b' ', rest @ ..] => data(Some(rest), room),
@@ -69,35 +61,17 @@ pub fn read_reply_lent<'r>(
     }
 }
 
-/// As [`read_reply_lent`], of the rest of a line; none where there is no rest. `rest` is what
+/// As [`read_reply`], of the rest of a line; none where there is no rest. `rest` is what
 /// [`cut`] left.
 #[inline(always)]
-pub fn reply_behind_lent<'r>(
+pub fn reply_behind<'r>(
     rest: Option<&[u8]>,
     room: &'r mut [u8; MAX_PAYLOAD],
-) -> Result<ReplyForm<'r>, Misfit>
-    ensures value { option_map owned_reply (result_ok result) ≡ spelled.reply_spelled (words_behind rest.entry) }
-    ensures room { IfOk result HasRoom }
-{
-    match rest {
-        Some(text) => read_reply_lent(text, room),
-        None => Err(REPLY.at(rest)),
-    }
-}
-
-/// The reply that the text spells.
-pub fn read_reply(text: &[u8]) -> Result<Reply, Misfit>
-    ensures { result_ok result ≡ spelled.reply_spelled (words text.now) }
-{
-    let mut room = [0; MAX_PAYLOAD];
-    Ok(read_reply_lent(text, &mut room)?.to_owned())
-}
-
-/// The reply that the rest of a line spells, none where there is no rest. `rest` is what [`cut`]
-/// left.
-pub fn reply_behind(rest: Option<&[u8]>) -> Result<Reply, Misfit>
+) -> Result<ReplyRef<'r>, Misfit>
     ensures { result_ok result ≡ spelled.reply_spelled (words_behind rest.entry) }
 {
-    let mut room = [0; MAX_PAYLOAD];
-    Ok(reply_behind_lent(rest, &mut room)?.to_owned())
+    match rest {
+        Some(text) => read_reply(text, room),
+        None => Err(REPLY.at(rest)),
+    }
 }

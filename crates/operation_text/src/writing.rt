@@ -3,20 +3,17 @@ ghost use Rattle.std.specs.Prelude.{◌≡◌, ◌≤◌, ◌<◌, ◌+◌, ◌*
 ghost use Rattle.std.specs.Fmt.{decimal, digit_glyph};
 ghost use Rattle.arrayvec.specs.ArrayString.{array_string_len};
 ghost use Rattle.hex.specs.Hex.{encode_upper};
-ghost use Rattle.tlp_core.specs.declared.operation.Op.TheVariants as ops;
-ghost use Rattle.tlp_core.specs.Operation.{width_of};
-ghost use Rattle.tlp_core.specs.Lent.{owned, number_of, IsOperand, HasSizes};
+ghost use Rattle.tlp_core.specs.declared.operation.OpOf.TheVariants as ops;
 ghost use Rattle.seq_memory.specs.Step.{data_of};
-ghost use Rattle.seq_memory.specs.Outcome.{owned_reply, HasRoom};
 ghost use Rattle.operation_text.specs.Texts.{hexadecimal, octet_text, sequence_text, operand_word, op_text, reply_text};
 
 use arrayvec::ArrayString;
 use byteorder::{ByteOrder, LittleEndian};
 use hex_text::pair_of;
 use itoa::Buffer;
-use seq_memory::{Reply, ReplyForm};
+use seq_memory::ReplyRef;
 use seq12::Seq12;
-use tlp_core::{Op, OpForm, Width};
+use tlp_core::{OpRef, Width};
 
 /// Adds the digit of a value below 16, in capitals.
 #[inline(always)]
@@ -141,17 +138,6 @@ fn put_number(width: Width, operand: u128, out: &mut ArrayString<512>)
     put_word(&room[..usize::from(width.size())], out);
 }
 
-/// Adds a space and the operand's bytes.
-#[inline(always)]
-fn put_operand(operand: &[u8], out: &mut ArrayString<512>)
-    requires operand { IsOperand operand.now }
-    requires room { array_string_len out.old + 33 ≤ 512 }
-    ensures text { out.new.bytes ≡ out.old.bytes ++ 32 ∷ operand_word (width_of (length operand.now)) (number_of operand.now) }
-    ensures len { array_string_len out.new ≤ array_string_len out.old + 33 }
-{
-    put_word(operand, out);
-}
-
 /// Adds a space before each of the byte enables.
 #[inline(always)]
 fn put_enables(first: u8, last: u8, out: &mut ArrayString<512>)
@@ -204,25 +190,25 @@ fn put_write(address: u64, first: u8, last: u8, bytes: &[u8], out: &mut ArrayStr
 }
 
 /// Adds the operation's text.
-pub fn write_op(op: &Op, out: &mut ArrayString<512>)
+pub fn write_op(op: &OpRef<'_>, out: &mut ArrayString<512>)
     requires { array_string_len out.old + 320 ≤ 512 }
     ensures text { out.new.bytes ≡ out.old.bytes ++ op_text op.now }
     ensures len { array_string_len out.new ≤ array_string_len out.old + 320 }
 {
     match op {
-        Op::Read {
+        OpRef::Read {
             address,
             dw,
             first,
             last,
         } => put_read(*address, *dw, *first, *last, out),
-        Op::Write {
+        OpRef::Write {
             address,
             first,
             last,
             bytes,
         } => put_write(*address, *first, *last, bytes.as_slice(), out),
-        Op::FetchAdd {
+        OpRef::FetchAdd {
             address,
             width,
             operand,
@@ -230,7 +216,7 @@ pub fn write_op(op: &Op, out: &mut ArrayString<512>)
             put_place("add ", *address, out);
             put_number(*width, *operand, out);
         }
-        Op::Swap {
+        OpRef::Swap {
             address,
             width,
             operand,
@@ -238,7 +224,7 @@ pub fn write_op(op: &Op, out: &mut ArrayString<512>)
             put_place("swap ", *address, out);
             put_number(*width, *operand, out);
         }
-        Op::Cas {
+        OpRef::Cas {
             address,
             width,
             compare,
@@ -247,46 +233,6 @@ pub fn write_op(op: &Op, out: &mut ArrayString<512>)
             put_place("cas ", *address, out);
             put_number(*width, *compare, out);
             put_number(*width, *swap, out);
-        }
-    }
-}
-
-/// As [`write_op`], of an operation whose bytes are lent.
-pub fn write_op_lent(op: &OpForm<'_>, out: &mut ArrayString<512>)
-    requires sizes { HasSizes op.now }
-    requires room { array_string_len out.old + 320 ≤ 512 }
-    ensures text { out.new.bytes ≡ out.old.bytes ++ op_text (owned op.now) }
-    ensures len { array_string_len out.new ≤ array_string_len out.old + 320 }
-{
-    match *op {
-        OpForm::Read {
-            address,
-            dw,
-            first,
-            last,
-        } => put_read(address, dw, first, last, out),
-        OpForm::Write {
-            address,
-            first,
-            last,
-            bytes,
-        } => put_write(address, first, last, bytes, out),
-        OpForm::FetchAdd { address, operand } => {
-            put_place("add ", address, out);
-            put_operand(operand, out);
-        }
-        OpForm::Swap { address, operand } => {
-            put_place("swap ", address, out);
-            put_operand(operand, out);
-        }
-        OpForm::Cas {
-            address,
-            compare,
-            swap,
-        } => {
-            put_place("cas ", address, out);
-            put_operand(compare, out);
-            put_operand(swap, out);
         }
     }
 }
@@ -304,30 +250,15 @@ fn put_data(bytes: &[u8], out: &mut ArrayString<512>)
 }
 
 /// Adds the reply's text.
-pub fn write_reply(reply: &Reply, out: &mut ArrayString<512>)
+pub fn write_reply(reply: &ReplyRef<'_>, out: &mut ArrayString<512>)
     requires { array_string_len out.old + 261 ≤ 512 }
     ensures text { out.new.bytes ≡ out.old.bytes ++ reply_text reply.now }
     ensures len { array_string_len out.new ≤ array_string_len out.old + 261 }
 {
     match reply {
-        Reply::Data(bytes) => put_data(bytes.as_slice(), out),
-        Reply::Unsupported => out.push_str("ur"),
-        Reply::Aborted => out.push_str("ca"),
-        Reply::Done => out.push_str("done"),
-    }
-}
-
-/// As [`write_reply`], of a reply whose data is lent.
-pub fn write_reply_lent(reply: &ReplyForm<'_>, out: &mut ArrayString<512>)
-    requires few { HasRoom reply.now }
-    requires room { array_string_len out.old + 261 ≤ 512 }
-    ensures text { out.new.bytes ≡ out.old.bytes ++ reply_text (owned_reply reply.now) }
-    ensures len { array_string_len out.new ≤ array_string_len out.old + 261 }
-{
-    match *reply {
-        ReplyForm::Data(bytes) => put_data(bytes, out),
-        ReplyForm::Unsupported => out.push_str("ur"),
-        ReplyForm::Aborted => out.push_str("ca"),
-        ReplyForm::Done => out.push_str("done"),
+        ReplyRef::Data(bytes) => put_data(bytes.as_slice(), out),
+        ReplyRef::Unsupported => out.push_str("ur"),
+        ReplyRef::Aborted => out.push_str("ca"),
+        ReplyRef::Done => out.push_str("done"),
     }
 }

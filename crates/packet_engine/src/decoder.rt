@@ -62,7 +62,8 @@ pub fn run_decode_with_reasons<R: Read, W: Write, E: Write>(
 ) -> Result<u8, EngineFault>
     ensures ok { IfOk result (IsWhole out_decode (R.remaining reader.old) (R.remaining reader.new) (W.contents writer.old) (W.contents writer.new)) }
     ensures err { OnErr result (IsPart out_decode (R.remaining reader.old) (R.remaining reader.new) (W.contents writer.old) (W.contents writer.new)) }
-    ensures read { IfErr result (λ f. f ≡ EngineFault.Read → IsCaughtUp decode_responses tt (R.remaining reader.old) (R.remaining reader.new) (W.contents writer.old) (W.contents writer.new)) }
+    ensures read { IfErr result (λ f. f ≡ EngineFault.Read →
+        IsCaughtUp decode_responses tt (R.remaining reader.old) (R.remaining reader.new) (W.contents writer.old) (W.contents writer.new)) }
 {
     let decoder = Decoder {
         line: HexLine::new(),
@@ -82,7 +83,8 @@ pub fn run_decode<R: Read, W: Write>(
 ) -> Result<u8, EngineFault>
     ensures ok { IfOk result (IsWhole out_decode (R.remaining reader.old) (R.remaining reader.new) (W.contents writer.old) (W.contents writer.new)) }
     ensures err { OnErr result (IsPart out_decode (R.remaining reader.old) (R.remaining reader.new) (W.contents writer.old) (W.contents writer.new)) }
-    ensures read { IfErr result (λ f. f ≡ EngineFault.Read → IsCaughtUp decode_responses tt (R.remaining reader.old) (R.remaining reader.new) (W.contents writer.old) (W.contents writer.new)) }
+    ensures read { IfErr result (λ f. f ≡ EngineFault.Read →
+        IsCaughtUp decode_responses tt (R.remaining reader.old) (R.remaining reader.new) (W.contents writer.old) (W.contents writer.new)) }
 {
     run_decode_with_reasons(alloc, reader, writer, &mut sink())
 }

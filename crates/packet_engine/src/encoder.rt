@@ -66,7 +66,8 @@ pub fn run_encode_with_reasons<R: Read, W: Write, E: Write>(
 ) -> Result<u8, EngineFault>
     ensures ok { IfOk result (IsWhole out_encode (R.remaining reader.old) (R.remaining reader.new) (W.contents writer.old) (W.contents writer.new)) }
     ensures err { OnErr result (IsPart out_encode (R.remaining reader.old) (R.remaining reader.new) (W.contents writer.old) (W.contents writer.new)) }
-    ensures read { IfErr result (λ f. f ≡ EngineFault.Read → IsCaughtUp encode_responses tt (R.remaining reader.old) (R.remaining reader.new) (W.contents writer.old) (W.contents writer.new)) }
+    ensures read { IfErr result (λ f. f ≡ EngineFault.Read →
+        IsCaughtUp encode_responses tt (R.remaining reader.old) (R.remaining reader.new) (W.contents writer.old) (W.contents writer.new)) }
 {
     let encoder = Reasoned::new(alloc, Encoder {}, PacketLines::Words, errors);
     run(alloc, encoder, reader, writer)
@@ -82,7 +83,8 @@ pub fn run_encode<R: Read, W: Write>(
 ) -> Result<u8, EngineFault>
     ensures ok { IfOk result (IsWhole out_encode (R.remaining reader.old) (R.remaining reader.new) (W.contents writer.old) (W.contents writer.new)) }
     ensures err { OnErr result (IsPart out_encode (R.remaining reader.old) (R.remaining reader.new) (W.contents writer.old) (W.contents writer.new)) }
-    ensures read { IfErr result (λ f. f ≡ EngineFault.Read → IsCaughtUp encode_responses tt (R.remaining reader.old) (R.remaining reader.new) (W.contents writer.old) (W.contents writer.new)) }
+    ensures read { IfErr result (λ f. f ≡ EngineFault.Read →
+        IsCaughtUp encode_responses tt (R.remaining reader.old) (R.remaining reader.new) (W.contents writer.old) (W.contents writer.new)) }
 {
     run_encode_with_reasons(alloc, reader, writer, &mut sink())
 }

@@ -5,8 +5,8 @@ use operation_text::{
     LINE_END, cut, is_ended, number, op_behind, own_digits_spell_number, own_text_spells_operation,
     own_text_spells_reply, read_op, read_reply, reply_behind, write_op, write_reply,
 };
-use seq_memory::Reply;
-use tlp_core::{Op, Width};
+use seq_memory::ReplyRef;
+use tlp_core::{MAX_PAYLOAD, Op, OpRef, Width};
 
 /// An operation that holds no bytes.
 #[derive(Clone, Copy)]
@@ -43,7 +43,11 @@ struct Spells(&'static str, Access);
 
 impl Row for Spells {
     fn is_right(&self) -> bool {
-        read_op(self.0.as_bytes()) == Ok(op_of(self.1))
+        let mut room = [0; MAX_PAYLOAD];
+        match read_op(self.0.as_bytes(), &mut room) {
+            Ok(op) => op.to_owned() == op_of(self.1),
+            Err(_) => false,
+        }
     }
 }
 
@@ -61,7 +65,8 @@ struct Touches(&'static str, u64, u32);
 
 impl Row for Touches {
     fn is_right(&self) -> bool {
-        match read_op(self.0.as_bytes()) {
+        let mut room = [0; MAX_PAYLOAD];
+        match read_op(self.0.as_bytes(), &mut room) {
             Ok(op) => op.address() == self.1 && op.size() == self.2,
             Err(_) => false,
         }
@@ -83,7 +88,8 @@ struct NoOp(&'static str);
 
 impl Row for NoOp {
     fn is_right(&self) -> bool {
-        read_op(self.0.as_bytes()).is_err()
+        let mut room = [0; MAX_PAYLOAD];
+        read_op(self.0.as_bytes(), &mut room).is_err()
     }
 }
 
@@ -119,11 +125,11 @@ enum Want {
 }
 
 /// Whether the reply is the wanted one.
-fn is_wanted(reply: &Option<Reply>, want: Want) -> bool {
+fn is_wanted(reply: &Option<ReplyRef<'_>>, want: Want) -> bool {
     match (reply, want) {
-        (Some(Reply::Data(data)), Want::Data(bytes)) => data.as_slice() == bytes,
-        (Some(Reply::Unsupported), Want::Unsupported)
-        | (Some(Reply::Aborted), Want::Aborted)
+        (Some(ReplyRef::Data(data)), Want::Data(bytes)) => data.as_slice() == bytes,
+        (Some(ReplyRef::Unsupported), Want::Unsupported)
+        | (Some(ReplyRef::Aborted), Want::Aborted)
         | (None, Want::Nothing) => true,
         _ => false,
     }
@@ -134,7 +140,8 @@ struct ReplyText(&'static str, Want);
 
 impl Row for ReplyText {
     fn is_right(&self) -> bool {
-        is_wanted(&read_reply(self.0.as_bytes()).ok(), self.1)
+        let mut room = [0; MAX_PAYLOAD];
+        is_wanted(&read_reply(self.0.as_bytes(), &mut room).ok(), self.1)
     }
 }
 
@@ -151,7 +158,7 @@ fn replies(rt: HostRuntime) {
     assert!(rt; all_right(&REPLIES));
 }
 
-fn is_op_text(op: &Op, own: &str) -> bool {
+fn is_op_text(op: &OpRef<'_>, own: &str) -> bool {
     let mut line = ArrayString::new();
     write_op(op, &mut line);
     line.as_str() == own
@@ -162,7 +169,8 @@ struct Writes(&'static str, &'static str);
 
 impl Row for Writes {
     fn is_right(&self) -> bool {
-        match read_op(self.0.as_bytes()) {
+        let mut room = [0; MAX_PAYLOAD];
+        match read_op(self.0.as_bytes(), &mut room) {
             Ok(op) => is_op_text(&op, self.1),
             Err(_) => false,
         }
@@ -193,7 +201,7 @@ fn written(rt: HostRuntime) {
     assert!(rt; all_right(&WRITTEN));
 }
 
-fn is_reply_text(reply: &Reply, own: &str) -> bool {
+fn is_reply_text(reply: &ReplyRef<'_>, own: &str) -> bool {
     let mut line = ArrayString::new();
     write_reply(reply, &mut line);
     line.as_str() == own
@@ -204,7 +212,8 @@ struct Answers(&'static str, &'static str);
 
 impl Row for Answers {
     fn is_right(&self) -> bool {
-        match read_reply(self.0.as_bytes()) {
+        let mut room = [0; MAX_PAYLOAD];
+        match read_reply(self.0.as_bytes(), &mut room) {
             Ok(reply) => is_reply_text(&reply, self.1),
             Err(_) => false,
         }
@@ -234,13 +243,19 @@ fn is_cut() -> bool {
 
 /// Whether what stands behind something is read as an operation.
 fn ops_behind() -> bool {
-    let read = op_behind(Some(b"read 0 1 F 0"));
-    read == read_op(b"read 0 1 F 0") && op_behind(Some(b"xread 0 1 F 0")).is_err()
+    let mut room = [0; MAX_PAYLOAD];
+    let is_read = match op_behind(Some(b"read 0 1 F 0"), &mut room) {
+        Ok(op) => is_op_text(&op, "read 0 1 F 0"),
+        Err(_) => false,
+    };
+    is_read && op_behind(Some(b"xread 0 1 F 0"), &mut room).is_err()
 }
 
 /// Whether what stands behind something is read as a reply.
 fn replies_behind() -> bool {
-    is_wanted(&reply_behind(Some(b"ca")).ok(), Want::Aborted) && reply_behind(None).is_err()
+    let mut room = [0; MAX_PAYLOAD];
+    let is_read = is_wanted(&reply_behind(Some(b"ca"), &mut room).ok(), Want::Aborted);
+    is_read && reply_behind(None, &mut room).is_err()
 }
 
 #[test]

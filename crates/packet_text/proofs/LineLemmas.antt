@@ -14,8 +14,8 @@ use Rattle.tlp_core.specs.declared.packet.Body.{Body}
 use Rattle.tlp_core.specs.declared.packet.Body.TheVariants as bodies
 use Rattle.tlp_core.specs.declared.packet.Status.{Status}
 use Rattle.tlp_core.specs.declared.packet.Status.TheVariants as statuses
-use Rattle.tlp_core.specs.declared.operation.Op.{Op}
-use Rattle.tlp_core.specs.declared.operation.Op.TheVariants as ops
+use Rattle.tlp_core.specs.Ops.{Op}
+use Rattle.tlp_core.specs.declared.operation.OpOf.TheVariants as ops
 use Rattle.tlp_core.specs.Bits.{IsBytes}
 use Rattle.tlp_core.specs.TlpView as tlp
 use Rattle.dllp_core.specs.declared.packet.Class.{Class}

@@ -1,7 +1,7 @@
 -- The packet that a line of words spells.
 use Rattle.std.specs.Prelude.{ℕ, ◌+◌, ◌*◌, ◌/◌, ◌%◌, ◌==◌, ◌||◌, not, nat_lt, if◌then◌else◌, List, [], ◌∷◌, length, take, drop, codes, bytes_eq, Option, Some, None, Result, Ok, Err}
 use Rattle.std.specs.Char.{digit_value}
-use Rattle.tlp_core.specs.declared.operation.Op.{Op}
+use Rattle.tlp_core.specs.Ops.{Op}
 use Rattle.tlp_core.specs.declared.packet.Kind.TheVariants as kinds
 use Rattle.tlp_core.specs.declared.packet.Body.TheVariants as bodies
 use Rattle.tlp_core.specs.declared.packet.Status.{Status}

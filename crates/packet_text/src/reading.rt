@@ -16,7 +16,7 @@ use dllp_core::Dllp;
 use operation_text::{Expected, LINE_END, Misfit, OPERATION, alone, cut, number, read_op};
 use requester_core::{Origin, request_with};
 use seq12::Seq12;
-use tlp_core::{Tlp, TlpFault};
+use tlp_core::{MAX_PAYLOAD, Tlp, TlpFault};
 
 /// A packet, by the first word of its line.
 const PACKET: Expected = Expected::Of(
@@ -80,7 +80,7 @@ fn in_request(misfit: Misfit, behind: usize) -> Misfit {
 
 /// What doesn't fit in a line without ` from `.
 fn without_origin(line: &[u8]) -> Misfit {
-    match read_op(line) {
+    match read_op(line, &mut [0; MAX_PAYLOAD]) {
         Ok(_) => FROM.at(None),
         Err(misfit) => in_request(misfit, 0),
     }
@@ -93,7 +93,7 @@ fn request_of(line: &[u8]) -> Result<Result<Tlp, TlpFault>, Misfit>
     let Some((text, behind)) = cut_from(line) else {
         return Err(without_origin(line));
     };
-    match read_op(text) {
+    match read_op(text, &mut [0; MAX_PAYLOAD]) {
         Ok(op) => {
             let origin = origin(behind)?;
             Ok(request_with(&op, origin))

@@ -10,7 +10,7 @@ use crate::fault::{BytesFault, TextFault};
 use crate::packet::Packet;
 use arrayvec::ArrayString;
 use dllp_core::{Class, Dllp, DllpFault};
-use operation_text::{write_bytes, write_decimal, write_octet, write_op_lent, write_sequence};
+use operation_text::{write_bytes, write_decimal, write_octet, write_op, write_sequence};
 use tlp_core::{Body, Kind, OpRef, Status, TlpFault, TlpRef, decode_lent, op_lent};
 
 /// Adds four digits.
@@ -57,21 +57,12 @@ fn put_origin(tlp: &TlpRef<'_>, out: &mut ArrayString<512>)
     write_octet(tlp.header.tag, out);
 }
 
-/// Adds the operation's text.
-fn put_op(op: &OpRef<'_>, out: &mut ArrayString<512>)
-    requires { array_string_len out.old + 320 ≤ 512 }
-    ensures text { out.new.bytes ≡ out.old.bytes ++ op_text op.now }
-    ensures len { array_string_len out.new ≤ array_string_len out.old + 320 }
-{
-    write_op_lent(&op.form(), out);
-}
-
 fn put_request(tlp: &TlpRef<'_>, op: &OpRef<'_>, out: &mut ArrayString<512>)
     requires { array_string_len out.old + 400 ≤ 512 }
     ensures text { out.new.bytes ≡ out.old.bytes ++ texts.request_text tlp.now op.now }
     ensures len { array_string_len out.new ≤ array_string_len out.old + 400 }
 {
-    put_op(op, out);
+    write_op(op, out);
     out.push_str(" from ");
     put_origin(tlp, out);
     put_class(tlp, out);

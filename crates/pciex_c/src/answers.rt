@@ -4,8 +4,8 @@ ghost use Rattle.tlp_core.specs.declared.fault.TlpFault as faults;
 ghost use Rattle.tlp_core.specs.Fault.{number_of, name_of};
 ghost use Rattle.tlp_core.specs.Faults.{reading};
 ghost use Rattle.tlp_core.specs.TlpView.{TlpView};
-ghost use Rattle.history_check.specs.Claim.{Claim};
-ghost use Rattle.history_check.specs.Trace.{Explains};
+ghost use Rattle.history_words.specs.Claim.{Claim};
+ghost use Rattle.history_words.specs.Trace.{Explains};
 ghost use Rattle.trace_text.specs.TraceReaderView.{read_of};
 ghost use Rattle.log_pieces.specs.declared.Granularity.{Granularity};
 ghost use Rattle.search_engine.specs.Search.{WantsMemory};
@@ -76,7 +76,8 @@ pub extern "C" fn pciex_raw_search(
     buffer: &mut [u8],
     size: &mut usize,
 ) -> u32
-    ensures answered { ¬ (result ≡ NO_MEMORY) → (outcome : Result ℕ Failure) × (result ≡ code_of outcome) × IsSearched limit text.now buffer.old buffer.new size.new outcome }
+    ensures answered { ¬ (result ≡ NO_MEMORY) →
+        (outcome : Result ℕ Failure) × (result ≡ code_of outcome) × IsSearched limit text.now buffer.old buffer.new size.new outcome }
     ensures no_memory { result ≡ NO_MEMORY → WantsMemory text.now }
     ensures unchanged_size { result ≡ NO_MEMORY → size.new ≡ size.old }
     ensures unchanged { 2000 ≤ result → buffer.new ≡ buffer.old }
@@ -97,7 +98,8 @@ pub extern "C" fn pciex_raw_search_with_reasons(
     reasons_size: &mut usize,
 ) -> u32
     ensures wrong { granularity_of granularity ≡ None → result ≡ WRONG_GRANULARITY }
-    ensures answered { ¬ (result ≡ NO_MEMORY) → (g : Granularity) → granularity_of granularity ≡ Some g → (outcome : Result ℕ Failure) × (result ≡ code_of outcome) × IsSearchedIn g limit text.now buffer.old buffer.new size.new outcome }
+    ensures answered { ¬ (result ≡ NO_MEMORY) → (g : Granularity) → granularity_of granularity ≡ Some g →
+        (outcome : Result ℕ Failure) × (result ≡ code_of outcome) × IsSearchedIn g limit text.now buffer.old buffer.new size.new outcome }
     ensures reasons { result < 1000 → (lines : List ℕ) × (reasons_size.new ≡ length lines) × (reasons.new ≡ cut reasons.old lines) }
     ensures no_memory { result ≡ NO_MEMORY → WantsMemory text.now }
     ensures unchanged_sizes { (result ≡ NO_MEMORY) ⊎ (result ≡ WRONG_GRANULARITY) → (size.new ≡ size.old) × (reasons_size.new ≡ reasons_size.old) }
@@ -123,7 +125,8 @@ pub extern "C" fn pciex_raw_search_with_reasons(
 pub extern "C" fn pciex_raw_decode_tlp(packet: &[u8], tlp: &mut TlpFields) -> u32
     ensures code { result ≡ status_of (in_fields packet.now tlp.old).outcome }
     ensures fields { tlp.new ≡ (in_fields packet.now tlp.old).fields }
-    ensures payload { result ≡ 0 → (t : TlpView) × (reading packet.now ≡ Ok t) × (t.payload ≡ take tlp.new.payload_length (drop tlp.new.payload_start packet.now)) }
+    ensures payload { result ≡ 0 →
+        (t : TlpView) × (reading packet.now ≡ Ok t) × (t.payload ≡ take tlp.new.payload_length (drop tlp.new.payload_start packet.now)) }
     ensures unchanged { 1 ≤ result → tlp.new ≡ tlp.old }
 {
     status(c_packets::decode_tlp(packet, tlp))

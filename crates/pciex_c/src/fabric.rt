@@ -2,7 +2,7 @@
 ghost use Rattle.std.specs.Prelude.{◌≡◌, ◌≢◌, ◌≤◌, ◌↔◌, ◌⊎◌, ℕ, IsTrue, true, Some, length, slice_get};
 ghost use Rattle.requester_core.specs.RequesterView.{RequesterView};
 ghost use Rattle.seq_memory.specs.History.{bytes_of};
-ghost use Rattle.history_check.specs.Trace.{Explains};
+ghost use Rattle.history_words.specs.Trace.{Explains};
 ghost use Rattle.trace_text.specs.Texts.{trace_text};
 ghost use Rattle.fabric_laws.specs.Trace.{submitted_by};
 ghost use Rattle.fabric_laws.specs.Whole.{open_number};
@@ -71,9 +71,11 @@ pub extern "C" fn pciex_raw_fabric_script(
     ghost session: { SessionView }
     requires { fabric.session ≡ Some session }
     ensures code { ¬ (result ≡ NO_MEMORY) → result ≡ status_of (script_call session text.now buffer.old).outcome }
-    ensures left { ¬ (result ≡ NO_MEMORY) → (s : SessionView) × (back.new.session ≡ Some s) × IsLeftBy (script_call session text.now buffer.old) s buffer.new done.new size.new }
+    ensures left { ¬ (result ≡ NO_MEMORY) →
+        (s : SessionView) × (back.new.session ≡ Some s) × IsLeftBy (script_call session text.now buffer.old) s buffer.new done.new size.new }
     ensures whole { result ≡ 0 → done.new ≡ length text.now }
-    ensures no_memory { result ≡ NO_MEMORY → (s : SessionView) × (back.new.session ≡ Some s) × IsCutShort session text.now buffer.old s buffer.new done.new size.new }
+    ensures no_memory { result ≡ NO_MEMORY →
+        (s : SessionView) × (back.new.session ≡ Some s) × IsCutShort session text.now buffer.old s buffer.new done.new size.new }
 {
     status(c_fabric::tell_script(fabric, text, buffer, done, size, back))
 }

@@ -8,8 +8,8 @@ use native.Mathlib.Decide.{ℕ_discrete}
 use lib.ListN.{get_elem?}
 use Rattle.crossbeam_queue.specs.Fifo.{Pushes, Pops, Forks, Merges, Learns, Held}
 use Rattle.crossbeam_queue.proofs.Lists.{at_set}
-use Rattle.history_check.specs.declared.Record.{Record}
-use Rattle.history_check.specs.Lookup.{requester_of}
+use Rattle.history_words.specs.Records.{Record}
+use Rattle.history_words.specs.Lookup.{requester_of}
 use Rattle.recorder.specs.declared.laws.Pushed.{Pushed}
 use Rattle.recorder.specs.declared.laws.Taken.{Taken}
 use Rattle.recorder.specs.declared.laws.Knows.{Knows}

@@ -3,8 +3,8 @@ use Rattle.std.specs.Prelude.{◌≡◌, ◌==◌, ◌<◌, ℕ, ◌+◌, zero, 
 use Rattle.std.specs.List.{AllByRecursion as Each}
 use mathlib.Core.Option.{some}
 use lib.ListN.{get_elem?}
-use Rattle.history_check.specs.declared.Record.{Record}
-use Rattle.history_check.specs.Lookup.{requester_of}
+use Rattle.history_words.specs.Records.{Record}
+use Rattle.history_words.specs.Lookup.{requester_of}
 use Rattle.recorder.specs.declared.laws.Pushed.{Pushed}
 use Rattle.recorder.specs.declared.laws.Taken.{Taken}
 use Rattle.recorder.specs.declared.laws.Knows.{Knows}

@@ -1,11 +1,11 @@
 //! The rule of the recorder's queue, and its calls, each lent its caller's pass.
 ghost use Rattle.std.specs.Prelude.{◌≡◌, ◌+◌, ◌-◌, ◌<◌, [], ◌∷◌, ◌++◌, IsTrue, IfOk, IfErr, OnOk, IfSome, IfNone};
-ghost use Rattle.history_check.specs.Lookup.{requester_of};
+ghost use Rattle.history_words.specs.Lookup.{requester_of};
 ghost use Rattle.recorder.specs.Rule.{unbegun, with_pushed, with_taken, IsWhole, IsBegun};
 
 use crossbeam_queue::protocol::{Join, Lesson, Outcome, Protocol, Split};
 use crossbeam_queue::{Pass, RuledArrayQueue};
-use history_check::Record;
+use history_words::Record;
 use std::alloc::{AllocError, Global};
 use std::collections::LinkedList;
 use std::marker::Model;
@@ -161,7 +161,8 @@ impl Recorder {
     pub fn begin(&self, taker: &mut Taker, requester: u8) -> Pusher
         requires same { taker.old.queue ≡ self.now }
         requires next { (0 < requester) × (requester < 8) × (taker.old.taken.known ≡ unbegun (8 - requester) requester) }
-        ensures taker { (taker.new.queue ≡ taker.old.queue) × (taker.new.taken ≡ record { known = unbegun (7 - requester) (requester + 1); records = taker.old.taken.records }) }
+        ensures taker { (taker.new.queue ≡ taker.old.queue) ×
+            (taker.new.taken ≡ record { known = unbegun (7 - requester) (requester + 1); records = taker.old.taken.records }) }
         ensures pusher { (result.queue ≡ self.now) × (result.pushed ≡ record { requester = requester; records = [] }) }
     {
         let _ = requester;

@@ -1,9 +1,9 @@
 ghost use Rattle.std.specs.Prelude.{◌≡◌, ◌<◌};
-ghost use Rattle.history_check.specs.Lookup.{requester_of};
+ghost use Rattle.history_words.specs.Lookup.{requester_of};
 ghost use Rattle.recorder.specs.Rule.{unbegun};
 
 use super::*;
-use history_check::Record;
+use history_words::Record;
 use std::alloc::AllocError;
 use std::sync::Wait;
 use std::test::*;

@@ -1,8 +1,8 @@
 -- The request for an operation (PCI Express Base 4.0, section 2.2.7).
 use Rattle.std.specs.Prelude.{ℕ, ◌*◌, ◌/◌, List, [], ◌++◌, length, Option, Some, None, Result, Ok, Err}
 use Rattle.byteorder.specs.Endian.{little_bytes}
-use Rattle.tlp_core.specs.declared.operation.Op.{Op}
-use Rattle.tlp_core.specs.declared.operation.Op.TheVariants as ops
+use Rattle.tlp_core.specs.Ops.{Op}
+use Rattle.tlp_core.specs.declared.operation.OpOf.TheVariants as ops
 use Rattle.tlp_core.specs.declared.packet.Kind.{Kind}
 use Rattle.tlp_core.specs.declared.packet.Kind.TheVariants as kinds
 use Rattle.tlp_core.specs.declared.packet.Body.TheVariants as bodies

@@ -1,9 +1,9 @@
 -- Any list of calls on a new requester: the numbers that were given, and those that were answered.
 use Rattle.std.specs.Prelude.{◌≡◌, ℕ, List, [], ◌∷◌, ◌++◌, Some, Result, Ok, Err, Contains}
-use Rattle.tlp_core.specs.declared.operation.Op.{Op}
+use Rattle.tlp_core.specs.Ops.{Op}
 use Rattle.tlp_core.specs.TlpView.{TlpView}
 use Rattle.requester_core.specs.declared.requester.OpenRequest.{OpenRequest}
-use Rattle.requester_core.specs.declared.requester.Answer.{Answer}
+use Rattle.requester_core.specs.Answers.{Answer}
 use Rattle.requester_core.specs.declared.fault.SubmitRefusal.{SubmitRefusal}
 use Rattle.requester_core.specs.declared.fault.CompletionFault.{CompletionFault}
 use Rattle.requester_core.specs.RequesterView.{RequesterView, open_at, prepared, after_opened, finished, after_finish}

@@ -10,6 +10,7 @@ ghost use Rattle.requester_core.specs.Runs.{Call, after_calls, given_in, answere
 pub fn each_number_is_answered_once()
     ensures numbers { (port : ℕ) (calls : List Call) → given_in (fresh port) calls ≡ range_with_len 0 (after_calls (fresh port) calls).next }
     ensures sound { (port : ℕ) (calls : List Call) → 1 ≤ port → port ≤ 7 → IsSound (after_calls (fresh port) calls) }
-    ensures not_yet { (port n : ℕ) (calls : List Call) → 1 ≤ port → port ≤ 7 → IsOpen (after_calls (fresh port) calls) n → Contains (answered_in (fresh port) calls) n → ⊥ }
+    ensures not_yet { (port n : ℕ) (calls : List Call) → 1 ≤ port → port ≤ 7 → IsOpen (after_calls (fresh port) calls) n →
+        Contains (answered_in (fresh port) calls) n → ⊥ }
     ensures once { (port : ℕ) (calls : List Call) → 1 ≤ port → port ≤ 7 → NoneTwice (answered_in (fresh port) calls) }
 {}

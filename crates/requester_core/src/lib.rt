@@ -2,11 +2,13 @@
 //! requests, gives each non-posted one a tag, and knows its completion by that tag.
 #![tactic(auto)]
 
+mod answer;
 mod fault;
 pub mod laws;
 mod request;
 mod requester;
 
+pub use answer::{Answer, AnswerOf, AnswerRef};
 pub use fault::{CompletionFault, SubmitRefusal};
 pub use request::{Origin, request_with};
-pub use requester::{Answer, NUMBERS, OpenRequest, Requester, TAGS};
+pub use requester::{NUMBERS, OpenRequest, Requester, TAGS};

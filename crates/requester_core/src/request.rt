@@ -6,7 +6,7 @@ ghost use Rattle.tlp_core.specs.Operation.{size_of, op_fault, op_of};
 ghost use Rattle.requester_core.specs.Request as requests;
 
 use arrayvec::ArrayVec;
-use tlp_core::{Body, Kind, MAX_PAYLOAD, Op, Tlp, TlpFault, Width, op_fault};
+use tlp_core::{Body, Kind, OpRef, Payload, Tlp, TlpFault, Width};
 
 /// Whose request it is, under which tag, and with which Traffic Class and attributes.
 #[derive(Clone, Copy, Debug, PartialEq, Eq)]
@@ -20,43 +20,43 @@ pub struct Origin {
     pub attr: u8,
 }
 
-fn kind_for(op: &Op) -> Kind
+fn kind_for(op: &OpRef<'_>) -> Kind
     ensures { result ≡ requests.kind_for op.now }
 {
     match op {
-        Op::Read { .. } => Kind::MemoryRead,
-        Op::Write { .. } => Kind::MemoryWrite,
-        Op::FetchAdd { .. } => Kind::FetchAdd,
-        Op::Swap { .. } => Kind::Swap,
-        Op::Cas { .. } => Kind::Cas,
+        OpRef::Read { .. } => Kind::MemoryRead,
+        OpRef::Write { .. } => Kind::MemoryWrite,
+        OpRef::FetchAdd { .. } => Kind::FetchAdd,
+        OpRef::Swap { .. } => Kind::Swap,
+        OpRef::Cas { .. } => Kind::Cas,
     }
 }
 
 /// Length, in DW.
-fn length_for(op: &Op) -> u16
+fn length_for(op: &OpRef<'_>) -> u16
     ensures { result ≡ requests.length_for op.now }
 {
     match op {
-        Op::Read { dw, .. } => *dw,
-        Op::Write { bytes, .. } => (bytes.len() / 4) as u16,
-        Op::FetchAdd { width, .. } | Op::Swap { width, .. } => u16::from(width.size() / 4),
-        Op::Cas { width, .. } => u16::from(width.size() / 2),
+        OpRef::Read { dw, .. } => *dw,
+        OpRef::Write { bytes, .. } => (bytes.as_slice().len() / 4) as u16,
+        OpRef::FetchAdd { width, .. } | OpRef::Swap { width, .. } => u16::from(width.size() / 4),
+        OpRef::Cas { width, .. } => u16::from(width.size() / 2),
     }
 }
 
 /// First DW BE and Last DW BE.
-fn enables_for(op: &Op) -> (u8, u8)
+fn enables_for(op: &OpRef<'_>) -> (u8, u8)
     ensures first { result.0 ≡ requests.first_for op.now }
     ensures last { result.1 ≡ requests.last_for op.now }
 {
     match op {
-        Op::Read { first, last, .. } | Op::Write { first, last, .. } => (*first, *last),
-        Op::FetchAdd { .. } | Op::Swap { .. } | Op::Cas { .. } => (0, 0),
+        OpRef::Read { first, last, .. } | OpRef::Write { first, last, .. } => (*first, *last),
+        OpRef::FetchAdd { .. } | OpRef::Swap { .. } | OpRef::Cas { .. } => (0, 0),
     }
 }
 
 /// Adds an operand's bytes.
-fn put_operand(payload: &mut ArrayVec<u8, MAX_PAYLOAD>, width: Width, operand: u128)
+fn put_operand(payload: &mut Payload, width: Width, operand: u128)
     requires { array_vec_len payload.old ≤ 16 }
     ensures items { payload.new.items ≡ payload.old.items ++ little_bytes (size_of width) operand }
     ensures len { array_vec_len payload.new ≡ array_vec_len payload.old + size_of width }
@@ -65,20 +65,20 @@ fn put_operand(payload: &mut ArrayVec<u8, MAX_PAYLOAD>, width: Width, operand: u
     let _ = payload.try_extend_from_slice(&bytes[..usize::from(width.size())]);
 }
 
-fn payload_for(op: &Op) -> ArrayVec<u8, MAX_PAYLOAD>
+fn payload_for(op: &OpRef<'_>) -> Payload
     ensures items { result.items ≡ requests.payload_for op.now }
     ensures range { length result.items ≤ 128 }
 {
     let mut payload = ArrayVec::new();
     match op {
-        Op::Read { .. } => {}
-        Op::Write { bytes, .. } => {
-            let _ = payload.try_extend_from_slice(bytes);
+        OpRef::Read { .. } => {}
+        OpRef::Write { bytes, .. } => {
+            let _ = payload.try_extend_from_slice(bytes.as_slice());
         }
-        Op::FetchAdd { width, operand, .. } | Op::Swap { width, operand, .. } => {
+        OpRef::FetchAdd { width, operand, .. } | OpRef::Swap { width, operand, .. } => {
             put_operand(&mut payload, *width, *operand);
         }
-        Op::Cas {
+        OpRef::Cas {
             width,
             compare,
             swap,
@@ -92,7 +92,7 @@ fn payload_for(op: &Op) -> ArrayVec<u8, MAX_PAYLOAD>
 }
 
 /// The request for an operation without a fault.
-fn sound_request(op: &Op, origin: Origin) -> Tlp
+fn sound_request(op: &OpRef<'_>, origin: Origin) -> Tlp
     requires sound { op_fault op.now ≡ None }
     requires tc { origin.tc < 8 }
     requires attr { origin.attr < 8 }
@@ -118,20 +118,20 @@ fn sound_request(op: &Op, origin: Origin) -> Tlp
 
 /// The request for an operation, or the first fault of the operation, of which there is no request.
 /// Takes no memory.
-pub fn request_with(op: &Op, origin: Origin) -> Result<Tlp, TlpFault>
+pub fn request_with(op: &OpRef<'_>, origin: Origin) -> Result<Tlp, TlpFault>
     requires tc { origin.tc < 8 }
     requires attr { origin.attr < 8 }
     ensures value { result ≡ requests.unless (op_fault op.now) (requests.request op.now origin) }
     ensures asks { IfOk result (λ t. op_of t ≡ Some op.now) }
 {
-    match op_fault(op) {
+    match op.fault() {
         Some(fault) => Err(fault),
         None => Ok(sound_request(op, origin)),
     }
 }
 
 /// The request of a port for an operation without a fault, under that tag.
-pub(crate) fn request_for(port: u8, tag: u8, op: &Op) -> Tlp
+pub(crate) fn request_for(port: u8, tag: u8, op: &OpRef<'_>) -> Tlp
     requires port { port < 256 }
     requires sound { op_fault op.now ≡ None }
     ensures value { result ≡ requests.request_for port tag op.now }

@@ -1,12 +1,13 @@
 //! Numbers and tags.
 ghost use Rattle.std.specs.Prelude.{◌≡◌, ◌+◌, ◌*◌, ◌<◌, ◌≤◌, ◌==◌, if◌then◌else◌, Some, None, length};
+ghost use Rattle.seq_memory.specs.declared.reply.ReplyOf.TheVariants as Reply;
 
+use crate::answer::Answer;
 use crate::fault::{CompletionFault, SubmitRefusal};
 use crate::request::request_for;
-use arrayvec::ArrayVec;
 use seq_memory::Reply;
 use std::marker::Model;
-use tlp_core::{Body, Kind, MAX_PAYLOAD, Op, Status, Tlp, op_fault};
+use tlp_core::{Body, Kind, OpRef, Payload, Status, Tlp, payload_of};
 
 /// How many tags a requester has: those of 8 bits.
 pub const TAGS: usize = 256;
@@ -21,15 +22,6 @@ pub struct OpenRequest {
     pub number: u32,
     /// How many bytes of data its completion has, where it is served: 4 to 4096.
     pub size: u16,
-}
-
-/// What a completion tells its requester.
-#[derive(Clone, Debug, PartialEq, Drop)]
-pub struct Answer {
-    /// The number of the request.
-    pub number: u32,
-    /// What the memory replied.
-    pub reply: Reply,
 }
 
 /// A requester: its port, the next number, and what is open under each tag.
@@ -83,12 +75,12 @@ impl Requester {
     /// The number and the request for an operation, with TC 0 and attributes 0: a non-posted one
     /// has the lowest free tag, a posted one tag 0. Changes nothing: [`opened`](Self::opened)
     /// follows when the lane took the request. Takes no memory.
-    pub fn prepare(&self, op: &Op) -> Result<(u32, Tlp), SubmitRefusal>
+    pub fn prepare(&self, op: &OpRef<'_>) -> Result<(u32, Tlp), SubmitRefusal>
         ensures value { result ≡ prepared self.now op.now }
         ensures asks { IfOk result (λ p. op_of p.1 ≡ Some op.now) }
         ensures sound { OnOk result (IsSound self.now) }
     {
-        if let Some(fault) = op_fault(op) {
+        if let Some(fault) = op.fault() {
             return Err(SubmitRefusal::Profile(fault));
         }
         let posted = op.is_posted();
@@ -204,15 +196,13 @@ fn reply_carried(size: u16, completion: &Tlp) -> Option<Reply>
 }
 
 /// The payload as a reply, if it has that size.
-fn data_of(size: u16, payload: &ArrayVec<u8, MAX_PAYLOAD>) -> Option<Reply>
+fn data_of(size: u16, payload: &Payload) -> Option<Reply>
     ensures { result ≡ (if length payload.now.items == size then Some (Reply.Data payload.now) else None) }
 {
     if payload.len() != usize::from(size) {
         return None;
     }
-    let mut bytes = ArrayVec::new();
-    let _ = bytes.try_extend_from_slice(payload);
-    Some(Reply::Data(bytes))
+    Some(Reply::Data(payload_of(payload)))
 }
 
 fn no_tags() -> [Option<OpenRequest>; TAGS]

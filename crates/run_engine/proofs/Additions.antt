@@ -5,18 +5,18 @@ use Rattle.std.specs.List.{count_by, list_any, cons_option, AllByRecursion as Ea
 use Rattle.std.specs.Prelude.{Some, None, slice_get, nat_lt}
 use Rattle.byteorder.specs.Endian.{little_number}
 use native.Mathlib.Decide.{ℕ_discrete}
-use Rattle.tlp_core.specs.declared.operation.Op.{Op}
-use Rattle.seq_memory.specs.declared.Entry.{Entry}
-use Rattle.seq_memory.specs.declared.Reply.{Reply}
+use Rattle.tlp_core.specs.Ops.{Op}
+use Rattle.seq_memory.specs.Entries.{Entry}
+use Rattle.seq_memory.specs.Entries.{Reply}
 use Rattle.seq_memory.specs.Limits.{Extent}
 use Rattle.seq_memory.specs.Step.{bytes_at}
 use Rattle.seq_memory.specs.History.{contents}
-use Rattle.history_check.specs.declared.Record.{Record}
-use Rattle.history_check.specs.declared.Record.TheVariants as records
-use Rattle.history_check.specs.Lookup.{requester_of}
-use Rattle.history_check.specs.TraceView.{TraceView}
-use Rattle.history_check.specs.Claim.{claim_of}
-use Rattle.history_check.specs.Trace.{submissions, answers_to, is_request, Explains}
+use Rattle.history_words.specs.Records.{Record}
+use Rattle.history_words.specs.declared.record.RecordOf.TheVariants as records
+use Rattle.history_words.specs.Lookup.{requester_of}
+use Rattle.history_words.specs.TraceView.{TraceView}
+use Rattle.history_words.specs.Claim.{claim_of}
+use Rattle.history_words.specs.Trace.{submissions, answers_to, is_request, Explains}
 use Rattle.worker_requester.specs.Following.{IsAnswered}
 use Rattle.worker_report.specs.OneRun.{AreBelow}
 use Rattle.workers.specs.Running.{AreDone}

@@ -2,7 +2,7 @@
 use Rattle.std.proofs.Common.{◌≤◌, ℕ, Vec, Global, List, length, map, ⊎_elim, ◌∙◌, ap, sym, subst, rules, arith}
 use Rattle.std.specs.Prelude.{Result, Ok, Err, IfOk, IfErr}
 use Rattle.std.proofs.lemmas.List.{length-map, length-replicate}
-use Rattle.tlp_core.specs.declared.operation.Op.{Op}
+use Rattle.tlp_core.specs.Ops.{Op}
 use Rattle.fabric_core.specs.declared.config.Config.{Config}
 use Rattle.fabric_core.specs.Config.{IsConfig}
 use Rattle.hall_laws.specs.Rule.{HasConfig}

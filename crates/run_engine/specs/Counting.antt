@@ -1,7 +1,7 @@
 -- What a counting asks for.
 use Rattle.std.specs.Prelude.{◌≡◌, ℕ, List, map, replicate}
-use Rattle.tlp_core.specs.declared.operation.Op.{Op}
-use Rattle.tlp_core.specs.declared.operation.Op.TheVariants.{FetchAdd}
+use Rattle.tlp_core.specs.Ops.{Op}
+use Rattle.tlp_core.specs.declared.operation.OpOf.TheVariants.{FetchAdd}
 use Rattle.tlp_core.specs.declared.operation.Width.TheVariants.{Four}
 use Rattle.fabric_core.specs.declared.config.Config.{Config}
 use Rattle.worker_report.specs.declared.plan.RunPlan.{RunPlan}

@@ -5,11 +5,11 @@ use Rattle.std.specs.Io.KnownBytes.{Appends}
 use Rattle.byteorder.specs.Endian.{little_number}
 use Rattle.line_loop.specs.Run.{IsBeginning}
 use Rattle.seq_memory.specs.History.{bytes_of}
-use Rattle.history_check.specs.declared.Record.{Record}
-use Rattle.history_check.specs.declared.Record.TheVariants as records
-use Rattle.history_check.specs.TraceView.{TraceView}
-use Rattle.history_check.specs.Claim.{claim_of}
-use Rattle.history_check.specs.Trace.{Explains}
+use Rattle.history_words.specs.Records.{Record}
+use Rattle.history_words.specs.declared.record.RecordOf.TheVariants as records
+use Rattle.history_words.specs.TraceView.{TraceView}
+use Rattle.history_words.specs.Claim.{claim_of}
+use Rattle.history_words.specs.Trace.{Explains}
 use Rattle.fabric_laws.specs.Fabric.{Fabric}
 use Rattle.hall_laws.specs.Rule.{HasConfig}
 use Rattle.worker_report.specs.declared.halt.RunHalt.{RunHalt}

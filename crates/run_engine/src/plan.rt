@@ -1,7 +1,7 @@
 //! The plan of a counting.
 ghost use Rattle.std.specs.Prelude.{◌≡◌, IfOk, IfSome, map};
 ghost use Rattle.parameters.specs.Ranges.{IsCounting};
-ghost use Rattle.tlp_core.specs.declared.operation.Op.{Op};
+ghost use Rattle.tlp_core.specs.Ops.{Op};
 ghost use Rattle.run_engine.specs.Counting.{addition, script_of, scripts_of, config_of, IsPlanOf};
 
 use fabric_core::Config;

@@ -1,8 +1,8 @@
 //! What a counting came to, as text.
 ghost use Rattle.std.specs.Prelude.{◌≡◌, ◌≤◌, ◌+◌, ◌++◌, length, IfOk, IfErr, OnErr};
 ghost use Rattle.arrayvec.specs.ArrayString.{array_string_len};
-ghost use Rattle.history_check.specs.Claim.{claim_of};
-ghost use Rattle.history_check.specs.Trace.{Explains};
+ghost use Rattle.history_words.specs.Claim.{claim_of};
+ghost use Rattle.history_words.specs.Trace.{Explains};
 ghost use Rattle.hall_laws.specs.Rule.{HasConfig};
 ghost use Rattle.worker_report.specs.Halts.{IsOfMemory, IsEndBy};
 ghost use Rattle.workers.specs.Running.{AreDone};
@@ -14,7 +14,7 @@ use crate::plan::{plan_of, threads_of};
 use crate::progress::{Progress, watched};
 use arrayvec::ArrayString;
 use byteorder::{ByteOrder, LittleEndian};
-use history_check::Record;
+use history_words::Record;
 use line_loop::{EngineFault, write_out};
 use operation_text::write_decimal;
 use parameters::Counting;

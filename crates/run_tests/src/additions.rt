@@ -4,7 +4,7 @@ ghost use Rattle.std.specs.Prelude.{◌≡◌};
 use fabric_core::{Config, Refusal};
 use fault_plan::Plan;
 use fc_credit::LaneCredits;
-use history_check::Record;
+use history_words::Record;
 use requester_core::SubmitRefusal;
 use seq_memory::Reply;
 use std::alloc::{AllocError, Global};

@@ -11,7 +11,7 @@ use fabric_core::{Fabric, LaneName, Refusal};
 use hall_core::laws::take;
 use hall_core::{Hall, HallRefusal, Part, ReqSeat, WorkSeat};
 use hall_driving::drive::{read, small, write};
-use history_check::Record;
+use history_words::Record;
 use lane_core::LaneRefusal;
 use recorder::{Pusher, Recorder, Taker};
 use requester_core::SubmitRefusal;

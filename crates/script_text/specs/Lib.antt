@@ -3,4 +3,3 @@ pub mod Names
 pub mod Texts
 pub mod LineTexts
 pub mod Spelled
-pub mod Lent

@@ -1,8 +1,8 @@
 -- What lines of a script can tell, and that a text is such a line.
 use Rattle.std.specs.Prelude.{ℕ, ◌≡◌, ◌^◌, ◌<◌, ◌≤◌, false, List, length, Some}
 use Rattle.hex.specs.Hex.{IsBytes}
-use Rattle.tlp_core.specs.declared.operation.Op.{Op}
-use Rattle.tlp_core.specs.declared.operation.Op.TheVariants as ops
+use Rattle.tlp_core.specs.Ops.{Op}
+use Rattle.tlp_core.specs.declared.operation.OpOf.TheVariants as ops
 use Rattle.tlp_core.specs.declared.operation.Width.{Width}
 use Rattle.tlp_core.specs.Operation.{size_of}
 use Rattle.fabric_events.specs.declared.event.LaneName.{LaneName}

@@ -12,8 +12,8 @@ use Rattle.lane_ends.specs.declared.packet.Arrival.{Arrival}
 use Rattle.lane_ends.specs.declared.packet.Arrival.TheVariants as arrivals
 use Rattle.lane_ends.specs.declared.packet.DllpSeen.{DllpSeen}
 use Rattle.lane_ends.specs.declared.packet.DllpSeen.TheVariants as dllps_seen
-use Rattle.history_check.specs.declared.Record.{Record}
-use Rattle.history_check.specs.declared.Record.TheVariants as records
+use Rattle.history_words.specs.Records.{Record}
+use Rattle.history_words.specs.declared.record.RecordOf.TheVariants as records
 use Rattle.fabric_events.specs.Events.{Event, Seen}
 use Rattle.fabric_events.specs.declared.event.EventOf.TheVariants as events
 use Rattle.fabric_events.specs.declared.event.SeenOf.TheVariants as seen

@@ -5,10 +5,10 @@ ghost use Rattle.operation_text.specs.Words.{words_behind};
 ghost use Rattle.script_text.specs.Forms as forms;
 
 use crate::fields::{count, fate, kind, lane, octet};
-use fabric_core::{EventRef, OpLent};
-use operation_text::{Expected, Misfit, alone, op_behind_lent};
+use fabric_core::EventRef;
+use operation_text::{Expected, Misfit, alone, op_behind};
 use switch_core::REQUESTERS;
-use tlp_core::{MAX_PAYLOAD, Op};
+use tlp_core::MAX_PAYLOAD;
 
 /// A line behind the fabric's, by its first word.
 pub(crate) const EVENT: Expected = Expected::Of(
@@ -21,13 +21,15 @@ const REQUESTER: Expected = Expected::Between("a requester", 1, REQUESTERS as u6
 
 const POSITION: Expected = Expected::Of("a position", "0 or more");
 
-pub(crate) fn submit<'r>(rest: Option<&[u8]>, room: &'r mut Op) -> Result<EventRef<'r>, Misfit>
+pub(crate) fn submit<'r>(
+    rest: Option<&[u8]>,
+    room: &'r mut [u8; MAX_PAYLOAD],
+) -> Result<EventRef<'r>, Misfit>
     ensures { result_ok result ≡ forms.submit_of (words_behind rest.entry) }
 {
     let (port, rest) = octet(rest, REQUESTER)?;
-    let mut bytes = [0; MAX_PAYLOAD];
-    *room = op_behind_lent(rest, &mut bytes)?.to_owned();
-    Ok(EventRef::Submit(port, OpLent::new(room)))
+    let op = op_behind(rest, room)?;
+    Ok(EventRef::Submit(port, op))
 }
 
 pub(crate) fn transmit(rest: Option<&[u8]>) -> Result<EventRef<'static>, Misfit>
@@ -102,7 +104,7 @@ pub(crate) fn event_by<'r>(
     kind: &[u8],
     rest: Option<&[u8]>,
     text: &[u8],
-    room: &'r mut Op,
+    room: &'r mut [u8; MAX_PAYLOAD],
 ) -> Result<EventRef<'r>, Misfit>
     ensures { result_ok result ≡ forms.event_by kind.now (words_behind rest.entry) }
 {

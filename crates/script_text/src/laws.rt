@@ -1,5 +1,5 @@
 //! What is written is read back.
-ghost use Rattle.tlp_core.specs.declared.operation.Op.{Op};
+ghost use Rattle.tlp_core.specs.Ops.{Op};
 ghost use Rattle.fabric_core.specs.declared.config.Config.{Config};
 ghost use Rattle.fabric_events.specs.Events.{Event};
 ghost use Rattle.fabric_core.specs.Config.{IsConfig};

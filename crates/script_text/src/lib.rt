@@ -40,7 +40,7 @@ mod line_writing;
 mod names;
 mod writing;
 
-pub use line::{Line, LineForm, ROOM, read_line, read_line_lent, script_misfit};
+pub use line::{Line, read_line, script_misfit};
 pub use line_writing::{write_event, write_fabric};
 pub use names::{write_config_fault, write_refusal};
 pub use writing::{write_seen, write_settled, write_told};

@@ -3,88 +3,54 @@ ghost use Rattle.std.specs.Prelude.{◌≡◌, option_map};
 ghost use Rattle.std.specs.Result.{result_ok};
 ghost use Rattle.operation_text.specs.Words.{words, words_behind};
 ghost use Rattle.script_text.specs.Forms as forms;
-ghost use Rattle.script_text.specs.Lent.{owned_line};
 ghost use Rattle.script_text.specs.declared.line.Line.TheVariants as lines;
 
 use crate::events::{
     EVENT, collect, deliver, deliver_dllp, dllp, event_by, forward, serve, submit, transmit,
 };
 use crate::fabric::{FABRIC, fabric, misfit_of};
-use fabric_core::{Config, Event, EventRef};
+use fabric_core::{Config, EventRef};
 use operation_text::{Misfit, alone, cut};
-use tlp_core::Op;
+use tlp_core::MAX_PAYLOAD;
 
-/// What a line of a script asks for.
-#[derive(Debug, PartialEq, Drop)]
-pub enum Line {
+/// What a line of a script asks for: the operation of its event is lent.
+#[derive(Drop)]
+pub enum Line<'a> {
     /// A fabric is made.
     Fabric(Config),
     /// An event happens to it.
-    Event(Event),
+    Event(EventRef<'a>),
     /// It is run until nothing moves.
     Settle,
 }
 
-/// A [`Line`] whose operation is lent.
-#[derive(Drop)]
-pub enum LineForm<'a> {
-    /// See [`Line::Fabric`].
-    Fabric(Config),
-    /// See [`Line::Event`].
-    Event(EventRef<'a>),
-    /// See [`Line::Settle`].
-    Settle,
-}
-
-impl LineForm<'_> {
-    /// The line with an operation of its own. Takes no memory.
-    #[inline(always)]
-    pub fn to_owned(&self) -> Line
-        ensures { result ≡ owned_line self.now }
-    {
-        match self {
-            LineForm::Fabric(config) => Line::Fabric(*config),
-            LineForm::Event(event) => Line::Event(event.to_owned()),
-            LineForm::Settle => Line::Settle,
-        }
-    }
-}
-
-/// An operation in whose room that of a line may be put: a read of one DW.
-pub const ROOM: Op = Op::Read {
-    address: 0,
-    dw: 1,
-    first: 15,
-    last: 0,
-};
-
 /// The line that the text spells, whatever its first word is.
 #[inline(never)]
-fn any_line<'r>(text: &[u8], room: &'r mut Op) -> Result<LineForm<'r>, Misfit>
-    ensures value { option_map owned_line (result_ok result) ≡ forms.line_of (words text.now) }
+fn any_line<'r>(text: &[u8], room: &'r mut [u8; MAX_PAYLOAD]) -> Result<Line<'r>, Misfit>
+    ensures { result_ok result ≡ forms.line_of (words text.now) }
 {
     let (kind, rest) = cut(text);
     if kind == b"fabric".as_slice() {
-        return Ok(LineForm::Fabric(fabric(rest)?));
+        return Ok(Line::Fabric(fabric(rest)?));
     }
     if kind == b"settle".as_slice() {
-        return alone(LineForm::Settle, rest);
+        return alone(Line::Settle, rest);
     }
-    Ok(LineForm::Event(event_by(kind, rest, text, room)?))
+    Ok(Line::Event(event_by(kind, rest, text, room)?))
 }
 
 /// The line of an event.
 #[inline(always)]
-fn event_line<'r>(event: Result<EventRef<'r>, Misfit>) -> Result<LineForm<'r>, Misfit>
-    ensures { option_map owned_line (result_ok result) ≡ option_map lines.Event (result_ok event.entry) }
+fn event_line<'r>(event: Result<EventRef<'r>, Misfit>) -> Result<Line<'r>, Misfit>
+    ensures { result_ok result ≡ option_map lines.Event (result_ok event.entry) }
 {
-    Ok(LineForm::Event(event?))
+    Ok(Line::Event(event?))
 }
 
 /// The line that the text spells, that of a requester's event first.
 #[inline(always)]
-fn requester_line<'r>(text: &[u8], room: &'r mut Op) -> Result<LineForm<'r>, Misfit>
-    ensures value { option_map owned_line (result_ok result) ≡ forms.line_of (words text.now) }
+fn requester_line<'r>(text: &[u8], room: &'r mut [u8; MAX_PAYLOAD]) -> Result<Line<'r>, Misfit>
+    ensures { result_ok result ≡ forms.line_of (words text.now) }
 {
     match text {
         [b's', b'u', b'b', b'm', b'i', b't', b' ', rest @ ..] => event_line(submit(
@@ -100,8 +66,8 @@ fn requester_line<'r>(text: &[u8], room: &'r mut Op) -> Result<LineForm<'r>, Mis
 
 /// The line that the text spells, that of the switch's or the memory's event first.
 #[inline(always)]
-fn switch_line<'r>(text: &[u8], room: &'r mut Op) -> Result<LineForm<'r>, Misfit>
-    ensures value { option_map owned_line (result_ok result) ≡ forms.line_of (words text.now) }
+fn switch_line<'r>(text: &[u8], room: &'r mut [u8; MAX_PAYLOAD]) -> Result<Line<'r>, Misfit>
+    ensures { result_ok result ≡ forms.line_of (words text.now) }
 {
     match text {
         [b's', b'e', b'r', b'v', b'e', b' ', rest @ ..] => event_line(serve(Some(rest))),
@@ -114,8 +80,8 @@ fn switch_line<'r>(text: &[u8], room: &'r mut Op) -> Result<LineForm<'r>, Misfit
 
 /// The line that the text spells, that of a DLLP first.
 #[inline(always)]
-fn dllp_line<'r>(text: &[u8], room: &'r mut Op) -> Result<LineForm<'r>, Misfit>
-    ensures value { option_map owned_line (result_ok result) ≡ forms.line_of (words text.now) }
+fn dllp_line<'r>(text: &[u8], room: &'r mut [u8; MAX_PAYLOAD]) -> Result<Line<'r>, Misfit>
+    ensures { result_ok result ≡ forms.line_of (words text.now) }
 {
     match text {
         [b'd', b'l', b'l', b'p', b' ', rest @ ..] => event_line(dllp(Some(rest))),
@@ -139,9 +105,12 @@ fn dllp_line<'r>(text: &[u8], room: &'r mut Op) -> Result<LineForm<'r>, Misfit>
     }
 }
 
-/// As [`read_line`], but the operation of an event is put into the room, and lent from there.
-pub fn read_line_lent<'r>(text: &[u8], room: &'r mut Op) -> Result<LineForm<'r>, Misfit>
-    ensures value { option_map owned_line (result_ok result) ≡ forms.line_of (words text.now) }
+/// The line that the text spells, which is given without what ends it. If it has no known form, or a
+/// number is above the range of its field, the misfit says where and what was expected: the ranges of
+/// a configuration and the parts of a fabric are not looked at. The bytes of a write are put into the
+/// room, whose content doesn't count.
+pub fn read_line<'r>(text: &[u8], room: &'r mut [u8; MAX_PAYLOAD]) -> Result<Line<'r>, Misfit>
+    ensures { result_ok result ≡ forms.line_of (words text.now) }
 {
     match text {
         [b'd', b'e', b'l', b'i', b'v', b'e', b'r', b' ', rest @ ..] => event_line(deliver(Some(
@@ -163,17 +132,6 @@ pub fn read_line_lent<'r>(text: &[u8], room: &'r mut Op) -> Result<LineForm<'r>,
     }
 }
 
-/// The line that the text spells, which is given without what ends it. If it has no known form, or a
-/// number is above the range of its field, the misfit says where and what was expected: the ranges of
-/// a configuration and the parts of a fabric are not looked at.
-pub fn read_line(text: &[u8]) -> Result<Line, Misfit>
-    ensures { result_ok result ≡ forms.line_of (words text.now) }
-{
-    let mut room = ROOM;
-    let line = read_line_lent(text, &mut room)?;
-    Ok(line.to_owned())
-}
-
 /// Why a script's line says nothing that can be done: the first line makes a fabric, no later one does,
 /// and of the configuration that it tells there is a fabric. None if none of that is broken.
 pub fn script_misfit(text: &[u8], has_fabric: bool) -> Option<Misfit> {
@@ -182,10 +140,9 @@ pub fn script_misfit(text: &[u8], has_fabric: bool) -> Option<Misfit> {
         (true, true) => return Some(EVENT.at(Some(text))),
         _ => {}
     }
-    let mut room = ROOM;
-    match read_line_lent(text, &mut room) {
+    match read_line(text, &mut [0; MAX_PAYLOAD]) {
         Err(misfit) => Some(misfit),
-        Ok(LineForm::Fabric(config)) => misfit_of(text, &config),
+        Ok(Line::Fabric(config)) => misfit_of(text, &config),
         Ok(_) => None,
     }
 }

@@ -6,7 +6,7 @@ ghost use Rattle.script_text.specs.LineTexts.{lane_text, fate_text, kind_text, c
 use crate::writing::put_number;
 use arrayvec::ArrayString;
 use dllp_core::Class;
-use fabric_core::{Config, Event, LaneName};
+use fabric_core::{Config, EventRef, LaneName};
 use fc_credit::LaneCredits;
 use lane_core::{DllpKind, Fate};
 use operation_text::{write_hexadecimal, write_op};
@@ -65,38 +65,38 @@ fn put_kind(kind: DllpKind, out: &mut ArrayString<512>)
 }
 
 /// Adds the event's line, at most 352 bytes, without what ends it.
-pub fn write_event(event: &Event, out: &mut ArrayString<512>)
+pub fn write_event(event: &EventRef<'_>, out: &mut ArrayString<512>)
     requires { array_string_len out.old + 352 ≤ 512 }
     ensures text { out.new.bytes ≡ out.old.bytes ++ event_line event.now }
     ensures len { array_string_len out.new ≤ array_string_len out.old + 352 }
 {
     match event {
-        Event::Submit(port, op) => {
+        EventRef::Submit(port, op) => {
             put_number("submit ", u64::from(*port), out);
             out.push_str(" ");
             write_op(op, out);
         }
-        Event::Transmit(lane) => put_on_lane("transmit", *lane, out),
-        Event::Deliver(lane, fate) => {
+        EventRef::Transmit(lane) => put_on_lane("transmit", *lane, out),
+        EventRef::Deliver(lane, fate) => {
             put_on_lane("deliver", *lane, out);
             put_fate(*fate, out);
         }
-        Event::SendDllp(lane, kind) => {
+        EventRef::SendDllp(lane, kind) => {
             put_on_lane("dllp", *lane, out);
             put_kind(*kind, out);
         }
-        Event::DeliverDllp(lane, fate) => {
+        EventRef::DeliverDllp(lane, fate) => {
             put_on_lane("deliver-dllp", *lane, out);
             put_fate(*fate, out);
         }
-        Event::Timer(lane) => put_on_lane("timer", *lane, out),
-        Event::Retrained(lane) => put_on_lane("retrained", *lane, out),
-        Event::Forward(lane, place) => {
+        EventRef::Timer(lane) => put_on_lane("timer", *lane, out),
+        EventRef::Retrained(lane) => put_on_lane("retrained", *lane, out),
+        EventRef::Forward(lane, place) => {
             put_on_lane("forward", *lane, out);
             put_number(" ", *place as u64, out);
         }
-        Event::Serve(place) => put_number("serve ", *place as u64, out),
-        Event::Collect(port) => put_number("collect ", u64::from(*port), out),
+        EventRef::Serve(place) => put_number("serve ", *place as u64, out),
+        EventRef::Collect(port) => put_number("collect ", u64::from(*port), out),
     }
 }
 

@@ -7,7 +7,7 @@ ghost use Rattle.script_text.specs.Texts.{in_field, dllp_text, arrival_text, dll
 use arrayvec::ArrayString;
 use dllp_core::{Dllp, encode};
 use fabric_core::{EventRef, SeenRef};
-use history_check::Record;
+use history_words::Record;
 use lane_core::{Arrival, DllpSeen};
 use link_receiver::Reception;
 use operation_text::{write_bytes, write_decimal, write_reply, write_sequence};
@@ -109,7 +109,6 @@ pub fn write_seen(event: &EventRef<'_>, seen: &SeenRef<'_>, out: &mut ArrayStrin
         SeenRef::At(index) => put_number("at ", *index as u64, out),
         SeenRef::Collected(answer) => {
             put_number("ans ", u64::from(port(event)), out);
-            let answer = answer.get();
             put_number(" ", u64::from(answer.number), out);
             out.push_str(" ");
             write_reply(&answer.reply, out);
@@ -141,7 +140,7 @@ pub fn write_told(told: &Record, out: &mut ArrayString<512>)
             put_number("ans ", u64::from(*requester), out);
             put_number(" ", u64::from(*number), out);
             out.push_str(" ");
-            write_reply(reply, out);
+            write_reply(&reply.lend(), out);
         }
     }
 }

@@ -1,9 +1,9 @@
 -- Requests that may act in parts.
 use Rattle.std.specs.Prelude.{ℕ, ◌<◌, List}
-use Rattle.tlp_core.specs.declared.operation.Op.{Op}
-use Rattle.tlp_core.specs.declared.operation.Op.TheVariants as ops
+use Rattle.tlp_core.specs.Ops.{Op}
+use Rattle.tlp_core.specs.declared.operation.OpOf.TheVariants as ops
 use Rattle.tlp_core.specs.Operation.{count_of}
-use Rattle.history_check.specs.declared.Record.{Record}
+use Rattle.history_words.specs.Records.{Record}
 use Rattle.log_requests.specs.Asked.{IsSubmitted}
 
 -- a read or a write of several DW

@@ -210,7 +210,8 @@ fn look(
     c: usize,
 ) -> Result<(), AllocError>
     requires { IsPlace log.now place.now }
-    ensures { OnOk result ((due : List ℕ) (p : List ℕ) → Offers log.now place.now.state due steps.old.items p → Offers log.now place.now.state due steps.new.items (p ++ b ∷ [])) }
+    ensures { OnOk result ((due : List ℕ) (p : List ℕ) → Offers log.now place.now.state due steps.old.items p →
+        Offers log.now place.now.state due steps.new.items (p ++ b ∷ [])) }
 {
     if place.waits_for(log, b, c) {
         return Ok(());
@@ -232,7 +233,8 @@ fn offer(
 ) -> Result<(), AllocError>
     requires place { IsPlace scene.log.now scene.place.now }
     requires others { AreOthers scene.log.now scene.others.now }
-    ensures { OnOk result ((p : List ℕ) → Offers scene.entry.log.now scene.entry.place.now.state scene.entry.others.now.due steps.old.items p → Offers scene.entry.log.now scene.entry.place.now.state scene.entry.others.now.due steps.new.items (p ++ b ∷ [])) }
+    ensures { OnOk result ((p : List ℕ) → Offers scene.entry.log.now scene.entry.place.now.state scene.entry.others.now.due steps.old.items p →
+        Offers scene.entry.log.now scene.entry.place.now.state scene.entry.others.now.due steps.new.items (p ++ b ∷ [])) }
 {
     let Scene { log, others, place } = scene;
     if is_preceded(place, log, others, links, b) {
@@ -277,7 +279,8 @@ fn is_open(scene: Scene<'_, '_, '_, '_>, links: &Links, b: usize, write: usize) 
     requires place { IsPlace scene.log.now scene.place.now }
     requires others { AreOthers scene.log.now scene.others.now }
     ensures yes { IsTrue result → MayAct scene.entry.log.now scene.entry.place.now.state b }
-    ensures no { result ≡ false → MayAct scene.entry.log.now scene.entry.place.now.state b → IsPreceded scene.entry.log.now scene.entry.place.now.state scene.entry.others.now.due b }
+    ensures no { result ≡ false → MayAct scene.entry.log.now scene.entry.place.now.state b →
+        IsPreceded scene.entry.log.now scene.entry.place.now.state scene.entry.others.now.due b }
 {
     let Scene { log, others, place } = scene;
     if !may_act(log, place, b, write) {

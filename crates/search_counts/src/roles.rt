@@ -38,7 +38,8 @@ fn is_atomic(op: &Op) -> bool
 /// AtomicOps at the same bytes that were answered the same data: wherever the memory answers the one so, it
 /// answers the other so, if it is served.
 fn finds_alike(one: &Op, told: &Reply, other: &Op, asked: &Reply) -> bool
-    ensures { IsTrue result → (base block : ℕ) (m : List ℕ) → refusal base (length m) block other.now ≡ None → answer base block m one.now ≡ told.now → answer base block m other.now ≡ asked.now }
+    ensures { IsTrue result → (base block : ℕ) (m : List ℕ) → refusal base (length m) block other.now ≡ None → answer base block m one.now ≡ told.now →
+        answer base block m other.now ≡ asked.now }
 {
     let Reply::Data(old) = told else {
         return false;
@@ -63,8 +64,10 @@ fn finds_alike(one: &Op, told: &Reply, other: &Op, asked: &Reply) -> bool
 
 /// The operation finds what request `q` found, by the replies, and takes it away.
 fn takes_by(log: &Log, one: &Op, told: Option<&Reply>, other: &Op, asked: Option<&Reply>) -> bool
-    ensures finds { IsTrue result → (m : List ℕ) → length m ≡ log.now.extent.size → Answers log.now.extent m one.now (told_of told.entry) → Answers log.now.extent m other.now (told_of asked.entry) }
-    ensures leaves { IsTrue result → (m : List ℕ) → length m ≡ log.now.extent.size → Answers log.now.extent m one.now (told_of told.entry) → Answers log.now.extent (bytes_after log.now.extent m one.now) other.now (told_of asked.entry) → ⊥ }
+    ensures finds { IsTrue result → (m : List ℕ) → length m ≡ log.now.extent.size → Answers log.now.extent m one.now (told_of told.entry) →
+        Answers log.now.extent m other.now (told_of asked.entry) }
+    ensures leaves { IsTrue result → (m : List ℕ) → length m ≡ log.now.extent.size → Answers log.now.extent m one.now (told_of told.entry) →
+        Answers log.now.extent (bytes_after log.now.extent m one.now) other.now (told_of asked.entry) → ⊥ }
 {
     let Some(seen) = told else {
         return false;
@@ -86,8 +89,10 @@ fn takes_by(log: &Log, one: &Op, told: Option<&Reply>, other: &Op, asked: Option
 
 /// The operation finds what request `q` found, and takes it away.
 fn takes_from(log: &Log, one: &Op, told: Option<&Reply>, q: usize) -> bool
-    ensures finds { IsTrue result → (m : List ℕ) → length m ≡ log.now.extent.size → Answers log.now.extent m one.now (told_of told.entry) → Suits log.now.extent m (slice_get log.now.events q) }
-    ensures leaves { IsTrue result → (m : List ℕ) → length m ≡ log.now.extent.size → Answers log.now.extent m one.now (told_of told.entry) → Suits log.now.extent (bytes_after log.now.extent m one.now) (slice_get log.now.events q) → ⊥ }
+    ensures finds { IsTrue result → (m : List ℕ) → length m ≡ log.now.extent.size → Answers log.now.extent m one.now (told_of told.entry) →
+        Suits log.now.extent m (slice_get log.now.events q) }
+    ensures leaves { IsTrue result → (m : List ℕ) → length m ≡ log.now.extent.size → Answers log.now.extent m one.now (told_of told.entry) →
+        Suits log.now.extent (bytes_after log.now.extent m one.now) (slice_get log.now.events q) → ⊥ }
 {
     match log.event(q) {
         Some(Event::Sub { op, reply, .. }) => takes_by(log, one, told, op, reply),
@@ -97,8 +102,10 @@ fn takes_from(log: &Log, one: &Op, told: Option<&Reply>, q: usize) -> bool
 
 /// Request `b` finds what request `q` found, and takes it away.
 fn takes(log: &Log, b: usize, q: usize) -> bool
-    ensures finds { IsTrue result → (m : List ℕ) → length m ≡ log.now.extent.size → Suits log.now.extent m (slice_get log.now.events b) → Suits log.now.extent m (slice_get log.now.events q) }
-    ensures leaves { IsTrue result → (m : List ℕ) → length m ≡ log.now.extent.size → Suits log.now.extent m (slice_get log.now.events b) → Suits log.now.extent (acted_on log.now.extent m (slice_get log.now.events b)) (slice_get log.now.events q) → ⊥ }
+    ensures finds { IsTrue result → (m : List ℕ) → length m ≡ log.now.extent.size → Suits log.now.extent m (slice_get log.now.events b) →
+        Suits log.now.extent m (slice_get log.now.events q) }
+    ensures leaves { IsTrue result → (m : List ℕ) → length m ≡ log.now.extent.size → Suits log.now.extent m (slice_get log.now.events b) →
+        Suits log.now.extent (acted_on log.now.extent m (slice_get log.now.events b)) (slice_get log.now.events q) → ⊥ }
 {
     match log.event(b) {
         Some(Event::Sub { op, reply, .. }) => takes_from(log, op, reply, q),

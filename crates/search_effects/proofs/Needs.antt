@@ -1,12 +1,12 @@
 -- The bytes that a reply needs.
 use Rattle.std.proofs.Common.{◌≡◌, ◌∙◌, ℕ, ◌+◌, ◌-◌, ◌*◌, ◌<◌, true, List, length, get_or, replicate, sym, ap, subst, arith}
 use Rattle.std.specs.Prelude.{slice_index}
-use Rattle.tlp_core.specs.declared.operation.Op.{Op}
-use Rattle.tlp_core.specs.declared.operation.Op.TheVariants as ops
+use Rattle.tlp_core.specs.Ops.{Op}
+use Rattle.tlp_core.specs.declared.operation.OpOf.TheVariants as ops
 use Rattle.tlp_core.specs.Enables.{enables}
 use Rattle.tlp_core.specs.Operation.{address_of, count_of}
 use Rattle.arrayvec.specs.ArrayVec.{ArrayVec}
-use Rattle.seq_memory.specs.declared.Reply.TheVariants as replies
+use Rattle.seq_memory.specs.declared.reply.ReplyOf.TheVariants as replies
 use Rattle.seq_memory.specs.Step.{merged, bytes_at, read_back, answer, refusal, data_of}
 use Rattle.search_effects.specs.Effects.{is_needed}
 use Rattle.search_effects.proofs.Places.{data_served, byte_there, length_most, merged_enabled, merged_shorter}

@@ -2,7 +2,7 @@
 ghost use Rattle.std.specs.Prelude.{◌≡◌, ◌+◌, ◌<◌, ◌≤◌, ℕ, true, None, List, length, IsTrue};
 ghost use Rattle.arrayvec.specs.ArrayVec.{ArrayVec};
 ghost use Rattle.tlp_core.specs.Operation.{address_of, count_of};
-ghost use Rattle.tlp_core.specs.declared.operation.Op.TheVariants as ops;
+ghost use Rattle.tlp_core.specs.declared.operation.OpOf.TheVariants as ops;
 ghost use Rattle.seq_memory.specs.Step.{refusal, after};
 ghost use Rattle.search_effects.specs.Effects as effects;
 ghost use Rattle.search_effects.specs.Effects.{AreSameBut};
@@ -42,7 +42,8 @@ pub fn spans(one: &Op, other: &Op) -> bool
 /// The first is a write of all bytes of the second: where it is served, it makes no difference what
 /// stood there.
 pub fn covers(one: &Op, other: &Op) -> bool
-    ensures { IsTrue result → (base block : ℕ) (m n : List ℕ) → refusal base (length m) block one.now ≡ None → AreSameBut base other.now m n → after base block n one.now ≡ after base block m one.now }
+    ensures { IsTrue result → (base block : ℕ) (m n : List ℕ) → refusal base (length m) block one.now ≡ None → AreSameBut base other.now m n →
+        after base block n one.now ≡ after base block m one.now }
 {
     only_the_place_changes();
     if !is_write(one) {

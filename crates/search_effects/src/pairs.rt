@@ -2,7 +2,7 @@
 ghost use Rattle.std.specs.Prelude.{◌≡◌, ◌+◌, ◌<◌, ◌≢◌, ◌⊎◌, ℕ, true, None, Some, List, length, IsTrue, slice_index};
 ghost use Rattle.tlp_core.specs.Operation.{address_of, count_of};
 ghost use Rattle.seq_memory.specs.Limits.{IsBlock};
-ghost use Rattle.seq_memory.specs.declared.Reply.TheVariants as replies;
+ghost use Rattle.seq_memory.specs.declared.reply.ReplyOf.TheVariants as replies;
 ghost use Rattle.seq_memory.specs.Step.{refusal, after, answer};
 ghost use Rattle.search_effects.specs.Effects as effects;
 ghost use Rattle.search_effects.specs.Effects.{Agrees, AreSameAt, told_of};
@@ -16,7 +16,9 @@ use tlp_core::Op;
 
 /// The first operation puts another byte at the place of the second than the second needs.
 fn puts_other(one: &Op, new: &[u8], other: &Op, need: &[u8], at: usize) -> bool
-    ensures { IsTrue result → (i : ℕ) × (address_of one.now + i ≡ address_of other.now + at) × (i < length new.now) × (effects.is_put one.now i ≡ true) × (at < length need.now) × (effects.is_needed other.now at ≡ true) × (slice_index new.now i ≢ slice_index need.now at) × (i < count_of one.now) }
+    ensures { IsTrue result →
+        (i : ℕ) × (address_of one.now + i ≡ address_of other.now + at) × (i < length new.now) × (effects.is_put one.now i ≡ true) × (at < length need.now) ×
+        (effects.is_needed other.now at ≡ true) × (slice_index new.now i ≢ slice_index need.now at) × (i < count_of one.now) }
 {
     let Some(i) = place_in(one, other, at) else {
         return false;
@@ -31,7 +33,9 @@ fn puts_other(one: &Op, new: &[u8], other: &Op, need: &[u8], at: usize) -> bool
 
 /// It does so at some place.
 fn some_put_other(one: &Op, new: &[u8], other: &Op, need: &[u8]) -> bool
-    ensures { IsTrue result → (at : ℕ) × (i : ℕ) × (address_of one.now + i ≡ address_of other.now + at) × (i < length new.now) × (effects.is_put one.now i ≡ true) × (at < length need.now) × (effects.is_needed other.now at ≡ true) × (slice_index new.now i ≢ slice_index need.now at) × (i < count_of one.now) }
+    ensures { IsTrue result →
+        (at : ℕ) × (i : ℕ) × (address_of one.now + i ≡ address_of other.now + at) × (i < length new.now) × (effects.is_put one.now i ≡ true) ×
+        (at < length need.now) × (effects.is_needed other.now at ≡ true) × (slice_index new.now i ≢ slice_index need.now at) × (i < count_of one.now) }
 {
     for at in 0..need.len() {
         if puts_other(one, new, other, need, at) {
@@ -45,7 +49,8 @@ fn some_put_other(one: &Op, new: &[u8], other: &Op, need: &[u8]) -> bool
 /// `reply` to `other` while the bytes in the range of `one` are as it left them.
 pub fn breaks(block: u16, one: &Op, told: Option<&Reply>, other: &Op, reply: &Reply) -> bool
     requires { IsBlock block }
-    ensures { IsTrue result → (base : ℕ) (m n : List ℕ) → refusal base (length m) block one.now ≡ None → Agrees base block m one.now (told_of told.entry) → AreSameAt base one.now (after base block m one.now) n → answer base block n other.now ≡ reply.now → ⊥ }
+    ensures { IsTrue result → (base : ℕ) (m n : List ℕ) → refusal base (length m) block one.now ≡ None → Agrees base block m one.now (told_of told.entry) →
+        AreSameAt base one.now (after base block m one.now) n → answer base block n other.now ≡ reply.now → ⊥ }
 {
     what_is_needed_is_there();
     let Reply::Data(need) = reply else {
@@ -57,7 +62,9 @@ pub fn breaks(block: u16, one: &Op, told: Option<&Reply>, other: &Op, reply: &Re
 
 /// The operations need different bytes at that place of the second.
 fn needs_other(one: &Op, old: &[u8], other: &Op, need: &[u8], at: usize) -> bool
-    ensures { IsTrue result → (i : ℕ) × (address_of one.now + i ≡ address_of other.now + at) × (i < length old.now) × (effects.is_needed one.now i ≡ true) × (at < length need.now) × (effects.is_needed other.now at ≡ true) × (slice_index old.now i ≢ slice_index need.now at) }
+    ensures { IsTrue result →
+        (i : ℕ) × (address_of one.now + i ≡ address_of other.now + at) × (i < length old.now) × (effects.is_needed one.now i ≡ true) ×
+        (at < length need.now) × (effects.is_needed other.now at ≡ true) × (slice_index old.now i ≢ slice_index need.now at) }
 {
     let Some(i) = place_in(one, other, at) else {
         return false;
@@ -71,7 +78,9 @@ fn needs_other(one: &Op, old: &[u8], other: &Op, need: &[u8], at: usize) -> bool
 
 /// They do so at some place.
 fn some_need_other(one: &Op, old: &[u8], other: &Op, need: &[u8]) -> bool
-    ensures { IsTrue result → (at : ℕ) × (i : ℕ) × (address_of one.now + i ≡ address_of other.now + at) × (i < length old.now) × (effects.is_needed one.now i ≡ true) × (at < length need.now) × (effects.is_needed other.now at ≡ true) × (slice_index old.now i ≢ slice_index need.now at) }
+    ensures { IsTrue result →
+        (at : ℕ) × (i : ℕ) × (address_of one.now + i ≡ address_of other.now + at) × (i < length old.now) × (effects.is_needed one.now i ≡ true) ×
+        (at < length need.now) × (effects.is_needed other.now at ≡ true) × (slice_index old.now i ≢ slice_index need.now at) }
 {
     for at in 0..need.len() {
         if needs_other(one, old, other, need, at) {
@@ -99,7 +108,8 @@ pub fn clashes(one: &Op, told: &Reply, other: &Op, reply: &Reply) -> bool
 /// only if it did before.
 pub fn never_brings(block: u16, one: &Op, told: Option<&Reply>, other: &Op, reply: &Reply) -> bool
     requires { IsBlock block }
-    ensures { IsTrue result → (base : ℕ) (m : List ℕ) → Agrees base block m one.now (told_of told.entry) → answer base block (after base block m one.now) other.now ≡ reply.now → answer base block m other.now ≡ reply.now }
+    ensures { IsTrue result → (base : ℕ) (m : List ℕ) → Agrees base block m one.now (told_of told.entry) →
+        answer base block (after base block m one.now) other.now ≡ reply.now → answer base block m other.now ≡ reply.now }
 {
     apart_requests_commute();
     refused_and_read_change_nothing();
@@ -114,7 +124,9 @@ pub fn never_brings(block: u16, one: &Op, told: Option<&Reply>, other: &Op, repl
 
 /// The read wasn't answered, or no bytes give both replies.
 fn read_yields(one: &Op, told: Option<&Reply>, other: &Op, reply: &Reply) -> bool
-    ensures { IsTrue result → (told_of told.entry ≡ None) ⊎ ((base block : ℕ) (m : List ℕ) → Agrees base block m one.now (told_of told.entry) → answer base block m other.now ≡ reply.now → ⊥) }
+    ensures { IsTrue result →
+        (told_of told.entry ≡ None) ⊎
+        ((base block : ℕ) (m : List ℕ) → Agrees base block m one.now (told_of told.entry) → answer base block m other.now ≡ reply.now → ⊥) }
 {
     match told {
         None => true,
@@ -147,8 +159,13 @@ fn was_refused(told: Option<&Reply>) -> bool
 /// after `one`, or their order makes no difference.
 pub fn yields(block: u16, one: &Op, told: Option<&Reply>, other: &Op, reply: &Reply) -> bool
     requires { IsBlock block }
-    ensures brings { IsTrue result → (base : ℕ) (m : List ℕ) → Agrees base block m one.now (told_of told.entry) → answer base block (after base block m one.now) other.now ≡ reply.now → answer base block m other.now ≡ reply.now }
-    ensures order { IsTrue result → (base : ℕ) (m : List ℕ) → Agrees base block m one.now (told_of told.entry) → answer base block m other.now ≡ reply.now → (answer base block (after base block m one.now) other.now ≡ reply.now → ⊥) ⊎ ((answer base block (after base block m one.now) other.now ≡ reply.now) × Agrees base block (after base block m other.now) one.now (told_of told.entry) × (after base block (after base block m one.now) other.now ≡ after base block (after base block m other.now) one.now)) }
+    ensures brings { IsTrue result → (base : ℕ) (m : List ℕ) → Agrees base block m one.now (told_of told.entry) →
+        answer base block (after base block m one.now) other.now ≡ reply.now → answer base block m other.now ≡ reply.now }
+    ensures order { IsTrue result → (base : ℕ) (m : List ℕ) → Agrees base block m one.now (told_of told.entry) → answer base block m other.now ≡ reply.now →
+        (answer base block (after base block m one.now) other.now ≡ reply.now → ⊥) ⊎
+        ((answer base block (after base block m one.now) other.now ≡ reply.now) ×
+        Agrees base block (after base block m other.now) one.now (told_of told.entry) ×
+        (after base block (after base block m one.now) other.now ≡ after base block (after base block m other.now) one.now)) }
 {
     apart_requests_commute();
     only_the_place_changes();

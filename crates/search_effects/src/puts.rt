@@ -1,38 +1,26 @@
 //! What a request leaves.
 ghost use Rattle.std.specs.Prelude.{◌≡◌, ◌≢◌, ◌+◌, ◌-◌, ◌<◌, ◌≤◌, ◌⊎◌, ℕ, true, None, IfNone, IfSome, List, length, IsTrue, slice_index};
-ghost use Rattle.arrayvec.specs.ArrayVec.{array_vec_len};
 ghost use Rattle.tlp_core.specs.Operation.{address_of, count_of, size_of};
 ghost use Rattle.seq_memory.specs.Limits.{IsBlock};
-ghost use Rattle.seq_memory.specs.declared.Reply.TheVariants as replies;
-ghost use Rattle.tlp_core.specs.declared.operation.Op.TheVariants as ops;
+ghost use Rattle.seq_memory.specs.declared.reply.ReplyOf.TheVariants as replies;
+ghost use Rattle.tlp_core.specs.declared.operation.OpOf.TheVariants as ops;
 ghost use Rattle.seq_memory.specs.Step.{refusal, after, answer};
 ghost use Rattle.search_effects.specs.Effects as effects;
 ghost use Rattle.search_effects.specs.Effects.{Agrees, told_of};
 
 use crate::laws::what_is_not_put_stays;
 use crate::ranges::is_put;
-use arrayvec::ArrayVec;
 use seq_memory::laws::{only_the_place_changes, refused_and_read_change_nothing};
 use seq_memory::{Reply, perform};
-use tlp_core::{MAX_PAYLOAD, Op, Width};
-
-/// The bytes as data.
-fn copy_of(bytes: &[u8]) -> ArrayVec<u8, MAX_PAYLOAD>
-    requires { length bytes.now ≤ 128 }
-    ensures items { result.items ≡ bytes.now }
-{
-    let mut copy = ArrayVec::new();
-    let _ = copy.try_extend_from_slice(bytes);
-    copy
-}
+use tlp_core::{Op, Payload, Width, payload_of};
 
 /// What an operation leaves of the bytes at its place.
-fn changed(block: u16, op: &Op, old: &[u8]) -> ArrayVec<u8, MAX_PAYLOAD>
+fn changed(block: u16, op: &Op, old: &[u8]) -> Payload
     requires block { IsBlock block }
     requires few { length old.now ≤ 128 }
     ensures { result.items ≡ after (address_of op.now) block old.now op.now }
 {
-    let mut new = copy_of(old);
+    let mut new = payload_of(old);
     let _ = perform(op.address(), block, new.as_mut_slice(), op);
     new
 }
@@ -47,30 +35,33 @@ fn is_atomic(op: &Op) -> bool
 }
 
 /// What an AtomicOp leaves where it was answered with those bytes.
-fn left_by_atomic(block: u16, op: &Op, old: &ArrayVec<u8, MAX_PAYLOAD>) -> ArrayVec<u8, MAX_PAYLOAD>
+fn left_by_atomic(block: u16, op: &Op, old: &Payload) -> Payload
     requires { IsBlock block }
-    ensures { (base at : ℕ) (m : List ℕ) → at < length result.items → refusal base (length m) block op.now ≡ None → answer base block m op.now ≡ replies.Data old.now → slice_index (after base block m op.now) (address_of op.now - base + at) ≡ slice_index result.items at }
+    ensures { (base at : ℕ) (m : List ℕ) → at < length result.items → refusal base (length m) block op.now ≡ None →
+        answer base block m op.now ≡ replies.Data old.now →
+        slice_index (after base block m op.now) (address_of op.now - base + at) ≡ slice_index result.items at }
 {
     only_the_place_changes();
     if !is_atomic(op) {
-        return ArrayVec::new();
+        return Payload::new();
     }
     changed(block, op, old.as_slice())
 }
 
 /// As many zeros as an operand has bytes.
-fn zeros(width: Width) -> ArrayVec<u8, MAX_PAYLOAD>
+fn zeros(width: Width) -> Payload
     ensures { length result.items ≡ size_of width }
 {
     let zeros = [0u8; 16];
-    copy_of(&zeros[..usize::from(width.size())])
+    payload_of(&zeros[..usize::from(width.size())])
 }
 
 /// What a Swap leaves, whatever it meets.
-fn left_by_swap(block: u16, op: &Op, width: Width) -> ArrayVec<u8, MAX_PAYLOAD>
+fn left_by_swap(block: u16, op: &Op, width: Width) -> Payload
     requires block { IsBlock block }
     requires swap { (a : ℕ) × (x : ℕ) × (op.now ≡ ops.Swap a width x) }
-    ensures { (base at : ℕ) (m : List ℕ) → at < length result.items → refusal base (length m) block op.now ≡ None → slice_index (after base block m op.now) (address_of op.now - base + at) ≡ slice_index result.items at }
+    ensures { (base at : ℕ) (m : List ℕ) → at < length result.items → refusal base (length m) block op.now ≡ None →
+        slice_index (after base block m op.now) (address_of op.now - base + at) ≡ slice_index result.items at }
 {
     only_the_place_changes();
     let zeros = zeros(width);
@@ -78,34 +69,38 @@ fn left_by_swap(block: u16, op: &Op, width: Width) -> ArrayVec<u8, MAX_PAYLOAD>
 }
 
 /// What a request leaves, if that is the same whatever it meets: a write or a Swap.
-fn left_by_write(block: u16, op: &Op) -> ArrayVec<u8, MAX_PAYLOAD>
+fn left_by_write(block: u16, op: &Op) -> Payload
     requires { IsBlock block }
-    ensures { (base at : ℕ) (m : List ℕ) → at < length result.items → effects.is_put op.now at ≡ true → refusal base (length m) block op.now ≡ None → slice_index (after base block m op.now) (address_of op.now - base + at) ≡ slice_index result.items at }
+    ensures { (base at : ℕ) (m : List ℕ) → at < length result.items → effects.is_put op.now at ≡ true → refusal base (length m) block op.now ≡ None →
+        slice_index (after base block m op.now) (address_of op.now - base + at) ≡ slice_index result.items at }
 {
     only_the_place_changes();
     match op {
-        Op::Write { bytes, .. } => copy_of(bytes.as_slice()),
+        Op::Write { bytes, .. } => payload_of(bytes.as_slice()),
         Op::Swap { width, .. } => left_by_swap(block, op, *width),
-        _ => ArrayVec::new(),
+        _ => Payload::new(),
     }
 }
 
 /// What a request leaves that was answered so.
-fn left_by_reply(block: u16, op: &Op, reply: &Reply) -> ArrayVec<u8, MAX_PAYLOAD>
+fn left_by_reply(block: u16, op: &Op, reply: &Reply) -> Payload
     requires { IsBlock block }
-    ensures { (base at : ℕ) (m : List ℕ) → at < length result.items → effects.is_put op.now at ≡ true → refusal base (length m) block op.now ≡ None → answer base block m op.now ≡ reply.now → slice_index (after base block m op.now) (address_of op.now - base + at) ≡ slice_index result.items at }
+    ensures { (base at : ℕ) (m : List ℕ) → at < length result.items → effects.is_put op.now at ≡ true → refusal base (length m) block op.now ≡ None →
+        answer base block m op.now ≡ reply.now → slice_index (after base block m op.now) (address_of op.now - base + at) ≡ slice_index result.items at }
 {
     match reply {
         Reply::Data(old) => left_by_atomic(block, op, old),
-        _ => ArrayVec::new(),
+        _ => Payload::new(),
     }
 }
 
 /// The bytes in the request's range right after it acted, where it writes them, if that is known by
 /// what it was answered; else nothing.
-pub fn left(block: u16, op: &Op, told: Option<&Reply>) -> ArrayVec<u8, MAX_PAYLOAD>
+pub fn left(block: u16, op: &Op, told: Option<&Reply>) -> Payload
     requires { IsBlock block }
-    ensures { (base at : ℕ) (m : List ℕ) → at < length result.items → effects.is_put op.now at ≡ true → refusal base (length m) block op.now ≡ None → Agrees base block m op.now (told_of told.entry) → slice_index (after base block m op.now) (address_of op.now - base + at) ≡ slice_index result.items at }
+    ensures { (base at : ℕ) (m : List ℕ) → at < length result.items → effects.is_put op.now at ≡ true → refusal base (length m) block op.now ≡ None →
+        Agrees base block m op.now (told_of told.entry) →
+        slice_index (after base block m op.now) (address_of op.now - base + at) ≡ slice_index result.items at }
 {
     match told {
         Some(reply) => left_by_reply(block, op, reply),
@@ -114,7 +109,7 @@ pub fn left(block: u16, op: &Op, told: Option<&Reply>) -> ArrayVec<u8, MAX_PAYLO
 }
 
 /// The AtomicOp, which was answered with those bytes, leaves them.
-fn is_kept(block: u16, op: &Op, old: &ArrayVec<u8, MAX_PAYLOAD>) -> bool
+fn is_kept(block: u16, op: &Op, old: &Payload) -> bool
     requires { IsBlock block }
     ensures { IsTrue result → (base : ℕ) (m : List ℕ) → answer base block m op.now ≡ replies.Data old.now → after base block m op.now ≡ m }
 {
@@ -180,7 +175,8 @@ pub(crate) fn place_of(op: &Op, address: u64) -> Option<usize>
 /// Where the request has acted, which is served, another byte than `value` is at that place of its range.
 fn leaves_other(block: u16, op: &Op, told: Option<&Reply>, at: usize, value: u8) -> bool
     requires { IsBlock block }
-    ensures { IsTrue result → effects.is_put op.now at ≡ true → (base : ℕ) (m : List ℕ) → refusal base (length m) block op.now ≡ None → Agrees base block m op.now (told_of told.entry) → slice_index (after base block m op.now) (address_of op.now - base + at) ≢ value }
+    ensures { IsTrue result → effects.is_put op.now at ≡ true → (base : ℕ) (m : List ℕ) → refusal base (length m) block op.now ≡ None →
+        Agrees base block m op.now (told_of told.entry) → slice_index (after base block m op.now) (address_of op.now - base + at) ≢ value }
 {
     let new = left(block, op, told);
     at < new.len() && new[at] != value
@@ -190,7 +186,8 @@ fn leaves_other(block: u16, op: &Op, told: Option<&Reply>, at: usize, value: u8)
 /// only if it was before.
 pub fn never_puts(block: u16, op: &Op, told: Option<&Reply>, address: u64, value: u8) -> bool
     requires { IsBlock block }
-    ensures { IsTrue result → (base k : ℕ) (m : List ℕ) → base + k ≡ address → Agrees base block m op.now (told_of told.entry) → slice_index (after base block m op.now) k ≡ value → slice_index m k ≡ value }
+    ensures { IsTrue result → (base k : ℕ) (m : List ℕ) → base + k ≡ address → Agrees base block m op.now (told_of told.entry) →
+        slice_index (after base block m op.now) k ≡ value → slice_index m k ≡ value }
 {
     only_the_place_changes();
     refused_and_read_change_nothing();

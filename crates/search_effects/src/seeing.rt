@@ -2,7 +2,7 @@
 ghost use Rattle.std.specs.Prelude.{◌≡◌, ◌+◌, ◌<◌, ◌≤◌, ◌⊎◌, ℕ, true, false, List, length, IsTrue, slice_index};
 ghost use Rattle.arrayvec.specs.ArrayVec.{ArrayVec};
 ghost use Rattle.tlp_core.specs.Operation.{address_of, count_of};
-ghost use Rattle.seq_memory.specs.declared.Reply.TheVariants as replies;
+ghost use Rattle.seq_memory.specs.declared.reply.ReplyOf.TheVariants as replies;
 ghost use Rattle.seq_memory.specs.Step.{after, answer};
 ghost use Rattle.search_effects.specs.Effects as effects;
 ghost use Rattle.search_effects.specs.Effects.{AreSameBut};
@@ -15,7 +15,8 @@ use tlp_core::Op;
 /// The first operation needs the byte at that place of its range, and the second has it, as far as that
 /// is known.
 fn needs_there(one: &Op, other: &Op, at: usize) -> bool
-    ensures { result ≡ false → effects.is_needed one.now at ≡ true → (address_of one.now + at < address_of other.now) ⊎ (address_of other.now + count_of other.now ≤ address_of one.now + at) }
+    ensures { result ≡ false → effects.is_needed one.now at ≡ true →
+        (address_of one.now + at < address_of other.now) ⊎ (address_of other.now + count_of other.now ≤ address_of one.now + at) }
 {
     if !is_needed(one, at) {
         return false;
@@ -31,7 +32,8 @@ fn needs_there(one: &Op, other: &Op, at: usize) -> bool
 
 /// The first operation needs no byte of the second.
 fn needs_none(one: &Op, other: &Op) -> bool
-    ensures { IsTrue result → (at : ℕ) → at < count_of one.now → effects.is_needed one.now at ≡ true → (address_of one.now + at < address_of other.now) ⊎ (address_of other.now + count_of other.now ≤ address_of one.now + at) }
+    ensures { IsTrue result → (at : ℕ) → at < count_of one.now → effects.is_needed one.now at ≡ true →
+        (address_of one.now + at < address_of other.now) ⊎ (address_of other.now + count_of other.now ≤ address_of one.now + at) }
 {
     for at in 0..one.size() as usize {
         if needs_there(one, other, at) {
@@ -44,7 +46,8 @@ fn needs_none(one: &Op, other: &Op) -> bool
 /// The first is a read that needs no byte of the second: whatever stands there, it is answered the same.
 pub fn sees_none(one: &Op, other: &Op) -> bool
     ensures read { IsTrue result → (base block : ℕ) (m : List ℕ) → after base block m one.now ≡ m }
-    ensures answer { IsTrue result → (base block : ℕ) (m n : List ℕ) → AreSameBut base other.now m n → answer base block n one.now ≡ answer base block m one.now }
+    ensures answer { IsTrue result → (base block : ℕ) (m n : List ℕ) → AreSameBut base other.now m n →
+        answer base block n one.now ≡ answer base block m one.now }
 {
     refused_and_read_change_nothing();
     if !is_read(one) {

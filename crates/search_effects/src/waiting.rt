@@ -20,7 +20,11 @@ struct Answered<'a> {
 /// At place `at` of the first operation, which is in the second's range, stands another byte than the
 /// first needs.
 fn differs(base: u64, bytes: &[u8], first: Answered<'_>, other: &Op, at: usize) -> bool
-    ensures { IsTrue result → (base ≤ address_of first.entry.op.now) × (address_of other.now ≤ address_of first.entry.op.now + at) × (address_of first.entry.op.now + at < address_of other.now + count_of other.now) × (at < length first.entry.reply.now) × (effects.is_needed first.entry.op.now at ≡ true) × (slice_index bytes.now (address_of first.entry.op.now - base + at) ≢ slice_index first.entry.reply.now at) }
+    ensures { IsTrue result →
+        (base ≤ address_of first.entry.op.now) × (address_of other.now ≤ address_of first.entry.op.now + at) ×
+        (address_of first.entry.op.now + at < address_of other.now + count_of other.now) × (at < length first.entry.reply.now) ×
+        (effects.is_needed first.entry.op.now at ≡ true) ×
+        (slice_index bytes.now (address_of first.entry.op.now - base + at) ≢ slice_index first.entry.reply.now at) }
 {
     let Answered {
         op: one,
@@ -41,7 +45,11 @@ fn differs(base: u64, bytes: &[u8], first: Answered<'_>, other: &Op, at: usize) 
 
 /// It does so at some place.
 fn some_differs(base: u64, bytes: &[u8], first: Answered<'_>, other: &Op) -> bool
-    ensures { IsTrue result → (at : ℕ) × (base ≤ address_of first.entry.op.now) × (address_of other.now ≤ address_of first.entry.op.now + at) × (address_of first.entry.op.now + at < address_of other.now + count_of other.now) × (at < length first.entry.reply.now) × (effects.is_needed first.entry.op.now at ≡ true) × (slice_index bytes.now (address_of first.entry.op.now - base + at) ≢ slice_index first.entry.reply.now at) }
+    ensures { IsTrue result →
+        (at : ℕ) × (base ≤ address_of first.entry.op.now) × (address_of other.now ≤ address_of first.entry.op.now + at) ×
+        (address_of first.entry.op.now + at < address_of other.now + count_of other.now) × (at < length first.entry.reply.now) ×
+        (effects.is_needed first.entry.op.now at ≡ true) ×
+        (slice_index bytes.now (address_of first.entry.op.now - base + at) ≢ slice_index first.entry.reply.now at) }
 {
     for at in 0..first.reply.len() {
         if differs(base, bytes, first, other, at) {

@@ -1,6 +1,6 @@
 -- What is answered with status 0 is found.
 use Rattle.std.proofs.Common.{◌≡◌, ℕ, Bool, List, refl, arith, inl, inr, Result, Ok, Err}
-use Rattle.history_check.specs.TraceView.{TraceView}
+use Rattle.history_words.specs.TraceView.{TraceView}
 use Rattle.record_text.specs.declared.fault.ReadFault.{ReadFault}
 use Rattle.log_pieces.specs.declared.Granularity.{Granularity}
 use Rattle.log_pieces.specs.InPieces.{in_pieces}

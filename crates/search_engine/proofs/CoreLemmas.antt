@@ -1,6 +1,6 @@
 -- A log of few answers in place of `none`.
 use Rattle.std.proofs.Common.{◌≡◌, ℕ, Bool, true, false, List, refl, inl, inr, Result, Ok, Err}
-use Rattle.history_check.specs.TraceView.{TraceView}
+use Rattle.history_words.specs.TraceView.{TraceView}
 use Rattle.record_text.specs.declared.fault.ReadFault.{ReadFault}
 use Rattle.log_pieces.specs.declared.Granularity.{Granularity}
 use Rattle.search_run.specs.declared.exploring.Bounds.{Bounds}

@@ -2,13 +2,13 @@
 use Rattle.std.proofs.Common.{◌≡◌, ◌∙◌, ap, refl, sym, subst, true, false, ℕ, ◌<◌, List, length, get_or, take}
 use Rattle.std.specs.List.{list_any}
 use Rattle.std.proofs.lemmas.Option.{slice_get_within, get_or_from_slice_get}
-use Rattle.history_check.specs.TraceView.{TraceView}
-use Rattle.seq_memory.specs.declared.Reply.{Reply}
-use Rattle.history_check.specs.declared.Record.{Record}
-use Rattle.history_check.specs.declared.Record.TheVariants as records
-use Rattle.history_check.specs.declared.flaws.FlawKind.{FlawKind}
-use Rattle.history_check.specs.declared.flaws.FlawKind.TheVariants as flaws
-use Rattle.history_check.specs.Trace.{answers_to}
+use Rattle.history_words.specs.TraceView.{TraceView}
+use Rattle.seq_memory.specs.Entries.{Reply}
+use Rattle.history_words.specs.Records.{Record}
+use Rattle.history_words.specs.declared.record.RecordOf.TheVariants as records
+use Rattle.history_words.specs.declared.flaws.FlawKind.{FlawKind}
+use Rattle.history_words.specs.declared.flaws.FlawKind.TheVariants as flaws
+use Rattle.history_words.specs.Trace.{answers_to}
 use Rattle.log_events.specs.Formed.{AreFormed, MisformedAt}
 use Rattle.log_pieces.specs.declared.Granularity.{Granularity}
 use Rattle.search_run.specs.declared.exploring.Bounds.{Bounds}

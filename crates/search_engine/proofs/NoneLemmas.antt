@@ -1,7 +1,7 @@
 -- A log without records has a history, so one that has none has records.
 use Rattle.std.proofs.Common.{◌≡◌, ℕ, ◌+◌, ◌-◌, ◌<◌, zero, suc, List, [], take, refl, sym, subst, arith}
-use Rattle.history_check.specs.TraceView.{TraceView}
-use Rattle.history_check.specs.declared.Record.{Record}
+use Rattle.history_words.specs.TraceView.{TraceView}
+use Rattle.history_words.specs.Records.{Record}
 use Rattle.log_runs.specs.Explainable.{IsExplainable, prefix}
 use Rattle.log_pieces.specs.declared.Granularity.{Granularity}
 use Rattle.log_pieces.specs.declared.Granularity.TheVariants.{Four, Eight, Sixteen, SixtyFour, Whole}

@@ -1,6 +1,6 @@
 -- What comes of a log, and of the same log in pieces.
 use Rattle.std.proofs.Common.{◌≡◌, ℕ, ◌≤◌, length, Option, refl, sym, subst}
-use Rattle.history_check.specs.TraceView.{TraceView}
+use Rattle.history_words.specs.TraceView.{TraceView}
 use Rattle.log_runs.specs.Explainable.{SeenAlike, IsExplainable, prefix as first}
 use Rattle.log_pieces.specs.declared.Granularity.{Granularity}
 use Rattle.log_pieces.specs.declared.Granularity.TheVariants.{Whole}

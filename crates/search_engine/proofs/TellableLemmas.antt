@@ -2,12 +2,12 @@
 use Rattle.std.proofs.Common.{◌≡◌, ℕ, ◌<◌, ◌^◌, List, [], ◌∷◌, length, All, refl, subst}
 use Rattle.std.proofs.lemmas.List.Elements.{All-nil, All-cons, All-head, All-tail}
 use Rattle.seq_memory.specs.Limits.{IsWithinLimits}
-use Rattle.history_check.specs.declared.Record.{Record}
-use Rattle.history_check.specs.declared.Record.TheVariants as records
-use Rattle.history_check.specs.TraceView.{TraceView, observed}
-use Rattle.history_check.specs.Claim.{Claim, claim_of}
-use Rattle.history_check.specs.Clocks.{IsClocked}
-use Rattle.history_check.specs.Trace.{Explains}
+use Rattle.history_words.specs.Records.{Record}
+use Rattle.history_words.specs.declared.record.RecordOf.TheVariants as records
+use Rattle.history_words.specs.TraceView.{TraceView, observed}
+use Rattle.history_words.specs.Claim.{Claim, claim_of}
+use Rattle.history_words.specs.Clocks.{IsClocked}
+use Rattle.history_words.specs.Trace.{Explains}
 use Rattle.seq_memory.specs.History.{extent_of}
 use Rattle.operation_text.specs.Operations.{IsSpelledOp}
 use Rattle.trace_text.specs.Tellable.{IsRequest, IsTellable}

@@ -2,11 +2,11 @@
 use Rattle.std.specs.Prelude.{ℕ, ◌≡◌, ◌+◌, ◌^◌, ◌<◌, ◌⊎◌, List, [], ◌∷◌, ◌++◌, length, Option, None, Result, Ok, Err}
 use Rattle.std.specs.Io.KnownBytes.{Appends, Consumes, IsAtEnd}
 use Rattle.line_loop.specs.Run.{IsBeginning}
-use Rattle.seq_memory.specs.declared.Entry.{Entry}
-use Rattle.history_check.specs.TraceView.{TraceView}
-use Rattle.history_check.specs.Claim.{claim_of}
-use Rattle.history_check.specs.Trace.{Explains}
-use Rattle.history_check.specs.Clocks.{IsClocked}
+use Rattle.seq_memory.specs.Entries.{Entry}
+use Rattle.history_words.specs.TraceView.{TraceView}
+use Rattle.history_words.specs.Claim.{claim_of}
+use Rattle.history_words.specs.Trace.{Explains}
+use Rattle.history_words.specs.Clocks.{IsClocked}
 use Rattle.history_picture.specs.declared.scale.Window.{Window}
 use Rattle.history_picture.specs.Picture.{picture_text}
 use Rattle.record_text.specs.declared.fault.ReadFault.{ReadFault}

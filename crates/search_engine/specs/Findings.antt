@@ -1,9 +1,9 @@
 -- What comes of a text, before it is written.
 use Rattle.std.specs.Prelude.{ℕ, ◌≡◌, ◌<◌, ◌≤◌, ◌^◌, Bool, true, false, List, length, Result, Ok, Err}
-use Rattle.history_check.specs.TraceView.{TraceView}
-use Rattle.history_check.specs.Claim.{claim_of}
-use Rattle.history_check.specs.Trace.{Explains}
-use Rattle.history_check.specs.Clocks.{IsClocked}
+use Rattle.history_words.specs.TraceView.{TraceView}
+use Rattle.history_words.specs.Claim.{claim_of}
+use Rattle.history_words.specs.Trace.{Explains}
+use Rattle.history_words.specs.Clocks.{IsClocked}
 use Rattle.record_text.specs.declared.fault.ReadFault.{ReadFault}
 use Rattle.record_text.specs.declared.fault.ReadFaultKind.{ReadFaultKind}
 use Rattle.record_text.specs.declared.fault.ReadFaultKind.TheVariants as faults

@@ -1,13 +1,13 @@
 -- Bookkeeping mistakes of a log, as `check` names them.
 use Rattle.std.specs.Prelude.{ℕ, ◌≡◌, ◌++◌, ◌∷◌, [], if◌then◌else◌, List, slice_get, take, Some}
 use Rattle.std.specs.List.{list_any}
-use Rattle.history_check.specs.declared.Record.{Record}
-use Rattle.history_check.specs.declared.Record.TheVariants as records
-use Rattle.history_check.specs.declared.flaws.Flaw.{Flaw}
-use Rattle.history_check.specs.declared.flaws.FlawKind.{FlawKind}
-use Rattle.history_check.specs.declared.flaws.FlawKind.TheVariants as flaws
-use Rattle.history_check.specs.Trace.{answers_to}
-use Rattle.history_check.specs.TraceView.{TraceView}
+use Rattle.history_words.specs.Records.{Record}
+use Rattle.history_words.specs.declared.record.RecordOf.TheVariants as records
+use Rattle.history_words.specs.declared.flaws.Flaw.{Flaw}
+use Rattle.history_words.specs.declared.flaws.FlawKind.{FlawKind}
+use Rattle.history_words.specs.declared.flaws.FlawKind.TheVariants as flaws
+use Rattle.history_words.specs.Trace.{answers_to}
+use Rattle.history_words.specs.TraceView.{TraceView}
 use Rattle.flaw_places.specs.Places.{flaw_line}
 use Rattle.log_events.specs.Formed.{MisformedAt, AreFormed}
 

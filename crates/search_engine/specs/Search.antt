@@ -3,11 +3,11 @@ use Rattle.std.specs.Prelude.{ℕ, ◌≡◌, ◌+◌, ◌^◌, ◌<◌, ◌≤�
 use Rattle.std.specs.Fmt.{decimal}
 use Rattle.std.specs.Io.KnownBytes.{Appends, Consumes, IsAtEnd}
 use Rattle.line_loop.specs.Run.{IsBeginning}
-use Rattle.seq_memory.specs.declared.Entry.{Entry}
-use Rattle.history_check.specs.TraceView.{TraceView}
-use Rattle.history_check.specs.Claim.{claim_of}
-use Rattle.history_check.specs.Trace.{Explains}
-use Rattle.history_check.specs.Clocks.{IsClocked}
+use Rattle.seq_memory.specs.Entries.{Entry}
+use Rattle.history_words.specs.TraceView.{TraceView}
+use Rattle.history_words.specs.Claim.{claim_of}
+use Rattle.history_words.specs.Trace.{Explains}
+use Rattle.history_words.specs.Clocks.{IsClocked}
 use Rattle.record_text.specs.declared.fault.ReadFault.{ReadFault}
 use Rattle.trace_text.specs.Texts.{trace_text}
 use Rattle.record_text.specs.Names.{fault_line}

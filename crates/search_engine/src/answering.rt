@@ -1,8 +1,8 @@
 //! What is answered to a text.
 ghost use Rattle.std.specs.Prelude.{◌≡◌, false, IfOk, OnErr, None, Result, Ok};
 ghost use Rattle.log_pieces.specs.declared.Granularity.{Granularity};
-ghost use Rattle.history_check.specs.Claim.{claim_of};
-ghost use Rattle.history_check.specs.TraceView.{TraceView};
+ghost use Rattle.history_words.specs.Claim.{claim_of};
+ghost use Rattle.history_words.specs.TraceView.{TraceView};
 ghost use Rattle.record_text.specs.declared.fault.ReadFault.{ReadFault};
 ghost use Rattle.trace_text.specs.Texts.{trace_text};
 ghost use Rattle.log_text.specs.LogReaderView.{seen_of};
@@ -19,7 +19,7 @@ use crate::outcomes::{fault_outcome, flaw_outcome, given_up_outcome};
 use crate::stages::{NoClock, Progress};
 use crate::telling::tell;
 use arrayvec::ArrayString;
-use history_check::{Flaw, Trace};
+use history_words::{Flaw, Trace};
 use log_text::{no_fault_is_out_of_memory, read_seen_with_cause};
 use record_text::{Misread, ReadFaultKind};
 use search_history::{Bounds, Sought, Spot, search_watched};
@@ -168,9 +168,11 @@ pub(crate) fn outcome_of(
     finding: &Finding,
     bounds: Bounds,
 ) -> Result<Outcome, AllocError>
-    ensures ok { (size : Granularity) (r : Result TraceView ReadFault) → IsFinding size bounds r finding.now → IfOk result (λ o. IsAnswerTo false size bounds r (text_of o.text) o.status) }
+    ensures ok { (size : Granularity) (r : Result TraceView ReadFault) → IsFinding size bounds r finding.now →
+        IfOk result (λ o. IsAnswerTo false size bounds r (text_of o.text) o.status) }
     ensures err { (size : Granularity) (r : Result TraceView ReadFault) → IsFinding size bounds r finding.now → OnErr result ((t : TraceView) × (r ≡ Ok t)) }
-    ensures ending { (size : Granularity) (r : Result TraceView ReadFault) → IsFinding size bounds r finding.now → IfOk result (λ o. TellsEnding bounds o.ending (text_of o.text) o.status) }
+    ensures ending { (size : Granularity) (r : Result TraceView ReadFault) → IsFinding size bounds r finding.now →
+        IfOk result (λ o. TellsEnding bounds o.ending (text_of o.text) o.status) }
 {
     match finding {
         Finding::Found { trace, history } => {

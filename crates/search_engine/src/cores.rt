@@ -7,7 +7,7 @@ use crate::answering::Finding;
 use crate::options::SearchDemand;
 use crate::telling::case_of;
 use arrayvec::ArrayString;
-use history_check::{Record, Trace};
+use history_words::{Record, Trace};
 use log_text::read_seen;
 use operation_text::{write_hexadecimal, write_op, write_reply};
 use search_history::{Sought, Unwatched, search_watched};
@@ -58,7 +58,7 @@ fn put_kept(out: &mut Vec<u8>, trace: &Trace, kept: Kept) -> Result<(), AllocErr
     let mut text = ArrayString::new();
     match trace.records.get(kept.place) {
         Some(Record::Sub { requester, op, .. }) => {
-            write_op(op, &mut text);
+            write_op(&op.lend(), &mut text);
             let shown = text.as_str();
             put_line(out, format_args!("sub {requester} {number} {shown}"))
         }
@@ -69,7 +69,7 @@ fn put_kept(out: &mut Vec<u8>, trace: &Trace, kept: Kept) -> Result<(), AllocErr
                 ..
             },
         ) => {
-            write_reply(reply, &mut text);
+            write_reply(&reply.lend(), &mut text);
             let shown = text.as_str();
             put_line(out, format_args!("ans {requester} {number} {shown}"))
         }

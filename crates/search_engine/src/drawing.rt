@@ -1,7 +1,7 @@
 //! A picture of what a search finds, or of the log in place of `none`.
 ghost use Rattle.std.specs.Prelude.{◌≡◌, ◌-◌, None, Ok, IfOk, OnErr, Result};
-ghost use Rattle.history_check.specs.Claim.{claim_of};
-ghost use Rattle.history_check.specs.TraceView.{TraceView};
+ghost use Rattle.history_words.specs.Claim.{claim_of};
+ghost use Rattle.history_words.specs.TraceView.{TraceView};
 ghost use Rattle.history_picture.specs.Picture.{picture_text};
 ghost use Rattle.record_text.specs.declared.fault.ReadFault.{ReadFault};
 ghost use Rattle.log_text.specs.LogReaderView.{seen_of};
@@ -16,8 +16,8 @@ use crate::options::SearchDemand;
 use crate::outcomes::{fault_outcome, flaw_outcome, given_up_outcome};
 use crate::search::{Answer, SearchTask, kept, tell_reason};
 use crate::telling::case_of;
-use history_check::Trace;
 use history_picture::{Window, put_picture};
+use history_words::Trace;
 use line_loop::{EngineFault, write_out};
 use log_text::read_seen;
 use search_picture::put_scene;

@@ -1,8 +1,8 @@
 //! Bookkeeping mistakes of a log.
 ghost use Rattle.std.specs.Prelude.{◌≡◌, IfNone, IfOk, IfSome, Some, length, slice_get, take};
 ghost use Rattle.std.specs.List.{list_any};
-ghost use Rattle.history_check.specs.declared.Record.{Record};
-ghost use Rattle.history_check.specs.Trace.{answers_to};
+ghost use Rattle.history_words.specs.Records.{Record};
+ghost use Rattle.history_words.specs.Trace.{answers_to};
 ghost use Rattle.log_events.specs.Formed.{AreFormed, MisformedAt};
 ghost use Rattle.search_engine.specs.Bounded.{bounds_of};
 ghost use Rattle.search_engine.specs.Flaws as spec;
@@ -11,7 +11,7 @@ ghost use Rattle.search_engine.specs.Findings.{IsJudged};
 use crate::answering::Finding;
 use crate::granularity::sought_in;
 use crate::options::SearchDemand;
-use history_check::{Flaw, FlawKind, Record, Trace};
+use history_words::{Flaw, FlawKind, Record, Trace};
 use log_events::form_of;
 use std::alloc::{AllocError, Global};
 use std::io::Write;

@@ -7,7 +7,7 @@ ghost use Rattle.search_engine.specs.Findings.{IsFindingOf};
 
 use crate::answering::{Finding, sought};
 use crate::options::SearchDemand;
-use history_check::Trace;
+use history_words::Trace;
 use log_pieces::{Granularity, ends_of, in_pieces, records_of};
 use std::alloc::{AllocError, Global};
 use std::io::Write;

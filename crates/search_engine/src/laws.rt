@@ -1,6 +1,6 @@
 //! What holds of all answers.
 ghost use Rattle.std.specs.Prelude.{◌≡◌, List, ℕ, codes};
-ghost use Rattle.history_check.specs.TraceView.{TraceView};
+ghost use Rattle.history_words.specs.TraceView.{TraceView};
 ghost use Rattle.log_text.specs.Told.{IsToldLog};
 ghost use Rattle.trace_engine.specs.Check.{out_check, out_check_clocked};
 ghost use Rattle.search_engine.specs.Search.{IsFoundIn, OutSearch};

@@ -7,7 +7,7 @@ ghost use Rattle.search_engine.specs.Search.{none_line};
 
 use arrayvec::ArrayString;
 use flaw_places::write_flaw;
-use history_check::Flaw;
+use history_words::Flaw;
 use operation_text::write_decimal;
 use record_text::{ReadFault, write_fault};
 use search_history::{Bound, Bounds};

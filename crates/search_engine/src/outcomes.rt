@@ -8,7 +8,7 @@ ghost use Rattle.search_engine.specs.Findings.{text_of};
 use crate::answering::{LIMIT_STATUS, Outcome, OutcomeText};
 use crate::ending::Ending;
 use crate::lines::{bound_text, fault_text, flaw_text};
-use history_check::Flaw;
+use history_words::Flaw;
 use record_text::ReadFault;
 use search_history::Bounds;
 

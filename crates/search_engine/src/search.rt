@@ -1,6 +1,6 @@
 //! The subcommand `search`.
 ghost use Rattle.std.specs.Prelude.{IfOk, OnErr, Result};
-ghost use Rattle.history_check.specs.TraceView.{TraceView};
+ghost use Rattle.history_words.specs.TraceView.{TraceView};
 ghost use Rattle.record_text.specs.declared.fault.ReadFault.{ReadFault};
 ghost use Rattle.search_engine.specs.Bounded.{bounds_of, TellsEnding};
 ghost use Rattle.search_engine.specs.Findings.{text_of, IsFinding};
@@ -40,8 +40,10 @@ fn outcome_with_core(
     finding: &Finding,
     demand: SearchDemand,
 ) -> Result<Outcome, AllocError>
-    ensures answers { (r : Result TraceView ReadFault) → IsFinding demand.options.granularity (bounds_of demand) r finding.now → IfOk result (λ o. IsAnswerTo demand.has_core demand.options.granularity (bounds_of demand) r (text_of o.text) o.status) }
-    ensures ending { (r : Result TraceView ReadFault) → IsFinding demand.options.granularity (bounds_of demand) r finding.now → IfOk result (λ o. TellsEnding (bounds_of demand) o.ending (text_of o.text) o.status) }
+    ensures answers { (r : Result TraceView ReadFault) → IsFinding demand.options.granularity (bounds_of demand) r finding.now →
+        IfOk result (λ o. IsAnswerTo demand.has_core demand.options.granularity (bounds_of demand) r (text_of o.text) o.status) }
+    ensures ending { (r : Result TraceView ReadFault) → IsFinding demand.options.granularity (bounds_of demand) r finding.now →
+        IfOk result (λ o. TellsEnding (bounds_of demand) o.ending (text_of o.text) o.status) }
 {
     let core = core_text(alloc, finding, demand)?;
     match core {

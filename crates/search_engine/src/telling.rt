@@ -4,7 +4,7 @@ ghost use Rattle.std.specs.Prelude.{◌≡◌};
 
 use crate::answering::Finding;
 use crate::granularity::Pieces;
-use history_check::Trace;
+use history_words::Trace;
 use search_reasons::{Case, GivenUp, Prefix, tell_fault, tell_flaw, tell_given_up, tell_none};
 use std::alloc::Global;
 use std::io::Write;

@@ -3,8 +3,8 @@ use Rattle.std.proofs.Common.{◌≡◌, ℕ, suc, zero, ◌+◌, ◌<◌, ◌�
 use Rattle.std.specs.Prelude.{slice_get}
 use Rattle.std.proofs.lemmas.Option.{slice_get_within}
 use Rattle.seq_memory.specs.Limits.{Extent}
-use Rattle.history_check.specs.declared.Record.{Record}
-use Rattle.history_check.specs.TraceView.{TraceView, observed}
+use Rattle.history_words.specs.Records.{Record}
+use Rattle.history_words.specs.TraceView.{TraceView, observed}
 use Rattle.log_runs.specs.EventView.{EventView}
 use Rattle.log_runs.specs.LogView.{LogView}
 use Rattle.log_runs.specs.Tasks.{AreEvents, IsMisformed}

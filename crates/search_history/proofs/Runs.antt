@@ -6,13 +6,13 @@ use Rattle.std.proofs.Math.Seq.{take-suc, take-length, drop-length}
 use Rattle.std.proofs.lemmas.List.{append-nil, drop-set-lt}
 use Rattle.std.proofs.lemmas.Option.{same_Some, get_or_from_slice_get}
 use Rattle.seq_memory.specs.Limits.{Extent}
-use Rattle.seq_memory.specs.declared.Entry.{Entry}
-use Rattle.history_check.specs.declared.Record.{Record}
-use Rattle.history_check.specs.declared.Record.TheVariants as records
-use Rattle.history_check.specs.TraceView.{TraceView, observed}
-use Rattle.history_check.specs.Claim.{claim_of}
-use Rattle.history_check.specs.Trace.{Explains}
-use Rattle.history_check.specs.Clocks.{IsClocked}
+use Rattle.seq_memory.specs.Entries.{Entry}
+use Rattle.history_words.specs.Records.{Record}
+use Rattle.history_words.specs.declared.record.RecordOf.TheVariants as records
+use Rattle.history_words.specs.TraceView.{TraceView, observed}
+use Rattle.history_words.specs.Claim.{claim_of}
+use Rattle.history_words.specs.Trace.{Explains}
+use Rattle.history_words.specs.Clocks.{IsClocked}
 use Rattle.log_runs.specs.EventView.{EventView}
 use Rattle.log_runs.specs.Explainable.{IsSeenAs, AreSeenAs, IsExplainable, SeenAlike, prefix}
 use Rattle.log_runs.specs.Histories.{submitted, history_of, with_n, timed_from, timed, with_replies}

@@ -1,6 +1,6 @@
 -- What an answer to a verdict says.
 use Rattle.std.proofs.Common.{◌≡◌, ◌∙◌, ℕ, ap, refl, subst, sym}
-use Rattle.history_check.specs.TraceView.{TraceView}
+use Rattle.history_words.specs.TraceView.{TraceView}
 use Rattle.log_runs.specs.Explainable.{IsExplainable, prefix}
 use Rattle.search_history.specs.Answers.{IsNone}
 use Rattle.search_history.specs.Prefixes.{IsUnexplained}

@@ -1,8 +1,8 @@
 -- What a search says of a log.
-use Rattle.history_check.specs.TraceView.{TraceView}
-use Rattle.history_check.specs.Claim.{claim_of}
-use Rattle.history_check.specs.Trace.{Explains}
-use Rattle.history_check.specs.Clocks.{IsClocked, KeepsRealTimeOrder}
+use Rattle.history_words.specs.TraceView.{TraceView}
+use Rattle.history_words.specs.Claim.{claim_of}
+use Rattle.history_words.specs.Trace.{Explains}
+use Rattle.history_words.specs.Clocks.{IsClocked, KeepsRealTimeOrder}
 use Rattle.log_runs.specs.Explainable.{IsExplainable}
 use Rattle.search_history.specs.Prefixes.{IsUnexplained}
 use Rattle.search_history.specs.declared.searching.Sought.{Sought}

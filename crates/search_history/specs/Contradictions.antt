@@ -1,9 +1,9 @@
 -- Answers that contradict each other.
 use Rattle.std.specs.Prelude.{ℕ, suc, ◌≡◌, ◌⊎◌, ◌==◌, if◌then◌else◌, List, [], ◌∷◌, take}
 use Rattle.std.specs.List.{list_any}
-use Rattle.history_check.specs.declared.Record.{Record}
-use Rattle.history_check.specs.declared.Record.TheVariants as records
-use Rattle.history_check.specs.TraceView.{TraceView}
+use Rattle.history_words.specs.Records.{Record}
+use Rattle.history_words.specs.declared.record.RecordOf.TheVariants as records
+use Rattle.history_words.specs.TraceView.{TraceView}
 use Rattle.log_runs.specs.Explainable.{IsExplainable}
 
 -- of records, the first of which has place a, all submissions and the answers at these places

@@ -1,6 +1,6 @@
 -- Prefixes with a history, and without one.
 use Rattle.std.specs.Prelude.{ℕ, ◌<◌, ◌≤◌, length}
-use Rattle.history_check.specs.TraceView.{TraceView}
+use Rattle.history_words.specs.TraceView.{TraceView}
 use Rattle.log_runs.specs.Explainable.{IsExplainable, prefix}
 
 -- so many records have no history

@@ -1,6 +1,6 @@
 -- Runs through the records of a trace, and what is owed for one.
 use Rattle.std.specs.Prelude.{◌≡◌, List}
-use Rattle.history_check.specs.TraceView.{TraceView, observed}
+use Rattle.history_words.specs.TraceView.{TraceView, observed}
 use Rattle.log_runs.specs.EventView.{EventView}
 use Rattle.log_runs.specs.declared.Step.{Step}
 use Rattle.log_runs.specs.Tasks.{AreAllEvents, IsWellFormed}

@@ -3,15 +3,14 @@
 //! The reply is guessed: it is the memory's, by a history of the records before. A search finds out whether a
 //! history explains the records with it.
 ghost use Rattle.std.specs.Prelude.{◌≡◌, ◌<◌, ◌++◌, ◌∷◌, [], true, IfOk, IfSome, length, take};
-ghost use Rattle.history_check.specs.declared.Record.{Record};
-ghost use Rattle.history_check.specs.TraceView.{TraceView};
+ghost use Rattle.history_words.specs.Records.{Record};
+ghost use Rattle.history_words.specs.TraceView.{TraceView};
 ghost use Rattle.log_runs.specs.Explainable.{IsExplainable};
 ghost use Rattle.search_history.specs.Expected as expected;
 ghost use Rattle.search_history.specs.Expected.{IsExpected};
 
-use crate::copies::{copies_of, copy_of_reply, with_reply};
 use crate::judging::{Records, is_explainable};
-use history_check::{Record, Trace};
+use history_words::{Record, Trace};
 use log_events::form_of;
 use log_runs::Step;
 use search_run::Bounds;
@@ -171,6 +170,36 @@ fn has_history(alloc: Global, trace: &Trace, bounds: Bounds) -> Result<bool, All
     is_explainable(alloc, records, bounds)
 }
 
+/// The record with that reply, if it is an answer.
+fn with_reply(item: &Record, told: &Reply) -> Record
+    ensures { result ≡ expected.with_reply item.now told.now }
+{
+    match item {
+        Record::Sub { .. } => item.lend().to_owned(),
+        Record::Ans {
+            requester,
+            number,
+            n,
+            ..
+        } => Record::Ans {
+            requester: *requester,
+            number: *number,
+            reply: told.lend().to_owned(),
+            n: *n,
+        },
+    }
+}
+
+fn copies_of(alloc: Global, records: &[Record]) -> Result<Vec<Record>, AllocError>
+    ensures { IfOk result (λ v. v.items ≡ records.now) }
+{
+    let mut copies = Vec::with_capacity(alloc, records.len())?;
+    for place in 0..records.len() {
+        copies.push(records[place].lend().to_owned())?;
+    }
+    Ok(copies)
+}
+
 /// The records up to the place, and the one there with that reply.
 fn replied(alloc: Global, trace: &Trace, place: usize, reply: &Reply) -> Result<Trace, AllocError>
     requires { place < length trace.now.records }
@@ -201,7 +230,7 @@ pub(crate) fn expected_at(
     };
     let other = replied(alloc, trace, place, &reply)?;
     if has_history(alloc, &other, bounds)? {
-        return Ok(Some(copy_of_reply(&reply)));
+        return Ok(Some(reply));
     }
     Ok(None)
 }

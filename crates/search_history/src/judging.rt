@@ -9,7 +9,7 @@ ghost use Rattle.search_run.specs.Outcomes.{IsRight};
 ghost use Rattle.search_run.specs.Watched.{Saw};
 
 use crate::alone::{Field, explored_on, parts_of};
-use history_check::Trace;
+use history_words::Trace;
 use log_cells::Cells;
 use log_events::{Partners, form_of, log_of};
 use log_runs::laws::{
@@ -164,7 +164,9 @@ pub(crate) fn judged<W: Watch>(
     watch: &mut W,
 ) -> Result<Judgment, AllocError>
     requires { records.count ≤ length records.trace.now.records }
-    ensures run { IfOk result (λ r. ArePartners records.entry.partners.now (take records.entry.count records.entry.trace.now.records) → IsWellFormed (take records.entry.count records.entry.trace.now.records) → IsOutcomeOf (prefix records.entry.count records.entry.trace.now) r.outcome) }
+    ensures run { IfOk result (λ r. ArePartners records.entry.partners.now (take records.entry.count records.entry.trace.now.records) →
+        IsWellFormed (take records.entry.count records.entry.trace.now.records) →
+        IsOutcomeOf (prefix records.entry.count records.entry.trace.now) r.outcome) }
     ensures none { IfOk result (λ r. r.outcome ≡ Outcome.Dead → IsExplainable (prefix records.entry.count records.entry.trace.now) → ⊥) }
     ensures states { IfOk result (λ r. r.states ≤ bounds.choices) }
     ensures limit { IfOk result (λ r. r.outcome ≡ Outcome.Limit Bound.Choices → r.states ≡ bounds.choices) }

@@ -1,15 +1,15 @@
 //! The history, the n's and the replies of a run.
 ghost use Rattle.std.specs.Prelude.{◌≡◌, ◌++◌, ◌∷◌, [], IfOk, OnOk, None, Some, option_and_then, set, slice_get};
-ghost use Rattle.history_check.specs.declared.Record.{Record};
-ghost use Rattle.history_check.specs.Claim.{claim_of};
-ghost use Rattle.history_check.specs.Trace.{Explains};
-ghost use Rattle.history_check.specs.Clocks.{IsClocked};
+ghost use Rattle.history_words.specs.Records.{Record};
+ghost use Rattle.history_words.specs.Claim.{claim_of};
+ghost use Rattle.history_words.specs.Trace.{Explains};
+ghost use Rattle.history_words.specs.Clocks.{IsClocked};
 ghost use Rattle.log_runs.specs.Explainable.{SeenAlike};
 ghost use Rattle.log_runs.specs.Histories.{timed_from, with_n};
 ghost use Rattle.log_runs.specs.Histories as histories;
 ghost use Rattle.search_history.specs.Runs.{IsRunOf};
 
-use history_check::{Record, Trace};
+use history_words::{Record, Trace};
 use log_replies::complete;
 use log_runs::Step;
 use log_runs::laws::a_run_is_a_history;

@@ -12,7 +12,7 @@ ghost use Rattle.search_run.specs.Watched.{Saw};
 use crate::judging::{Judgment, Records, judged};
 use crate::moments::history_by;
 use crate::shortest::shortened;
-use history_check::Trace;
+use history_words::Trace;
 use log_events::form_of;
 use log_runs::Step;
 use log_runs::laws::{explainable_is_well_formed, prefix_is_explainable};
@@ -62,7 +62,8 @@ fn well_formed<W: Watch>(
     watch: &mut W,
 ) -> Result<(Verdict, u64), AllocError>
     requires { records.count ≤ length records.trace.now.records }
-    ensures run { IfOk result (λ r. ArePartners records.entry.partners.now (take records.entry.count records.entry.trace.now.records) → IsWellFormed (take records.entry.count records.entry.trace.now.records) → IsVerdictOf (prefix records.entry.count records.entry.trace.now) r.0) }
+    ensures run { IfOk result (λ r. ArePartners records.entry.partners.now (take records.entry.count records.entry.trace.now.records) →
+        IsWellFormed (take records.entry.count records.entry.trace.now.records) → IsVerdictOf (prefix records.entry.count records.entry.trace.now) r.0) }
     ensures none { IfOk result (λ r. (prefix : ℕ) → r.0 ≡ Verdict.None prefix → IsUnexplained records.entry.trace.now prefix) }
     ensures limit { IfOk result (λ r. r.0 ≡ Verdict.Limit Bound.Choices → r.1 ≡ bounds.choices) }
     ensures work { IfOk result (λ r. r.0 ≡ Verdict.Limit Bound.Work → bounds.work < 18446744073709551615) }

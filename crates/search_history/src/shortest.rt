@@ -6,7 +6,7 @@ ghost use Rattle.search_history.specs.Prefixes.{IsUnexplained, IsExplainedBefore
 
 use crate::expecting::expected_at;
 use crate::judging::{Clue, Records, is_explainable, judged_on, run_of};
-use history_check::{Record, Trace};
+use history_words::{Record, Trace};
 use log_events::form_of;
 use log_runs::laws::prefix_is_explainable;
 use search_run::{Bounds, Outcome};

@@ -4,14 +4,13 @@
 //! with any reply, or not. So answers are left out, as long as what is left has no history: first those
 //! whose requests are in other cells of the memory than the last one, of which then nothing is looked at any
 //! more; then halves, quarters and so on, and single ones, the oldest first.
-ghost use Rattle.std.specs.Prelude.{◌≡◌, ◌≤◌, true, IfOk, length};
+ghost use Rattle.std.specs.Prelude.{◌≡◌, ◌≤◌, ◌++◌, ◌∷◌, [], true, IfOk, OnOk, length};
 ghost use Rattle.log_runs.specs.Explainable.{IsExplainable};
-ghost use Rattle.search_history.specs.Contradictions.{Contradict};
+ghost use Rattle.search_history.specs.Contradictions.{Contradict, keeping_from};
 ghost use Rattle.search_history.specs.Contradictions as contradictions;
 
-use crate::copies::keeping;
 use crate::judging::is_unexplained;
-use history_check::{Record, Trace};
+use history_words::{Record, Trace};
 use log_cells::{Cells, part};
 use log_events::{form_of, log_of};
 use log_runs::{Event, Log};
@@ -293,6 +292,49 @@ fn bounds_for(prefix: usize, choices: u64) -> Bounds {
         choices,
         work: (prefix as u64).saturating_mul(WORK).max(LEAST),
     }
+}
+
+/// Adds a copy of the record at the place, if it is no answer or its place is one of these.
+fn keep(
+    copy: &mut Vec<Record>,
+    item: &Record,
+    place: usize,
+    kept: &[usize],
+) -> Result<(), AllocError>
+    ensures { OnOk result (copy.new.items ≡ copy.old.items ++ keeping_from place kept.now (item.now ∷ [])) }
+{
+    match item {
+        Record::Sub { .. } => copy.push(item.lend().to_owned())?,
+        Record::Ans { .. } => if kept.contains(&place) {
+            copy.push(item.lend().to_owned())?;
+        },
+    }
+    Ok(())
+}
+
+fn keeping_records(
+    alloc: Global,
+    records: &[Record],
+    kept: &[usize],
+) -> Result<Vec<Record>, AllocError>
+    ensures { IfOk result (λ v. v.items ≡ keeping_from 0 kept.now records.now) }
+{
+    let mut copy = Vec::new(alloc);
+    for place in 0..records.len() {
+        keep(&mut copy, &records[place], place, kept)?;
+    }
+    Ok(copy)
+}
+
+/// The first `count` records, but of the answers those at these places alone.
+fn keeping(alloc: Global, trace: &Trace, count: usize, kept: &[usize]) -> Result<Trace, AllocError>
+    requires { count ≤ length trace.now.records }
+    ensures { IfOk result (λ t. t ≡ contradictions.keeping count kept.now trace.now) }
+{
+    Ok(Trace {
+        extent: trace.extent,
+        records: keeping_records(alloc, &trace.records[..count], kept)?,
+    })
 }
 
 /// Whether no history explains these answers of the first `prefix` records together, as far as it is found out. It looks at

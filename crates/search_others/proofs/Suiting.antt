@@ -1,6 +1,6 @@
 -- What suits a request.
 use Rattle.std.proofs.Common.{◌≡◌, ◌∙◌, Bool, false, ℕ, true, List, Some, None, Option, refl, sym}
-use Rattle.seq_memory.specs.declared.Reply.{Reply}
+use Rattle.seq_memory.specs.Entries.{Reply}
 use Rattle.log_runs.specs.EventView.{EventView}
 use Rattle.log_runs.specs.EventView as events
 use Rattle.log_runs.specs.LogView.{LogView}

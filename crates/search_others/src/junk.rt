@@ -107,7 +107,8 @@ fn near_of<'a>(
 ) -> Near<'a>
     requires others { AreOthers log.now others.now }
     requires word { stretch.word < log.now.extent.size / 4 }
-    ensures { (b : ℕ) → stretch.from ≤ b → b < stretch.to → NamesWord log.now b stretch.word → IsNear result b ⊎ IsNothing log.now bytes.now junk.entry stretch.word b }
+    ensures { (b : ℕ) → stretch.from ≤ b → b < stretch.to → NamesWord log.now b stretch.word →
+        IsNear result b ⊎ IsNothing log.now bytes.now junk.entry stretch.word b }
 {
     let words = &others.words;
     match junk {
@@ -120,7 +121,8 @@ fn near_of<'a>(
 fn word_ignored(place: &Place, log: &Log, others: &Others, junk: Junk, stretch: Stretch) -> bool
     requires others { AreOthers log.now others.now }
     requires word { stretch.word < log.now.extent.size / 4 }
-    ensures { IsTrue result → (b : ℕ) → stretch.from ≤ b → b < stretch.to → NamesWord log.now b stretch.word → Ignores log.now place.now.state junk.entry stretch.word b }
+    ensures { IsTrue result → (b : ℕ) → stretch.from ≤ b → b < stretch.to → NamesWord log.now b stretch.word →
+        Ignores log.now place.now.state junk.entry stretch.word b }
 {
     let near = near_of(others, log, place.bytes(), junk, stretch);
     near_ignore(place, log, junk, stretch.word, near)
@@ -153,7 +155,8 @@ fn words_ignored(place: &Place, log: &Log, others: &Others, junk: Junk, q: usize
 pub fn all_overlook(place: &Place, log: &Log, others: &Others, q: usize, but: &[usize]) -> bool
     requires place { IsPlace log.now place.now }
     requires others { AreOthers log.now others.now }
-    ensures { IsTrue result → (w : ℕ) → Names log.now q w → (b : ℕ) → (q ≡ b → ⊥) → ((i : ℕ) → slice_get but.now i ≡ Some b → ⊥) → slice_get place.now.state.acted b ≡ Some false → IsJunkAt log.now place.now.state.bytes b w }
+    ensures { IsTrue result → (w : ℕ) → Names log.now q w → (b : ℕ) → (q ≡ b → ⊥) → ((i : ℕ) → slice_get but.now i ≡ Some b → ⊥) →
+        slice_get place.now.state.acted b ≡ Some false → IsJunkAt log.now place.now.state.bytes b w }
 {
     words_ignored(place, log, others, Junk::Standing(Exempt { q, but }), q)
 }

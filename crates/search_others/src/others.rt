@@ -87,7 +87,8 @@ fn near_hold(place: &Place, log: &Log, question: Question, near: Near) -> bool
 /// The first word of those that are looked at, and their end: those of the request, or that of the byte.
 fn words_of(log: &Log, question: Question) -> Option<(u64, u64)>
     ensures inside { IfSome result (λ r. r.1 ≤ log.now.extent.size / 4) }
-    ensures all { IfSome result (λ r. (b : ℕ) → ((m : List ℕ) → Spares log.now m question.of question.asked b) ⊎ ((w : ℕ) × (r.0 ≤ w) × (w < r.1) × NamesWord log.now b w)) }
+    ensures all { IfSome result (λ r. (b : ℕ) →
+        ((m : List ℕ) → Spares log.now m question.of question.asked b) ⊎ ((w : ℕ) × (r.0 ≤ w) × (w < r.1) × NamesWord log.now b w)) }
 {
     apart_requests_commute();
     nothing_is_put_outside();
@@ -116,7 +117,8 @@ fn near_of<'a>(
 ) -> Near<'a>
     requires others { AreOthers log.now others.now }
     requires word { stretch.word < log.now.extent.size / 4 }
-    ensures { (b : ℕ) → stretch.from ≤ b → b < stretch.to → NamesWord log.now b stretch.word → IsNear result b ⊎ Spares log.now bytes.now question.of question.asked b }
+    ensures { (b : ℕ) → stretch.from ≤ b → b < stretch.to → NamesWord log.now b stretch.word →
+        IsNear result b ⊎ Spares log.now bytes.now question.of question.asked b }
 {
     let words = &others.words;
     let q = question.of;

@@ -4,13 +4,13 @@ use Rattle.std.specs.Prelude.{◌==◌, ◌&&◌, not, nat_lt, slice_get, bytes_
 use Rattle.std.specs.List.{list_any}
 use Rattle.std.proofs.lemmas.Bool.{cases_Bool, ltb-true, lt-ltb, eqb-true, eq-eqb, and_parts, and_from, or_cases, or_left, or_right, not-true, not_from_false}
 use Rattle.std.proofs.lemmas.Option.{same_Some, slice_get_within}
-use Rattle.tlp_core.specs.declared.operation.Op.{Op}
+use Rattle.tlp_core.specs.Ops.{Op}
 use Rattle.tlp_core.specs.Operation.{is_posted}
-use Rattle.seq_memory.specs.declared.Reply.{Reply}
-use Rattle.seq_memory.specs.declared.Reply.TheVariants as replies
+use Rattle.seq_memory.specs.Entries.{Reply}
+use Rattle.seq_memory.specs.declared.reply.ReplyOf.TheVariants as replies
 use Rattle.seq_memory.specs.Limits.{Extent}
 use Rattle.search_effects.specs.Effects.{Agrees, AreSameAt}
-use Rattle.history_check.specs.Flaws.{same_reply}
+use Rattle.history_words.specs.Flaws.{same_reply}
 use Rattle.log_runs.specs.EventView.{EventView}
 use Rattle.log_runs.specs.EventView as events
 use Rattle.log_runs.specs.LogView.{LogView}

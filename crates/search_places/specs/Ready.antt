@@ -1,9 +1,9 @@
 -- Whether a request may act.
 use Rattle.std.specs.Prelude.{ℕ, List, Option, Some, None, Bool, true, false, ◌&&◌, not, nat_lt, slice_get}
 use Rattle.std.specs.List.{list_any}
-use Rattle.tlp_core.specs.declared.operation.Op.{Op}
-use Rattle.seq_memory.specs.declared.Reply.{Reply}
-use Rattle.history_check.specs.Flaws.{same_reply}
+use Rattle.tlp_core.specs.Ops.{Op}
+use Rattle.seq_memory.specs.Entries.{Reply}
+use Rattle.history_words.specs.Flaws.{same_reply}
 use Rattle.log_runs.specs.EventView.{EventView}
 use Rattle.log_runs.specs.EventView as events
 use Rattle.log_runs.specs.LogView.{LogView}

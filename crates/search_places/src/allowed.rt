@@ -2,7 +2,7 @@
 ghost use Rattle.std.specs.Prelude.{◌≡◌, ◌<◌, ◌≤◌, ◌↔◌, ℕ, IsTrue, slice_get, not};
 ghost use Rattle.std.specs.List.{list_any};
 ghost use Rattle.search_effects.specs.Effects.{told_of};
-ghost use Rattle.history_check.specs.Flaws.{same_reply};
+ghost use Rattle.history_words.specs.Flaws.{same_reply};
 ghost use Rattle.log_runs.specs.Runs.{MayPass, MayAct, reply_of};
 ghost use Rattle.search_places.specs.Pending.{blocks};
 ghost use Rattle.search_places.specs.Pending as pending;

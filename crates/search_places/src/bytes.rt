@@ -52,7 +52,8 @@ pub(crate) fn act_on(log: &Log, bytes: &mut [u8], b: usize)
 /// Makes the bytes what they were before the request acted.
 #[tactic(auto, unfolding(log_runs::specs::Runs::acted_on, log_runs::specs::Runs::bytes_after))]
 pub(crate) fn restore(log: &Log, bytes: &mut [u8], b: usize, old: &[u8])
-    ensures { (m : List ℕ) → bytes.old ≡ acted_on log.now.extent m (slice_get log.now.events b) → old.now ≡ old_at log.now.extent m (slice_get log.now.events b) → bytes.new ≡ m }
+    ensures { (m : List ℕ) → bytes.old ≡ acted_on log.now.extent m (slice_get log.now.events b) →
+        old.now ≡ old_at log.now.extent m (slice_get log.now.events b) → bytes.new ≡ m }
 {
     if let Some(Event::Sub { op, .. }) = log.event(b) {
         let extent = log.extent();

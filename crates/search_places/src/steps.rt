@@ -139,7 +139,8 @@ impl Place {
         requires place { IsPlace log.now self.old }
         ensures event { OnOk result (self.new.state.event ≡ self.old.state.event) }
         ensures acted { OnOk result (self.new.state.acted ≡ slice_set self.old.state.acted b false) }
-        ensures bytes { OnOk result ((m : List ℕ) → self.old.state.bytes ≡ acted_on log.now.extent m (slice_get log.now.events b) → old.now ≡ old_at log.now.extent m (slice_get log.now.events b) → self.new.state.bytes ≡ m) }
+        ensures bytes { OnOk result ((m : List ℕ) → self.old.state.bytes ≡ acted_on log.now.extent m (slice_get log.now.events b) →
+            old.now ≡ old_at log.now.extent m (slice_get log.now.events b) → self.new.state.bytes ≡ m) }
         ensures place { OnOk result (IsPlace log.now self.new) }
     {
         self.mark(b, false);

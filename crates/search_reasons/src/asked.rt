@@ -1,9 +1,9 @@
 //! What was answered at a place of a log, and to which operation.
 ghost use Rattle.std.specs.Prelude.{◌≡◌, ℕ, IfSome, Some, slice_get};
-ghost use Rattle.history_check.specs.declared.Record.TheVariants as kinds;
+ghost use Rattle.history_words.specs.declared.record.RecordOf.TheVariants as kinds;
 ghost use Rattle.search_reasons.specs.Reasons.{IsAsked};
 
-use history_check::Record;
+use history_words::Record;
 use log_events::{Partners, reply_at};
 use seq_memory::Reply;
 use tlp_core::Op;

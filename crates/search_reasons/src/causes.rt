@@ -1,11 +1,11 @@
 //! Why answers have no history, if that can be said in a few words.
 ghost use Rattle.std.specs.Prelude.{◌≡◌, IfOk, IfSome};
-ghost use Rattle.history_check.specs.TraceView.{observed};
+ghost use Rattle.history_words.specs.TraceView.{observed};
 ghost use Rattle.search_reasons.specs.Reasons.{IsMisanswered};
 
 use crate::asked::asked_by;
 use crate::misreplies::{Misreply, misreply_of};
-use history_check::{Record, Trace};
+use history_words::{Record, Trace};
 use log_events::{Partners, form_of};
 use search_anomalies::{Prefix, WordCause};
 use seq_memory::Extent;

@@ -1,6 +1,6 @@
 //! Why a prefix of a log has no history.
 ghost use Rattle.std.specs.Prelude.{◌≡◌, ◌+◌, true, IfOk, IfSome};
-ghost use Rattle.history_check.specs.TraceView.{observed};
+ghost use Rattle.history_words.specs.TraceView.{observed};
 ghost use Rattle.search_history.specs.Expected.{IsExpected};
 ghost use Rattle.search_history.specs.Prefixes.{IsExplainedBefore};
 ghost use Rattle.search_reasons.specs.Reasons.{AreAgainst, IsCause, IsTold};

@@ -6,7 +6,7 @@ ghost use Rattle.line_loop.specs.declared.fault.EngineFault.{EngineFault};
 
 use crate::telling::lines_of;
 use diagnostics::Reason;
-use history_check::{Flaw, FlawKind, Record, Trace};
+use history_words::{Flaw, FlawKind, Record, Trace};
 use line_loop::EngineFault;
 use std::alloc::Global;
 use std::io::Write;

@@ -1,6 +1,6 @@
 //! Replies that no memory gives.
 ghost use Rattle.std.specs.Prelude.{ℕ, ◌≡◌, List, Some, None, false, IfSome, length};
-ghost use Rattle.seq_memory.specs.declared.Reply.{Reply};
+ghost use Rattle.seq_memory.specs.Entries.{Reply};
 ghost use Rattle.seq_memory.specs.Step.{answer, answer_by, refusal};
 ghost use Rattle.search_reasons.specs.Reasons.{IsMisreply};
 

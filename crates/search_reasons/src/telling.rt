@@ -10,7 +10,7 @@ use crate::cycles::put_cycle;
 use crate::finding::{Reasons, Why, reasons_of, records_with};
 use crate::wording::{put_cause, put_line};
 use arrayvec::ArrayString;
-use history_check::{Record, Trace};
+use history_words::{Record, Trace};
 use line_loop::{EngineFault, write_out};
 use memchr::memchr;
 use operation_text::write_reply;
@@ -113,7 +113,7 @@ fn put_answer(
     };
     let line = lines.of_record(place);
     let mut text = ArrayString::new();
-    write_reply(reply, &mut text);
+    write_reply(&reply.lend(), &mut text);
     let shown = text.as_str();
     put_line(
         out,
@@ -199,7 +199,7 @@ fn put_expected(
     }
     let (first, last) = (lines.of_record(0), lines.of_record(before.count));
     let mut text = ArrayString::new();
-    write_reply(reply, &mut text);
+    write_reply(&reply.lend(), &mut text);
     let shown = text.as_str();
     put_line(
         out,

@@ -4,7 +4,7 @@ ghost use Rattle.search_reasons.specs.Lines.{IsWordText};
 use crate::causes::Cause;
 use crate::misreplies::Misreply;
 use arrayvec::ArrayString;
-use history_check::{Record, Trace};
+use history_words::{Record, Trace};
 use operation_text::{write_bytes, write_hexadecimal, write_op};
 use search_anomalies::{Bound, Sum, Word, WordCause};
 use std::alloc::AllocError;
@@ -69,7 +69,7 @@ fn put_served(out: &mut Vec<u8>, address: u64, bytes: usize) -> Result<(), Alloc
 fn op_text(trace: &Trace, place: usize) -> ArrayString<512> {
     let mut text = ArrayString::new();
     if let Some(Record::Sub { op, .. }) = trace.records.get(place) {
-        write_op(op, &mut text);
+        write_op(&op.lend(), &mut text);
     }
     text
 }

@@ -1,9 +1,9 @@
 -- A byte that a request needs or leaves.
 use Rattle.std.proofs.Common.{◌≡◌, ◌∙◌, ◌⊎◌, ℕ, ◌+◌, ◌<◌, ◌≤◌, List, Some, None, Option, refl, sym, ap, subst}
 use Rattle.std.specs.Prelude.{slice_get, slice_index, IfSome}
-use Rattle.tlp_core.specs.declared.operation.Op.{Op}
+use Rattle.tlp_core.specs.Ops.{Op}
 use Rattle.tlp_core.specs.Operation.{address_of, count_of}
-use Rattle.seq_memory.specs.declared.Reply.{Reply}
+use Rattle.seq_memory.specs.Entries.{Reply}
 use Rattle.seq_memory.specs.Limits.{Extent}
 use Rattle.seq_memory.specs.Step.{after, answer}
 use Rattle.search_effects.specs.Effects.{Agrees}

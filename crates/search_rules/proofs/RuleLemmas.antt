@@ -9,7 +9,7 @@ use Rattle.log_runs.specs.declared.Step.{Step}
 use Rattle.log_runs.specs.declared.Step.TheVariants as steps
 use Rattle.log_runs.specs.LogView.{LogView}
 use Rattle.log_runs.specs.Runs.{State, MayPass, MayAct, Allowed, Leads, Live, IsForced, next, acted_on, bytes_after}
-use Rattle.tlp_core.specs.declared.operation.Op.{Op}
+use Rattle.tlp_core.specs.Ops.{Op}
 use Rattle.seq_memory.specs.Step.{after}
 use Rattle.seq_memory.specs.Limits.{Extent}
 use Rattle.search_rules.specs.Rules.{Suits, ChangesNothing}

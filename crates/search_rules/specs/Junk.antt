@@ -1,9 +1,9 @@
 -- Bytes that are nothing to an operation.
 use Rattle.std.specs.Prelude.{ℕ, ◌≡◌, ◌+◌, ◌*◌, ◌<◌, ◌≤◌, ◌⊎◌, List, length, Option}
-use Rattle.tlp_core.specs.declared.operation.Op.{Op}
-use Rattle.tlp_core.specs.declared.operation.Op.TheVariants as ops
+use Rattle.tlp_core.specs.Ops.{Op}
+use Rattle.tlp_core.specs.declared.operation.OpOf.TheVariants as ops
 use Rattle.tlp_core.specs.Operation.{address_of, count_of}
-use Rattle.seq_memory.specs.declared.Reply.{Reply}
+use Rattle.seq_memory.specs.Entries.{Reply}
 use Rattle.seq_memory.specs.Limits.{Extent}
 use Rattle.seq_memory.specs.Step.{after}
 use Rattle.search_effects.specs.Effects.{Agrees, AreApart, AreSameAt, AreSameBut}

@@ -1,7 +1,7 @@
 -- When a state is lost, and when a request may act at once.
 use Rattle.std.specs.Prelude.{ℕ, ◌≡◌, ◌+◌, ◌<◌, ◌≤◌, ◌⊎◌, List, [], ◌∷◌, length, slice_get, slice_index, Option, Some, None, true, false}
-use Rattle.tlp_core.specs.declared.operation.Op.{Op}
-use Rattle.seq_memory.specs.declared.Reply.{Reply}
+use Rattle.tlp_core.specs.Ops.{Op}
+use Rattle.seq_memory.specs.Entries.{Reply}
 use Rattle.seq_memory.specs.Limits.{Extent}
 use Rattle.tlp_core.specs.Operation.{address_of, count_of, is_posted}
 use Rattle.search_effects.specs.Effects.{AreApart, AreSameAt}

@@ -1,6 +1,6 @@
 //! Answers that no memory gives.
 ghost use Rattle.std.specs.Prelude.{ℕ, ◌≡◌, List, Some, None, false, IsTrue, IfSome, length};
-ghost use Rattle.seq_memory.specs.declared.Reply.{Reply};
+ghost use Rattle.seq_memory.specs.Entries.{Reply};
 ghost use Rattle.seq_memory.specs.Step.{answer, answer_by, refusal};
 ghost use Rattle.search_effects.specs.Effects.{told_of};
 ghost use Rattle.log_runs.specs.Runs.{Dead, reply_of, start};

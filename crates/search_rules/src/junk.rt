@@ -1,8 +1,8 @@
 //! Bytes that are nothing to a request.
 ghost use Rattle.std.specs.Prelude.{ℕ, ◌≡◌, ◌<◌, ◌/◌, ◌⊎◌, List, Option, Some, None, false, IsTrue, length, slice_get};
-ghost use Rattle.tlp_core.specs.declared.operation.Op.{Op};
+ghost use Rattle.tlp_core.specs.Ops.{Op};
 ghost use Rattle.seq_memory.specs.declared.Refusal.{Refusal};
-ghost use Rattle.seq_memory.specs.declared.Reply.{Reply};
+ghost use Rattle.seq_memory.specs.Entries.{Reply};
 ghost use Rattle.seq_memory.specs.Step as step;
 ghost use Rattle.search_effects.specs.Effects.{AreApart, told_of};
 ghost use Rattle.log_runs.specs.EventView as events;
@@ -137,7 +137,8 @@ fn misses_left(log: &Log, one: &Op, told: Option<&Reply>, third: &Op, had: Optio
 
 /// [`misses_left`], the third having no addresses but the other's.
 fn misses_there(log: &Log, one: Request, other: &Op, third: Request) -> bool
-    ensures { IsTrue result → specs.MissesLeft log.now.extent one.entry.op.now (told_of one.entry.told) other.now third.entry.op.now (told_of third.entry.told) }
+    ensures { IsTrue result →
+        specs.MissesLeft log.now.extent one.entry.op.now (told_of one.entry.told) other.now third.entry.op.now (told_of third.entry.told) }
 {
     if !spans(other, third.op) {
         return false;
@@ -147,7 +148,8 @@ fn misses_there(log: &Log, one: Request, other: &Op, third: Request) -> bool
 
 /// What the third leaves at the addresses of the other is nothing to the operation.
 fn leaves_junk(log: &Log, one: Request, other: &Op, third: Request) -> bool
-    ensures { IsTrue result → specs.LeavesJunk log.now.extent one.entry.op.now (told_of one.entry.told) other.now third.entry.op.now (told_of third.entry.told) }
+    ensures { IsTrue result →
+        specs.LeavesJunk log.now.extent one.entry.op.now (told_of one.entry.told) other.now third.entry.op.now (told_of third.entry.told) }
 {
     if ignores(log, one.op, one.told, other) {
         return true;
@@ -157,7 +159,9 @@ fn leaves_junk(log: &Log, one: Request, other: &Op, third: Request) -> bool
 
 /// [`leaves_junk`], the third being request `g`.
 fn leaves_junk_behind(log: &Log, one: &Op, told: Option<&Reply>, other: &Op, g: usize) -> bool
-    ensures { IsTrue result → (l : ℕ) × (third : Op) × (had : Option Reply) × (slice_get log.now.events g ≡ Some (events.Sub l third had)) × specs.LeavesJunk log.now.extent one.now (told_of told.entry) other.now third had }
+    ensures { IsTrue result →
+        (l : ℕ) × (third : Op) × (had : Option Reply) × (slice_get log.now.events g ≡ Some (events.Sub l third had)) ×
+        specs.LeavesJunk log.now.extent one.now (told_of told.entry) other.now third had }
 {
     match log.event(g) {
         Some(Event::Sub { op, reply, .. }) => {
@@ -172,7 +176,9 @@ fn leaves_junk_behind(log: &Log, one: &Op, told: Option<&Reply>, other: &Op, g: 
 /// [`leaves_junk_behind`], the other being word `word`.
 fn leaves_junk_by(log: &Log, one: &Op, told: Option<&Reply>, g: usize, word: u64) -> bool
     requires { word < log.now.extent.size / 4 }
-    ensures { IsTrue result → (l : ℕ) × (third : Op) × (had : Option Reply) × (slice_get log.now.events g ≡ Some (events.Sub l third had)) × specs.LeavesJunk log.now.extent one.now (told_of told.entry) (specs.word log.now.extent word) third had }
+    ensures { IsTrue result →
+        (l : ℕ) × (third : Op) × (had : Option Reply) × (slice_get log.now.events g ≡ Some (events.Sub l third had)) ×
+        specs.LeavesJunk log.now.extent one.now (told_of told.entry) (specs.word log.now.extent word) third had }
 {
     let other = word_of(log, word);
     leaves_junk_behind(log, one, told, &other, g)
@@ -193,7 +199,9 @@ pub fn leaves_junk_at(log: &Log, b: usize, g: usize, word: u64) -> bool
 
 /// The addresses of the operation are among those of request `q`.
 fn is_within_by(log: &Log, third: &Op, q: usize) -> bool
-    ensures { IsTrue result → (j : ℕ) × (other : Op) × (asked : Option Reply) × (slice_get log.now.events q ≡ Some (events.Sub j other asked)) × specs.HasAddresses other third.now }
+    ensures { IsTrue result →
+        (j : ℕ) × (other : Op) × (asked : Option Reply) × (slice_get log.now.events q ≡ Some (events.Sub j other asked)) ×
+        specs.HasAddresses other third.now }
 {
     match log.event(q) {
         Some(Event::Sub { op, .. }) => spans(op, third),

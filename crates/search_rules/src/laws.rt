@@ -1,7 +1,7 @@
 //! Laws of runs.
 ghost use Rattle.std.specs.Prelude.{ℕ, ◌≡◌, List, length, slice_get, Option, Some};
-ghost use Rattle.tlp_core.specs.declared.operation.Op.{Op};
-ghost use Rattle.seq_memory.specs.declared.Reply.{Reply};
+ghost use Rattle.tlp_core.specs.Ops.{Op};
+ghost use Rattle.seq_memory.specs.Entries.{Reply};
 ghost use Rattle.log_runs.specs.EventView as events;
 ghost use Rattle.log_runs.specs.declared.Step.TheVariants as steps;
 ghost use Rattle.log_runs.specs.LogView.{LogView};
@@ -26,7 +26,8 @@ pub fn what_lacks_a_byte_is_dead()
 /// A request puts no byte that isn't in its range.
 #[tactic(auto, using(crate::proofs::ByteLemmas::outside_stays))]
 pub fn nothing_is_put_outside()
-    ensures { (log : LogView) (b k v : ℕ) → ((i : ℕ) (op : Op) (told : Option Reply) → slice_get log.events b ≡ Some (events.Sub i op told) → IsOutside log.extent op k) → NeverPuts log b k v }
+    ensures { (log : LogView) (b k v : ℕ) →
+        ((i : ℕ) (op : Op) (told : Option Reply) → slice_get log.events b ≡ Some (events.Sub i op told) → IsOutside log.extent op k) → NeverPuts log b k v }
 {
     only_the_place_changes();
 }
@@ -70,13 +71,17 @@ pub fn what_is_over_junk_acts_at_once()
 
 /// Of requests that are alike the one that is due first may act first: where a run leads on after the other, one does after it.
 pub fn the_first_of_alike_requests_acts_first()
-    ensures { (log : LogView) (s : State) (b c : ℕ) → GoesFirst log s b c → MayAct log s c → Live log (next log s (steps.Act c)) → Live log (next log s (steps.Act b)) }
+    ensures { (log : LogView) (s : State) (b c : ℕ) → GoesFirst log s b c → MayAct log s c → Live log (next log s (steps.Act c)) →
+        Live log (next log s (steps.Act b)) }
 {}
 
 /// An event that is no submission brings nothing, yields to any request and lets it be the first.
 #[tactic(auto, using(crate::proofs::PairLemmas::idle_brings, crate::proofs::PairLemmas::idle_yields, crate::proofs::FirstLemmas::idle_first))]
 pub fn answers_yield()
-    ensures brings { (log : LogView) (b q : ℕ) → ((i : ℕ) (op : Op) (told : Option Reply) → slice_get log.events b ≡ Some (events.Sub i op told) → ⊥) → NeverBrings log b q }
-    ensures yields { (log : LogView) (b q : ℕ) → ((i : ℕ) (op : Op) (told : Option Reply) → slice_get log.events b ≡ Some (events.Sub i op told) → ⊥) → Yields log b q }
-    ensures first { (log : LogView) (m : List ℕ) (b q : ℕ) → ((i : ℕ) (op : Op) (told : Option Reply) → slice_get log.events b ≡ Some (events.Sub i op told) → ⊥) → LetsFirst log m b q }
+    ensures brings { (log : LogView) (b q : ℕ) → ((i : ℕ) (op : Op) (told : Option Reply) → slice_get log.events b ≡ Some (events.Sub i op told) → ⊥) →
+        NeverBrings log b q }
+    ensures yields { (log : LogView) (b q : ℕ) → ((i : ℕ) (op : Op) (told : Option Reply) → slice_get log.events b ≡ Some (events.Sub i op told) → ⊥) →
+        Yields log b q }
+    ensures first { (log : LogView) (m : List ℕ) (b q : ℕ) →
+        ((i : ℕ) (op : Op) (told : Option Reply) → slice_get log.events b ≡ Some (events.Sub i op told) → ⊥) → LetsFirst log m b q }
 {}

@@ -1,8 +1,8 @@
 //! Bytes that a request needs.
 ghost use Rattle.std.specs.Prelude.{ℕ, ◌≡◌, ◌+◌, List, Option, Some, IfSome, IsTrue, slice_get, slice_index};
-ghost use Rattle.tlp_core.specs.declared.operation.Op.{Op};
+ghost use Rattle.tlp_core.specs.Ops.{Op};
 ghost use Rattle.tlp_core.specs.Operation.{address_of};
-ghost use Rattle.seq_memory.specs.declared.Reply.{Reply};
+ghost use Rattle.seq_memory.specs.Entries.{Reply};
 ghost use Rattle.seq_memory.specs.Step.{answer};
 ghost use Rattle.search_effects.specs.Effects.{Agrees, told_of};
 ghost use Rattle.log_runs.specs.EventView as events;
@@ -55,7 +55,8 @@ fn need_of(base: u64, op: &Op, told: Option<&Reply>, at: usize) -> Option<Need>
 
 /// What the byte at place `at` of request `q`'s range has to be when it acts, if that is known.
 pub fn need_at(log: &Log, q: usize, at: usize) -> Option<Need>
-    ensures place { IfSome result (λ n. (i : ℕ) × (op : Op) × (told : Option Reply) × (slice_get log.now.events q ≡ Some (events.Sub i op told)) × (log.now.extent.base + n.place ≡ address_of op + at)) }
+    ensures place { IfSome result (λ n. (i : ℕ) × (op : Op) × (told : Option Reply) × (slice_get log.now.events q ≡ Some (events.Sub i op told)) ×
+        (log.now.extent.base + n.place ≡ address_of op + at)) }
     ensures needs { IfSome result (λ n. NeedsByte log.now q n.place n.value) }
 {
     match log.event(q) {
@@ -66,7 +67,8 @@ pub fn need_at(log: &Log, q: usize, at: usize) -> Option<Need>
 
 /// Right after the operation the byte is as it has to be only if it was before.
 fn keeps_byte(log: &Log, op: &Op, told: Option<&Reply>, need: Need) -> bool
-    ensures { IsTrue result → (m : List ℕ) → Answers log.now.extent m op.now (told_of told.entry) → slice_index (bytes_after log.now.extent m op.now) need.place ≡ need.value → slice_index m need.place ≡ need.value }
+    ensures { IsTrue result → (m : List ℕ) → Answers log.now.extent m op.now (told_of told.entry) →
+        slice_index (bytes_after log.now.extent m op.now) need.place ≡ need.value → slice_index m need.place ≡ need.value }
 {
     let extent = log.extent();
     let Some(address) = extent.base().checked_add(need.place as u64) else {

@@ -1,5 +1,7 @@
 //! What two requests of a log do to each other.
 ghost use Rattle.std.specs.Prelude.{ℕ, ◌≡◌, ◌⊎◌, List, Option, Some, IfSome, true, IsTrue, length, slice_get};
+ghost use Rattle.tlp_core.specs.Ops.{Op};
+ghost use Rattle.seq_memory.specs.Entries.{Reply};
 ghost use Rattle.tlp_core.specs.Operation.{is_posted};
 ghost use Rattle.seq_memory.specs.Limits.{IsBlock};
 ghost use Rattle.seq_memory.specs.Step.{after};
@@ -18,7 +20,8 @@ use tlp_core::Op;
 /// Right after the first operation the memory suits the second only if it did before.
 fn keeps_out(block: u16, one: &Op, told: Option<&Reply>, other: &Op, asked: Option<&Reply>) -> bool
     requires { IsBlock block }
-    ensures { IsTrue result → (base : ℕ) (m : List ℕ) → Agrees base block m one.now (told_of told.entry) → Agrees base block (after base block m one.now) other.now (told_of asked.entry) → Agrees base block m other.now (told_of asked.entry) }
+    ensures { IsTrue result → (base : ℕ) (m : List ℕ) → Agrees base block m one.now (told_of told.entry) →
+        Agrees base block (after base block m one.now) other.now (told_of asked.entry) → Agrees base block m other.now (told_of asked.entry) }
 {
     match asked {
         Some(reply) => search_effects::never_brings(block, one, told, other, reply),
@@ -28,7 +31,8 @@ fn keeps_out(block: u16, one: &Op, told: Option<&Reply>, other: &Op, asked: Opti
 
 /// Right after the operation the memory suits request `q` only if it did before.
 fn never_brings_by(log: &Log, one: &Op, told: Option<&Reply>, q: usize) -> bool
-    ensures { IsTrue result → (m : List ℕ) → Answers log.now.extent m one.now (told_of told.entry) → Suits log.now.extent (bytes_after log.now.extent m one.now) (slice_get log.now.events q) → Suits log.now.extent m (slice_get log.now.events q) }
+    ensures { IsTrue result → (m : List ℕ) → Answers log.now.extent m one.now (told_of told.entry) →
+        Suits log.now.extent (bytes_after log.now.extent m one.now) (slice_get log.now.events q) → Suits log.now.extent m (slice_get log.now.events q) }
 {
     match log.event(q) {
         Some(Event::Sub { op, reply, .. }) => {
@@ -54,8 +58,14 @@ pub fn never_brings(log: &Log, b: usize, q: usize) -> bool
 /// or their order makes no difference.
 fn gives_way(block: u16, one: &Op, told: Option<&Reply>, other: &Op, asked: Option<&Reply>) -> bool
     requires { IsBlock block }
-    ensures brings { IsTrue result → (base : ℕ) (m : List ℕ) → Agrees base block m one.now (told_of told.entry) → Agrees base block (after base block m one.now) other.now (told_of asked.entry) → Agrees base block m other.now (told_of asked.entry) }
-    ensures order { IsTrue result → (base : ℕ) (m : List ℕ) → Agrees base block m one.now (told_of told.entry) → Agrees base block m other.now (told_of asked.entry) → (Agrees base block (after base block m one.now) other.now (told_of asked.entry) → ⊥) ⊎ (Agrees base block (after base block m one.now) other.now (told_of asked.entry) × Agrees base block (after base block m other.now) one.now (told_of told.entry) × (after base block (after base block m one.now) other.now ≡ after base block (after base block m other.now) one.now)) }
+    ensures brings { IsTrue result → (base : ℕ) (m : List ℕ) → Agrees base block m one.now (told_of told.entry) →
+        Agrees base block (after base block m one.now) other.now (told_of asked.entry) → Agrees base block m other.now (told_of asked.entry) }
+    ensures order { IsTrue result → (base : ℕ) (m : List ℕ) → Agrees base block m one.now (told_of told.entry) →
+        Agrees base block m other.now (told_of asked.entry) →
+        (Agrees base block (after base block m one.now) other.now (told_of asked.entry) → ⊥) ⊎
+        (Agrees base block (after base block m one.now) other.now (told_of asked.entry) ×
+        Agrees base block (after base block m other.now) one.now (told_of told.entry) ×
+        (after base block (after base block m one.now) other.now ≡ after base block (after base block m other.now) one.now)) }
 {
     match asked {
         Some(reply) => search_effects::yields(block, one, told, other, reply),
@@ -66,8 +76,11 @@ fn gives_way(block: u16, one: &Op, told: Option<&Reply>, other: &Op, asked: Opti
 /// [`never_brings_by`]; and where the memory suits both, it doesn't suit request `q` right after the
 /// operation, or their order makes no difference.
 fn yields_by(log: &Log, one: &Op, told: Option<&Reply>, q: usize) -> bool
-    ensures brings { IsTrue result → (m : List ℕ) → Answers log.now.extent m one.now (told_of told.entry) → Suits log.now.extent (bytes_after log.now.extent m one.now) (slice_get log.now.events q) → Suits log.now.extent m (slice_get log.now.events q) }
-    ensures order { IsTrue result → (m : List ℕ) → Answers log.now.extent m one.now (told_of told.entry) → Suits log.now.extent m (slice_get log.now.events q) → (i : ℕ) → Ends log.now.extent m (bytes_after log.now.extent m one.now) (Some (events.Sub i one.now (told_of told.entry))) (slice_get log.now.events q) }
+    ensures brings { IsTrue result → (m : List ℕ) → Answers log.now.extent m one.now (told_of told.entry) →
+        Suits log.now.extent (bytes_after log.now.extent m one.now) (slice_get log.now.events q) → Suits log.now.extent m (slice_get log.now.events q) }
+    ensures order { IsTrue result → (m : List ℕ) → Answers log.now.extent m one.now (told_of told.entry) →
+        Suits log.now.extent m (slice_get log.now.events q) → (i : ℕ) →
+        Ends log.now.extent m (bytes_after log.now.extent m one.now) (Some (events.Sub i one.now (told_of told.entry))) (slice_get log.now.events q) }
 {
     match log.event(q) {
         Some(Event::Sub { op, reply, .. }) => {
@@ -93,7 +106,8 @@ pub fn yields(log: &Log, b: usize, q: usize) -> bool
 
 /// The operation isn't served, or changes nothing where the memory answers it so.
 fn is_quiet(log: &Log, op: &Op, told: Option<&Reply>) -> bool
-    ensures { IsTrue result → (m : List ℕ) → length m ≡ log.now.extent.size → Answers log.now.extent m op.now (told_of told.entry) → bytes_after log.now.extent m op.now ≡ m }
+    ensures { IsTrue result → (m : List ℕ) → length m ≡ log.now.extent.size → Answers log.now.extent m op.now (told_of told.entry) →
+        bytes_after log.now.extent m op.now ≡ m }
 {
     refused_and_read_change_nothing();
     if !is_served(log, op) {
@@ -114,7 +128,9 @@ pub fn changes_nothing(log: &Log, q: usize) -> bool
 
 /// The operations have no byte in common, or the first waits till the bytes of the second aren't these.
 fn goes_behind(base: u64, bytes: &[u8], one: &Op, told: Option<&Reply>, other: &Op) -> bool
-    ensures { IsTrue result → AreApart one.now other.now ⊎ ((block : ℕ) (n : List ℕ) → AreSameAt base other.now bytes.now n → Agrees base block n one.now (told_of told.entry) → ⊥) }
+    ensures { IsTrue result →
+        AreApart one.now other.now ⊎
+        ((block : ℕ) (n : List ℕ) → AreSameAt base other.now bytes.now n → Agrees base block n one.now (told_of told.entry) → ⊥) }
 {
     if are_apart(one, other) {
         return true;
@@ -124,7 +140,9 @@ fn goes_behind(base: u64, bytes: &[u8], one: &Op, told: Option<&Reply>, other: &
 
 /// The operation has no byte of request `q`, or waits till those bytes aren't these.
 fn lets_first_by(log: &Log, bytes: &[u8], one: &Op, told: Option<&Reply>, q: usize) -> bool
-    ensures { IsTrue result → (j : ℕ) (other : Op) (asked : Option Reply) → slice_get log.now.events q ≡ Some (events.Sub j other asked) → AreApart one.now other ⊎ ((n : List ℕ) → AreSameAt log.now.extent.base other bytes.now n → Answers log.now.extent n one.now (told_of told.entry) → ⊥) }
+    ensures { IsTrue result → (j : ℕ) (other : Op) (asked : Option Reply) → slice_get log.now.events q ≡ Some (events.Sub j other asked) →
+        AreApart one.now other ⊎
+        ((n : List ℕ) → AreSameAt log.now.extent.base other bytes.now n → Answers log.now.extent n one.now (told_of told.entry) → ⊥) }
 {
     match log.event(q) {
         Some(Event::Sub { op, .. }) => goes_behind(log.extent().base(), bytes, one, told, op),

@@ -1,7 +1,7 @@
 -- What the parts of a scene show, it shows.
 use Rattle.std.proofs.Common.{◌≡◌, ◌≤◌, ℕ, List, length, All, subst, arith}
-use Rattle.seq_memory.specs.declared.Entry.{Entry}
-use Rattle.history_check.specs.TraceView.{TraceView}
+use Rattle.seq_memory.specs.Entries.{Entry}
+use Rattle.history_words.specs.TraceView.{TraceView}
 use Rattle.trace_diagnostics.specs.Told.{TraceLinesView}
 use Rattle.search_picture.specs.declared.scene.Scene.{Scene}
 use Rattle.search_scene.specs.Scenes.{Page, IsBar, IsHistoryOf, Joins, Shows, title_of}

@@ -1,7 +1,7 @@
 -- The column where a bar begins and ends.
 use Rattle.std.specs.Prelude.{ℕ, ◌≡◌, ◌⊎◌, true, false, length, slice_get, Some}
-use Rattle.tlp_core.specs.declared.operation.Op.{Op}
-use Rattle.history_check.specs.declared.Record.TheVariants as records
+use Rattle.tlp_core.specs.Ops.{Op}
+use Rattle.history_words.specs.declared.record.RecordOf.TheVariants as records
 use Rattle.search_scene.specs.declared.bars.Span.{Span}
 use Rattle.search_scene.specs.Scenes.{Page, IsAnswered, IsColumnOf, unanswered}
 

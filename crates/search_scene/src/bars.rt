@@ -1,7 +1,7 @@
 //! Requests as bars.
 ghost use Rattle.std.specs.Prelude.{◌≡◌, ◌≤◌, ◌+◌, ◌++◌, ℕ, All, IfOk, IfSome, OnOk, Some, codes, length, slice_get, true};
-ghost use Rattle.history_check.specs.declared.Record.TheVariants as kinds;
-ghost use Rattle.tlp_core.specs.declared.operation.Op.{Op};
+ghost use Rattle.history_words.specs.declared.record.RecordOf.TheVariants as kinds;
+ghost use Rattle.tlp_core.specs.Ops.{Op};
 ghost use Rattle.operation_text.specs.Texts.{op_text};
 ghost use Rattle.search_history.specs.Expected.{IsExpected};
 ghost use Rattle.search_scene.specs.Scenes as spec;
@@ -13,7 +13,7 @@ use crate::columns::column_of;
 use crate::ends::{End, Name, closed_end, open_end};
 use crate::page::Page;
 use arrayvec::ArrayString;
-use history_check::Record;
+use history_words::Record;
 use operation_text::write_op;
 use search_history::Before;
 use search_picture::{Request, Role};
@@ -97,7 +97,7 @@ fn words_of(alloc: Global, op: &Op) -> Result<Vec<u8>, AllocError>
     ensures { IfOk result (λ v. v.items ≡ op_text op.now) }
 {
     let mut text = ArrayString::new();
-    write_op(op, &mut text);
+    write_op(&op.lend(), &mut text);
     let mut words = Vec::new(alloc);
     words.extend_from_slice(text.as_bytes())?;
     Ok(words)
@@ -218,7 +218,8 @@ impl Bars {
     fn add(&mut self, bar: Option<Request>, submission: usize) -> Result<(), AllocError>
         ensures bars { (page : spec.Page) → All (IsBar page) self.old.all.items → IfSome bar (IsBar page) → OnOk result (All (IsBar page) self.new.all.items) }
         ensures few { OnOk result (length self.new.all.items ≤ length self.old.all.items + 1) }
-        ensures each { length self.old.submissions.items ≡ length self.old.all.items → OnOk result (length self.new.submissions.items ≡ length self.new.all.items) }
+        ensures each { length self.old.submissions.items ≡ length self.old.all.items →
+            OnOk result (length self.new.submissions.items ≡ length self.new.all.items) }
     {
         let Some(bar) = bar else {
             return Ok(());

@@ -33,7 +33,7 @@ fn put_reply(reply: &Reply, out: &mut Vec<u8>) -> Result<(), AllocError>
     ensures { OnOk result (out.new.items ≡ out.old.items ++ reply_text reply.now) }
 {
     let mut text = ArrayString::new();
-    write_reply(reply, &mut text);
+    write_reply(&reply.lend(), &mut text);
     out.extend_from_slice(text.as_bytes())
 }
 

@@ -1,10 +1,10 @@
 //! A history of the records before the last one, and the reply that is expected there.
 ghost use Rattle.std.specs.Prelude.{◌≡◌, ◌≤◌, ◌-◌, [], None, IfOk, IfSome, length};
+ghost use Rattle.log_runs.specs.Explainable.{prefix as first};
 ghost use Rattle.search_history.specs.Expected.{IsExpected};
 ghost use Rattle.search_scene.specs.Scenes.{IsHistoryOf};
 
-use crate::copies::first_of;
-use history_check::Trace;
+use history_words::{Record, Trace};
 use log_requests::Prefix;
 use search_history::{Before, Sought, explained_before, search};
 use search_reasons::Case;
@@ -28,6 +28,27 @@ fn nothing(alloc: Global) -> Known
         history: Vec::new(alloc),
         before: None,
     }
+}
+
+fn copies_of(alloc: Global, records: &[Record]) -> Result<Vec<Record>, AllocError>
+    ensures { IfOk result (λ v. v.items ≡ records.now) }
+{
+    let mut copies = Vec::with_capacity(alloc, records.len())?;
+    for place in 0..records.len() {
+        copies.push(records[place].lend().to_owned())?;
+    }
+    Ok(copies)
+}
+
+/// The first `count` records, as a log of their own.
+fn first_of(alloc: Global, trace: &Trace, count: usize) -> Result<Trace, AllocError>
+    requires { count ≤ length trace.now.records }
+    ensures { IfOk result (λ t. t ≡ first count trace.now) }
+{
+    Ok(Trace {
+        extent: trace.extent,
+        records: copies_of(alloc, &trace.records[..count])?,
+    })
 }
 
 /// A history of the first `count` records; empty if none is found.

@@ -13,7 +13,6 @@ mod arrows;
 mod bars;
 mod choosing;
 mod columns;
-mod copies;
 mod ends;
 mod known;
 mod notes;

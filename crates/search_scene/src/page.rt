@@ -1,5 +1,5 @@
 //! A log, and what a scene shows of it.
-use history_check::Trace;
+use history_words::Trace;
 use seq_memory::Entry;
 use std::marker::Model;
 use trace_diagnostics::TraceLines;

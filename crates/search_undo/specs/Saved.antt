@@ -1,6 +1,6 @@
 -- What an operation overwrites.
 use Rattle.std.specs.Prelude.{ℕ, ◌-◌, List, [], length, Option, Some, None}
-use Rattle.tlp_core.specs.declared.operation.Op.{Op}
+use Rattle.tlp_core.specs.Ops.{Op}
 use Rattle.tlp_core.specs.Operation.{address_of, count_of}
 use Rattle.seq_memory.specs.declared.Refusal.{Refusal}
 use Rattle.seq_memory.specs.Step.{refusal, bytes_at}

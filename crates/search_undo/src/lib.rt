@@ -6,28 +6,15 @@
 
 mod serving;
 
-ghost use Rattle.std.specs.Prelude.{◌≡◌, ◌≤◌, ℕ, List, length};
-ghost use Rattle.arrayvec.specs.ArrayVec.{array_vec_len};
+ghost use Rattle.std.specs.Prelude.{◌≡◌, ℕ, List};
 ghost use Rattle.seq_memory.specs.Limits.{IsBlock};
 ghost use Rattle.seq_memory.specs.Step.{after, answer};
 ghost use Rattle.search_undo.specs.Saved.{saved_at};
 
-use arrayvec::ArrayVec;
 use seq_memory::laws::{only_the_place_changes, refused_and_read_change_nothing};
 use seq_memory::{Refusal, Reply, perform};
-pub use serving::refusal;
-use tlp_core::{MAX_PAYLOAD, Op};
-
-/// The bytes as data.
-fn copy_of(bytes: &[u8]) -> ArrayVec<u8, MAX_PAYLOAD>
-    requires { length bytes.now ≤ 128 }
-    ensures items { result.items ≡ bytes.now }
-    ensures len { array_vec_len result ≡ length bytes.now }
-{
-    let mut copy = ArrayVec::new();
-    let _ = copy.try_extend_from_slice(bytes);
-    copy
-}
+pub use serving::{refusal, refusal_lent};
+use tlp_core::{Op, Payload, payload_of};
 
 /// What the memory whose bytes begin at `base` would answer to the operation, by blocks of `block`
 /// bytes.
@@ -41,22 +28,22 @@ pub fn reply(base: u64, block: u16, bytes: &[u8], op: &Op) -> Reply
         Some(Refusal::Unsupported) => Reply::Unsupported,
         None => {
             let from = (op.address() - base) as usize;
-            let mut place = copy_of(&bytes[from..from + op.size() as usize]);
+            let mut place = payload_of(&bytes[from..from + op.size() as usize]);
             perform(op.address(), block, place.as_mut_slice(), op)
         }
     }
 }
 
 /// The bytes at the operation's place, if it is served, for [`put_back`]; else none.
-pub fn saved(base: u64, block: u16, bytes: &[u8], op: &Op) -> ArrayVec<u8, MAX_PAYLOAD>
+pub fn saved(base: u64, block: u16, bytes: &[u8], op: &Op) -> Payload
     requires { IsBlock block }
     ensures { result.items ≡ saved_at base block bytes.now op.now }
 {
     if refusal(base, block, bytes.len(), op).is_some() {
-        return copy_of(&[]);
+        return payload_of(&[]);
     }
     let from = (op.address() - base) as usize;
-    copy_of(&bytes[from..from + op.size() as usize])
+    payload_of(&bytes[from..from + op.size() as usize])
 }
 
 /// Makes the bytes what they were before the operation, if `old` is what [`saved`] returned then.

@@ -3,8 +3,8 @@
 //! Each word of a request is looked at by itself: [`span_of`] says which it has. Whoever names bytes of
 //! such a word either is in one of the lists that are returned for it, or is nothing to the request.
 ghost use Rattle.std.specs.Prelude.{◌≡◌, ◌+◌, ◌*◌, ◌<◌, ◌≤◌, ◌/◌, ◌⊎◌, ℕ, Option, Some, IfSome, IsTrue, length, slice_get};
-ghost use Rattle.tlp_core.specs.declared.operation.Op.{Op};
-ghost use Rattle.seq_memory.specs.declared.Reply.{Reply};
+ghost use Rattle.tlp_core.specs.Ops.{Op};
+ghost use Rattle.seq_memory.specs.Entries.{Reply};
 ghost use Rattle.log_runs.specs.EventView as events;
 ghost use Rattle.search_words.specs.Lists.{Has, InList};
 ghost use Rattle.search_words.specs.Words.{value_in, AllRise, IsWords, MayNeed, NamesWord, IsNear, HasWord, HasWordAt, NeedsWordAt, LeavesWordAt, IsOutAt, key};
@@ -98,7 +98,8 @@ fn near_by_left(words: &Words, stretch: Stretch, value: u64) -> Near<'_>
     requires rise { (n : ℕ) × AllRise words.now n }
     requires word { stretch.word < 262144 }
     requires value { value < 4294967296 }
-    ensures { (b : ℕ) → stretch.from ≤ b → b < stretch.to → InList words.now.wide b ⊎ Has words.now.loose stretch.word b ⊎ Has words.now.left (key stretch.word value) b → IsNear result b }
+    ensures { (b : ℕ) → stretch.from ≤ b → b < stretch.to →
+        InList words.now.wide b ⊎ Has words.now.loose stretch.word b ⊎ Has words.now.left (key stretch.word value) b → IsNear result b }
 {
     let Stretch { word, from, to } = stretch;
     Near {

@@ -5,6 +5,8 @@
 //! there, or leave the value that it needs; those of which that isn't known; and those that write all of
 //! the word, whatever stands there.
 ghost use Rattle.std.specs.Prelude.{◌≡◌, ◌+◌, ◌*◌, ◌<◌, ◌≤◌, ◌/◌, ◌⊎◌, ℕ, List, Option, Some, None, true, IfOk, IfSome, OnOk, IsTrue, length, slice_get, slice_index, ◌-◌};
+ghost use Rattle.tlp_core.specs.Ops.{Op};
+ghost use Rattle.seq_memory.specs.Entries.{Reply};
 ghost use Rattle.tlp_core.specs.Operation.{address_of, count_of};
 ghost use Rattle.seq_memory.specs.Step.{refusal, after};
 ghost use Rattle.search_effects.specs.Effects as effects;
@@ -118,7 +120,9 @@ fn puts_four(op: &Op, at: usize) -> bool
 
 /// What the operation, which was answered with these bytes, needs at the word, if it needs all of it.
 fn needed_in(base: u64, op: &Op, seen: &[u8], word: u64) -> Option<u64>
-    ensures needs { IfSome result (λ v. (m : List ℕ) → ((at : ℕ) → effects.is_needed op.now at ≡ true → at < length seen.now → slice_index m (address_of op.now - base + at) ≡ slice_index seen.now at) → value_in m (4 * word) ≡ v) }
+    ensures needs { IfSome result (λ v. (m : List ℕ) →
+        ((at : ℕ) → effects.is_needed op.now at ≡ true → at < length seen.now → slice_index m (address_of op.now - base + at) ≡ slice_index seen.now at) →
+        value_in m (4 * word) ≡ v) }
     ensures few { IfSome result (λ v. v < 4294967296) }
 {
     let at = place_of(base, op, word)?;
@@ -143,7 +147,9 @@ pub(crate) fn needed_at(log: &Log, op: &Op, told: Option<&Reply>, word: u64) -> 
 
 /// What the operation puts at the word, if it puts all of it: `new` is what it leaves in its range.
 fn put_in(base: u64, op: &Op, new: &[u8], word: u64) -> Option<u64>
-    ensures puts { IfSome result (λ v. (m : List ℕ) → ((at : ℕ) → at < length new.now → effects.is_put op.now at ≡ true → slice_index m (address_of op.now - base + at) ≡ slice_index new.now at) → value_in m (4 * word) ≡ v) }
+    ensures puts { IfSome result (λ v. (m : List ℕ) →
+        ((at : ℕ) → at < length new.now → effects.is_put op.now at ≡ true → slice_index m (address_of op.now - base + at) ≡ slice_index new.now at) →
+        value_in m (4 * word) ≡ v) }
     ensures few { IfSome result (λ v. v < 4294967296) }
 {
     let at = place_of(base, op, word)?;
@@ -237,7 +243,9 @@ impl Words {
         requires few { IfSome need (λ v. v < 4294967296) }
         ensures keeps { OnOk result (Keeps self.old self.new) }
         ensures rise { OnOk result (AllRise self.new judged.entry.request.b) }
-        ensures own { OnOk result (Has self.new.blind word judged.entry.request.b ⊎ (IsTrue judged.entry.careless × Has self.new.careless word judged.entry.request.b) ⊎ ((v : ℕ) × (need ≡ Some v) × Has self.new.needed (key word v) judged.entry.request.b)) }
+        ensures own { OnOk result (Has self.new.blind word judged.entry.request.b ⊎
+            (IsTrue judged.entry.careless × Has self.new.careless word judged.entry.request.b) ⊎
+            ((v : ℕ) × (need ≡ Some v) × Has self.new.needed (key word v) judged.entry.request.b)) }
     {
         let b = judged.request.b;
         match need {
@@ -327,7 +335,8 @@ impl Words {
         requires few { words.1 ≤ 262144 }
         ensures keeps { OnOk result (Keeps self.old self.new) }
         ensures rise { OnOk result (AllRise self.new judged.entry.request.b) }
-        ensures own { OnOk result ((w : ℕ) → words.0 ≤ w → w < words.1 → IsKnownAt log.now.extent self.new judged.entry.request.b judged.entry.request.op.now (told_of judged.entry.request.told) w) }
+        ensures own { OnOk result ((w : ℕ) → words.0 ≤ w → w < words.1 →
+            IsKnownAt log.now.extent self.new judged.entry.request.b judged.entry.request.op.now (told_of judged.entry.request.told) w) }
     {
         for word in words.0..words.1 {
             self.add_at(alloc, log, judged, word)?;
@@ -361,7 +370,8 @@ impl Words {
         requires { AllRise self.old at }
         ensures keeps { OnOk result (Keeps self.old self.new) }
         ensures rise { OnOk result (AllRise self.new at) }
-        ensures own { OnOk result ((i : ℕ) (op : Op) (told : Option Reply) → slice_get log.now.events at ≡ Some (events.Sub i op told) → IsTaken log.now.extent self.new at op told) }
+        ensures own { OnOk result ((i : ℕ) (op : Op) (told : Option Reply) → slice_get log.now.events at ≡ Some (events.Sub i op told) →
+            IsTaken log.now.extent self.new at op told) }
     {
         match log.event(at) {
             Some(Event::Sub { op, reply, .. }) => {

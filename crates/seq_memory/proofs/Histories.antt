@@ -4,8 +4,8 @@ use Rattle.std.specs.Prelude.{fold, replicate, option_map, slice_get}
 use Rattle.std.proofs.lemmas.List.{append-nil, drop_all, take_all, take_at, take_more, take-append-le, get_or_at, length-replicate}
 use Rattle.std.proofs.lemmas.Option.{slice_get_within, slice_get_past, get_or_from_slice_get}
 use Rattle.std.proofs.lemmas.List.Sums.{fold-append}
-use Rattle.tlp_core.specs.declared.operation.Op.{Op}
-use Rattle.seq_memory.specs.declared.Entry.{Entry}
+use Rattle.tlp_core.specs.Ops.{Op}
+use Rattle.seq_memory.specs.Entries.{Entry}
 use Rattle.seq_memory.specs.Step.{after, answer}
 use Rattle.seq_memory.specs.Limits.{Extent}
 use Rattle.seq_memory.specs.History.{contents, contents_at, reply_at}

@@ -6,8 +6,8 @@ use Rattle.std.proofs.lemmas.Bool.Decides.{nat_tests}
 use Rattle.std.proofs.Math.Seq.{length-take-le}
 use Rattle.byteorder.specs.Numbers.{length-bytes_low_first}
 use Rattle.arrayvec.specs.ArrayVec.{ArrayVec}
-use Rattle.tlp_core.specs.declared.operation.Op.{Op}
-use Rattle.tlp_core.specs.declared.operation.Op.TheVariants as ops
+use Rattle.tlp_core.specs.Ops.{Op}
+use Rattle.tlp_core.specs.declared.operation.OpOf.TheVariants as ops
 use Rattle.tlp_core.specs.declared.fault.TlpFault.{TlpFault}
 use Rattle.tlp_core.specs.declared.fault.TlpFault.TheVariants as faults
 use Rattle.tlp_core.specs.Enables.{dw_enables, enables}

@@ -1,4 +1,4 @@
+pub mod Entries
 pub mod Limits
 pub mod Step
 pub mod History
-pub mod Outcome

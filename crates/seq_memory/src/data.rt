@@ -1,11 +1,12 @@
 //! Room for the data of one reply.
 ghost use Rattle.std.specs.Prelude.{◌≡◌, ◌/◌, ◌%◌, ◌≤◌, [], length, replicate};
 ghost use Rattle.tlp_core.specs.Enables.{enables};
-ghost use Rattle.seq_memory.specs.Step.{merged};
+ghost use Rattle.seq_memory.specs.Step.{merged, data_of};
 
+use crate::ReplyRef;
 use crate::step::{ZEROS, are_all_enabled, merge, replace};
 use std::marker::Model;
-use tlp_core::MAX_PAYLOAD;
+use tlp_core::{MAX_PAYLOAD, PayloadRef};
 
 /// The data of a reply, at most as many bytes as a payload may have. The room is made once and used
 /// for one reply after the other: putting data there writes no byte behind it.
@@ -64,6 +65,14 @@ impl ReplyData {
         room.copy_from_slice(&ZEROS[..end]);
         merge(room, place, first, last);
         self.len = end;
+    }
+
+    /// The reply with these bytes, which are lent.
+    #[inline(always)]
+    pub(crate) fn reply(&self) -> ReplyRef<'_>
+        ensures { result ≡ data_of self.now }
+    {
+        ReplyRef::Data(PayloadRef::new(&self.bytes[..self.len]))
     }
 
     /// The bytes, at most 128.

@@ -2,12 +2,12 @@
 ghost use Rattle.std.specs.Prelude.{ℕ, ◌≡◌, ◌+◌, ◌-◌, ◌*◌, ◌/◌, ◌%◌, ◌^◌, ◌<◌, ◌≤◌, ◌⊎◌, true, None, Some, List, [], ◌∷◌, ◌++◌, length, replicate, slice_get, slice_index};
 ghost use Rattle.arrayvec.specs.ArrayVec.{ArrayVec};
 ghost use Rattle.byteorder.specs.Endian.{little_number, little_bytes};
-ghost use Rattle.tlp_core.specs.declared.operation.Op.{Op};
-ghost use Rattle.tlp_core.specs.declared.operation.Op.TheVariants as ops;
+ghost use Rattle.tlp_core.specs.Ops.{Op};
+ghost use Rattle.tlp_core.specs.declared.operation.OpOf.TheVariants as ops;
 ghost use Rattle.tlp_core.specs.declared.operation.Width.{Width};
 ghost use Rattle.tlp_core.specs.Enables.{enables};
 ghost use Rattle.tlp_core.specs.Operation.{size_of, address_of, count_of};
-ghost use Rattle.seq_memory.specs.declared.Entry.{Entry};
+ghost use Rattle.seq_memory.specs.Entries.{Entry};
 ghost use Rattle.seq_memory.specs.declared.Refusal.{Refusal};
 ghost use Rattle.seq_memory.specs.Limits.{IsBlock, Extent};
 ghost use Rattle.seq_memory.specs.Step.{refusal, after, answer, bytes_at, place_after, data_of, is_enabled, written_over, read_over};
@@ -17,9 +17,11 @@ ghost use Rattle.seq_memory.specs.History.{contents, contents_at, reply_at, AreC
 /// its place what it makes of the bytes that were there.
 #[tactic(auto, using(crate::proofs::Steps::others_kept, crate::proofs::Steps::size_kept, crate::proofs::Steps::place_is))]
 pub fn only_the_place_changes()
-    ensures others { (base block k : ℕ) (m : List ℕ) (op : Op) → (base + k < address_of op) ⊎ (address_of op + count_of op ≤ base + k) → slice_index (after base block m op) k ≡ slice_index m k }
+    ensures others { (base block k : ℕ) (m : List ℕ) (op : Op) → (base + k < address_of op) ⊎ (address_of op + count_of op ≤ base + k) →
+        slice_index (after base block m op) k ≡ slice_index m k }
     ensures size { (base block : ℕ) (m : List ℕ) (op : Op) → length (after base block m op) ≡ length m }
-    ensures place { (base block : ℕ) (m : List ℕ) (op : Op) → refusal base (length m) block op ≡ None → bytes_at (after base block m op) (address_of op - base) (count_of op) ≡ place_after op (bytes_at m (address_of op - base) (count_of op)) }
+    ensures place { (base block : ℕ) (m : List ℕ) (op : Op) → refusal base (length m) block op ≡ None →
+        bytes_at (after base block m op) (address_of op - base) (count_of op) ≡ place_after op (bytes_at m (address_of op - base) (count_of op)) }
 {}
 
 /// An operation that is not served changes nothing, and neither does a read.
@@ -32,9 +34,12 @@ pub fn refused_and_read_change_nothing()
 /// A served AtomicOp returns the original bytes of its operand.
 #[tactic(auto, using(crate::proofs::Steps::served_answer))]
 pub fn atomics_return_the_original()
-    ensures fetch_add { (base block a x : ℕ) (w : Width) (m : List ℕ) → refusal base (length m) block (ops.FetchAdd a w x) ≡ None → answer base block m (ops.FetchAdd a w x) ≡ data_of (bytes_at m (a - base) (size_of w)) }
-    ensures swap { (base block a x : ℕ) (w : Width) (m : List ℕ) → refusal base (length m) block (ops.Swap a w x) ≡ None → answer base block m (ops.Swap a w x) ≡ data_of (bytes_at m (a - base) (size_of w)) }
-    ensures cas { (base block a x y : ℕ) (w : Width) (m : List ℕ) → refusal base (length m) block (ops.Cas a w x y) ≡ None → answer base block m (ops.Cas a w x y) ≡ data_of (bytes_at m (a - base) (size_of w)) }
+    ensures fetch_add { (base block a x : ℕ) (w : Width) (m : List ℕ) → refusal base (length m) block (ops.FetchAdd a w x) ≡ None →
+        answer base block m (ops.FetchAdd a w x) ≡ data_of (bytes_at m (a - base) (size_of w)) }
+    ensures swap { (base block a x : ℕ) (w : Width) (m : List ℕ) → refusal base (length m) block (ops.Swap a w x) ≡ None →
+        answer base block m (ops.Swap a w x) ≡ data_of (bytes_at m (a - base) (size_of w)) }
+    ensures cas { (base block a x y : ℕ) (w : Width) (m : List ℕ) → refusal base (length m) block (ops.Cas a w x y) ≡ None →
+        answer base block m (ops.Cas a w x y) ≡ data_of (bytes_at m (a - base) (size_of w)) }
 {}
 
 /// A read of the DW of a served write, right after it, gives what was written, of the bytes that
@@ -42,9 +47,16 @@ pub fn atomics_return_the_original()
 /// the same enables is served too where all bytes are enabled.
 #[tactic(auto, using(crate::proofs::Steps::write_read, crate::proofs::Steps::write_read_any, crate::proofs::Steps::enabled_read))]
 pub fn what_was_written_is_read()
-    ensures any { (base block a f l g h : ℕ) (m : List ℕ) (bytes : ArrayVec ℕ) → refusal base (length m) block (ops.Write a f l bytes) ≡ None → refusal base (length m) block (ops.Read a (length bytes.items / 4) g h) ≡ None → answer base block (after base block m (ops.Write a f l bytes)) (ops.Read a (length bytes.items / 4) g h) ≡ data_of (read_over g h bytes.items (written_over f l bytes.items (bytes_at m (a - base) (length bytes.items)))) }
-    ensures both { (base block a f l g h k : ℕ) (m : List ℕ) (bytes : ArrayVec ℕ) → refusal base (length m) block (ops.Write a f l bytes) ≡ None → is_enabled (length bytes.items / 4) f l k ≡ true → is_enabled (length bytes.items / 4) g h k ≡ true → slice_get (read_over g h bytes.items (written_over f l bytes.items (bytes_at m (a - base) (length bytes.items)))) k ≡ slice_get bytes.items k }
-    ensures all { (base block a f l : ℕ) (m : List ℕ) (bytes : ArrayVec ℕ) → IsBlock block → enables (length bytes.items / 4) f l ≡ replicate (length bytes.items) true → refusal base (length m) block (ops.Write a f l bytes) ≡ None → answer base block (after base block m (ops.Write a f l bytes)) (ops.Read a (length bytes.items / 4) f l) ≡ data_of bytes.items }
+    ensures any { (base block a f l g h : ℕ) (m : List ℕ) (bytes : ArrayVec ℕ) → refusal base (length m) block (ops.Write a f l bytes) ≡ None →
+        refusal base (length m) block (ops.Read a (length bytes.items / 4) g h) ≡ None →
+        answer base block (after base block m (ops.Write a f l bytes)) (ops.Read a (length bytes.items / 4) g h) ≡
+        data_of (read_over g h bytes.items (written_over f l bytes.items (bytes_at m (a - base) (length bytes.items)))) }
+    ensures both { (base block a f l g h k : ℕ) (m : List ℕ) (bytes : ArrayVec ℕ) → refusal base (length m) block (ops.Write a f l bytes) ≡ None →
+        is_enabled (length bytes.items / 4) f l k ≡ true → is_enabled (length bytes.items / 4) g h k ≡ true →
+        slice_get (read_over g h bytes.items (written_over f l bytes.items (bytes_at m (a - base) (length bytes.items)))) k ≡ slice_get bytes.items k }
+    ensures all { (base block a f l : ℕ) (m : List ℕ) (bytes : ArrayVec ℕ) → IsBlock block →
+        enables (length bytes.items / 4) f l ≡ replicate (length bytes.items) true → refusal base (length m) block (ops.Write a f l bytes) ≡ None →
+        answer base block (after base block m (ops.Write a f l bytes)) (ops.Read a (length bytes.items / 4) f l) ≡ data_of bytes.items }
 {}
 
 /// A history of no entries leaves zeros, and one more entry takes one step; the bytes keep their
@@ -52,7 +64,8 @@ pub fn what_was_written_is_read()
 pub fn history_grows_by_steps()
     ensures none { (x : Extent) → contents x [] ≡ replicate x.size 0 }
     ensures next { (x : Extent) (es : List Entry) (e : Entry) → contents x (es ++ e ∷ []) ≡ after x.base x.block (contents x es) e.op }
-    ensures at { (x : Extent) (p : ℕ) (es : List Entry) (e : Entry) → slice_get es p ≡ Some e → contents_at x es (p + 1) ≡ after x.base x.block (contents_at x es p) e.op }
+    ensures at { (x : Extent) (p : ℕ) (es : List Entry) (e : Entry) → slice_get es p ≡ Some e →
+        contents_at x es (p + 1) ≡ after x.base x.block (contents_at x es p) e.op }
     ensures size { (x : Extent) (es : List Entry) → length (contents x es) ≡ x.size }
 {}
 
@@ -60,8 +73,10 @@ pub fn history_grows_by_steps()
 /// served, leaves its length there, modulo 2 to the number of the operand's bits.
 #[tactic(auto, using(crate::proofs::Counts::count_number, crate::proofs::Counts::count_bytes))]
 pub fn a_counter_counts_each_once()
-    ensures number { (x : Extent) (a : ℕ) (w : Width) (es : List Entry) → refusal x.base x.size x.block (ops.FetchAdd a w 1) ≡ None → AreCounts a w es → little_number (size_of w) (bytes_at (contents x es) (a - x.base) (size_of w)) ≡ length es % 2 ^ (8 * size_of w) }
-    ensures bytes { (x : Extent) (a : ℕ) (w : Width) (es : List Entry) → refusal x.base x.size x.block (ops.FetchAdd a w 1) ≡ None → AreCounts a w es → bytes_at (contents x es) (a - x.base) (size_of w) ≡ little_bytes (size_of w) (length es % 2 ^ (8 * size_of w)) }
+    ensures number { (x : Extent) (a : ℕ) (w : Width) (es : List Entry) → refusal x.base x.size x.block (ops.FetchAdd a w 1) ≡ None → AreCounts a w es →
+        little_number (size_of w) (bytes_at (contents x es) (a - x.base) (size_of w)) ≡ length es % 2 ^ (8 * size_of w) }
+    ensures bytes { (x : Extent) (a : ℕ) (w : Width) (es : List Entry) → refusal x.base x.size x.block (ops.FetchAdd a w 1) ≡ None → AreCounts a w es →
+        bytes_at (contents x es) (a - x.base) (size_of w) ≡ little_bytes (size_of w) (length es % 2 ^ (8 * size_of w)) }
 {}
 
 /// A counter beside other traffic counts each request once: if each other request leaves the bytes of the counter as

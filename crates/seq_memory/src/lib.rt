@@ -14,22 +14,22 @@
 #![tactic(auto)]
 
 mod data;
+mod entry;
 mod extent;
 pub mod laws;
-mod lent;
 mod limits;
 mod memory;
 mod place;
+mod reply;
 mod step;
 
-use arrayvec::ArrayVec;
 pub use data::ReplyData;
+pub use entry::{Entry, EntryOf, EntryRef};
 pub use extent::Extent;
-pub use lent::{Outcome, ReplyForm, perform_lent};
 pub use limits::{ALIGNMENT, MAX_SIZE, MIN_SIZE, is_base, is_block, is_size};
 pub use memory::Memory;
-pub use step::{enabled_bytes, perform};
-use tlp_core::{MAX_PAYLOAD, Op};
+pub use reply::{Reply, ReplyOf, ReplyRef};
+pub use step::{enabled_bytes, perform, perform_lent};
 
 /// Why an access is not served. It then changes no byte.
 #[derive(Clone, Copy, Debug, PartialEq, Eq)]
@@ -38,28 +38,4 @@ pub enum Refusal {
     Aborted,
     /// The place lies in one block, but not inside the memory: UR.
     Unsupported,
-}
-
-/// What the memory answers to one operation.
-#[derive(Clone, Debug, PartialEq, Drop)]
-pub enum Reply {
-    /// A write was done.
-    Done,
-    /// The bytes of a read's DW, 00 where they are not enabled, or the original bytes of an
-    /// AtomicOp's operand, in rising address order.
-    Data(ArrayVec<u8, MAX_PAYLOAD>),
-    /// See [`Refusal::Unsupported`].
-    Unsupported,
-    /// See [`Refusal::Aborted`].
-    Aborted,
-}
-
-/// A request in the history.
-#[derive(Clone, Debug, PartialEq, Drop)]
-pub struct Entry {
-    /// The port of its requester.
-    pub requester: u8,
-    /// Its number among the requests of its requester.
-    pub number: u32,
-    pub op: Op,
 }

@@ -5,7 +5,7 @@ ghost use Rattle.seq_memory.specs.Limits.{IsBlock};
 ghost use Rattle.seq_memory.specs.Step.{is_in_block, is_inside, refusal};
 
 use crate::Refusal;
-use tlp_core::Op;
+use tlp_core::{Op, op_fault};
 
 /// Whether `count` bytes from `address` on lie in one block.
 #[tactic(auto, using(crate::proofs::Places::by_offset))]
@@ -44,7 +44,8 @@ pub(crate) fn refusal_at(
 ) -> Option<Refusal>
     requires block { IsBlock block }
     requires some { 1 ≤ count }
-    ensures value { result ≡ (if not (is_in_block block address count) then Some Refusal.Aborted else (if is_inside base size address count then None else Some Refusal.Unsupported)) }
+    ensures value { result ≡
+        (if not (is_in_block block address count) then Some Refusal.Aborted else (if is_inside base size address count then None else Some Refusal.Unsupported)) }
     ensures few { IfNone result (count ≤ 128) }
     ensures low { IfNone result (base ≤ address) }
     ensures high { IfNone result (address + count ≤ base + size) }
@@ -67,7 +68,7 @@ pub(crate) fn refusal_of(base: u64, block: u16, size: usize, op: &Op) -> Option<
     ensures low { IfNone result (base ≤ address_of op.now) }
     ensures high { IfNone result (address_of op.now + count_of op.now ≤ base + size) }
 {
-    if tlp_core::op_fault(op).is_some() {
+    if op_fault(op).is_some() {
         return Some(Refusal::Aborted);
     }
     refusal_at(base, block, size, op.address(), op.size())

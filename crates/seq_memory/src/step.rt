@@ -6,14 +6,14 @@ ghost use Rattle.tlp_core.specs.Operation.{size_of, count_of, op_fault};
 ghost use Rattle.tlp_core.specs.Enables.{enables, dw_enables};
 ghost use Rattle.atomic_op.specs.NewValue.{FitsWidth};
 ghost use Rattle.seq_memory.specs.Limits.{IsBlock};
-ghost use Rattle.seq_memory.specs.Step.{merged, changed, place_after, read_back, read_over, after, answer, IsSizedFor};
+ghost use Rattle.seq_memory.specs.Step.{merged, changed, place_after, read_back, read_over, after, answer, data_of, IsSizedFor};
 
-use crate::place::refusal_of;
-use crate::{Refusal, Reply};
-use arrayvec::ArrayVec;
+use crate::data::ReplyData;
+use crate::place::refusal_at;
+use crate::{Refusal, Reply, ReplyRef};
 use atomic_op::{AtomicOp, apply};
 use byteorder::{ByteOrder, LittleEndian};
-use tlp_core::{MAX_PAYLOAD, Op, Width};
+use tlp_core::{MAX_PAYLOAD, Op, OpRef, Payload, Width, payload_of};
 
 /// The number in the first bytes.
 fn number_at(bytes: &[u8], width: Width) -> u128
@@ -41,17 +41,6 @@ fn put_number(place: &mut [u8], width: Width, number: u128)
     }
 }
 
-/// The bytes as data.
-pub(crate) fn copy_of(bytes: &[u8]) -> ArrayVec<u8, MAX_PAYLOAD>
-    requires { length bytes.now ≤ 128 }
-    ensures items { result.items ≡ bytes.now }
-    ensures len { array_vec_len result ≡ length bytes.now }
-{
-    let mut copy = ArrayVec::new();
-    let _ = copy.try_extend_from_slice(bytes);
-    copy
-}
-
 /// Does an AtomicOp at its place.
 #[inline(always)]
 pub(crate) fn change(place: &mut [u8], width: Width, op: AtomicOp)
@@ -63,18 +52,22 @@ pub(crate) fn change(place: &mut [u8], width: Width, op: AtomicOp)
     put_number(place, width, value);
 }
 
-/// Does an AtomicOp at its place, and gives the bytes that were there.
+/// Does an AtomicOp at its place, and puts the bytes that were there into the room.
 #[inline(always)]
-fn exchange(place: &mut [u8], width: Width, op: AtomicOp) -> ArrayVec<u8, MAX_PAYLOAD>
+fn exchange<'r>(
+    place: &mut [u8],
+    width: Width,
+    op: AtomicOp,
+    room: &'r mut ReplyData,
+) -> ReplyRef<'r>
     requires size { length place.old ≡ size_of width }
     requires operands { FitsWidth op width }
     ensures place { place.new ≡ changed width op place.old }
-    ensures old { result.items ≡ place.old }
-    ensures len { array_vec_len result ≡ size_of width }
+    ensures old { result ≡ data_of place.old }
 {
-    let old = copy_of(place);
+    room.set(place);
     change(place, width, op);
-    old
+    room.reply()
 }
 
 fn chosen(flag: bool, yes: u8, no: u8) -> u8
@@ -144,7 +137,7 @@ pub(crate) const ZEROS: [u8; MAX_PAYLOAD] = [0; MAX_PAYLOAD];
 
 /// The data of a read of these bytes, which are whole DW: 00 where its byte enables, First DW BE and
 /// Last DW BE, have none (section 2.2.5).
-pub fn enabled_bytes(place: &[u8], first: u8, last: u8) -> ArrayVec<u8, MAX_PAYLOAD>
+pub fn enabled_bytes(place: &[u8], first: u8, last: u8) -> Payload
     requires some { 4 ≤ length place.now }
     requires few { length place.now ≤ 128 }
     requires whole { length place.now % 4 ≡ 0 }
@@ -152,16 +145,16 @@ pub fn enabled_bytes(place: &[u8], first: u8, last: u8) -> ArrayVec<u8, MAX_PAYL
     ensures len { array_vec_len result ≡ length place.now }
 {
     if are_all_enabled(place.len(), first, last) {
-        return copy_of(place);
+        return payload_of(place);
     }
-    let mut data = copy_of(&ZEROS[..place.len()]);
+    let mut data = payload_of(&ZEROS[..place.len()]);
     merge(data.as_mut_slice(), place, first, last);
     data
 }
 
-/// A served operation at its place.
+/// A served operation at its place. The data of the reply is put into the room.
 #[inline(always)]
-fn serve(place: &mut [u8], op: &Op) -> Reply
+fn serve<'r>(place: &mut [u8], op: &OpRef<'_>, room: &'r mut ReplyData) -> ReplyRef<'r>
     requires sound { op_fault op.now ≡ None }
     requires size { length place.old ≡ count_of op.now }
     requires few { length place.old ≤ 128 }
@@ -170,33 +163,64 @@ fn serve(place: &mut [u8], op: &Op) -> Reply
     ensures size { IsSizedFor op.now result }
 {
     match op {
-        Op::Read { first, last, .. } => Reply::Data(enabled_bytes(place, *first, *last)),
-        Op::Write {
+        OpRef::Read { first, last, .. } => {
+            room.set_enabled(place, *first, *last);
+            room.reply()
+        }
+        OpRef::Write {
             first,
             last,
             bytes,
             ..
         } => {
-            merge(place, bytes, *first, *last);
-            Reply::Done
+            merge(place, bytes.as_slice(), *first, *last);
+            ReplyRef::Done
         }
-        Op::FetchAdd { width, operand, .. } => {
-            Reply::Data(exchange(place, *width, AtomicOp::FetchAdd(*operand)))
+        OpRef::FetchAdd { width, operand, .. } => {
+            exchange(place, *width, AtomicOp::FetchAdd(*operand), room)
         }
-        Op::Swap { width, operand, .. } => {
-            Reply::Data(exchange(place, *width, AtomicOp::Swap(*operand)))
+        OpRef::Swap { width, operand, .. } => {
+            exchange(place, *width, AtomicOp::Swap(*operand), room)
         }
-        Op::Cas {
+        OpRef::Cas {
             width,
             compare,
             swap,
             ..
-        } => Reply::Data(exchange(place, *width, AtomicOp::Cas(*compare, *swap))),
+        } => exchange(place, *width, AtomicOp::Cas(*compare, *swap), room),
     }
 }
 
-/// One step of the sequential memory whose bytes begin at `base`: does the operation on `bytes` if
-/// it is served, by blocks of `block` bytes, and answers it. Takes no memory.
+/// One step of the sequential memory whose bytes begin at `base`: does an operation without a fault on
+/// `bytes` if it is served, by blocks of `block` bytes, and answers it. The reply's data is put into
+/// `room` in place of what that held. Takes no memory.
+#[inline(always)]
+pub fn perform_lent<'r>(
+    base: u64,
+    block: u16,
+    bytes: &mut [u8],
+    op: &OpRef<'_>,
+    room: &'r mut ReplyData,
+) -> ReplyRef<'r>
+    requires block { IsBlock block }
+    requires sound { op_fault op.now ≡ None }
+    ensures bytes { bytes.new ≡ after base block bytes.old op.now }
+    ensures reply { result ≡ answer base block bytes.old op.now }
+    ensures size { IsSizedFor op.now result }
+{
+    let address = op.address();
+    let count = op.size();
+    match refusal_at(base, block, bytes.len(), address, count) {
+        Some(Refusal::Aborted) => ReplyRef::Aborted,
+        Some(Refusal::Unsupported) => ReplyRef::Unsupported,
+        None => {
+            let from = (address - base) as usize;
+            serve(&mut bytes[from..from + count as usize], op, room)
+        }
+    }
+}
+
+/// As [`perform_lent`], of any operation: one with a fault is aborted. The reply has data of its own.
 #[inline(always)]
 pub fn perform(base: u64, block: u16, bytes: &mut [u8], op: &Op) -> Reply
     requires { IsBlock block }
@@ -204,13 +228,10 @@ pub fn perform(base: u64, block: u16, bytes: &mut [u8], op: &Op) -> Reply
     ensures reply { result ≡ answer base block bytes.old op.now }
     ensures size { IsSizedFor op.now result }
 {
-    match refusal_of(base, block, bytes.len(), op) {
-        Some(Refusal::Aborted) => Reply::Aborted,
-        Some(Refusal::Unsupported) => Reply::Unsupported,
-        None => {
-            let from = (op.address() - base) as usize;
-            let count = op.size() as usize;
-            serve(&mut bytes[from..from + count], op)
-        }
+    let op = op.lend();
+    if op.fault().is_some() {
+        return Reply::Aborted;
     }
+    let mut room = ReplyData::new();
+    perform_lent(base, block, bytes, &op, &mut room).to_owned()
 }

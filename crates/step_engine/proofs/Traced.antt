@@ -2,9 +2,9 @@
 use Rattle.std.proofs.Common.{◌≡◌, ◌∙◌, ◌++◌, ◌+◌, inl, inr, ℕ, Bool, true, false, List, [], ◌∷◌, length, refl, sym, ap, ap₂, subst, Option, Some, None, Result, Err, if◌then◌else◌}
 use Rattle.std.specs.Prelude.{◌-◌, ◌^◌, min, fold, map, nat_lt}
 use Rattle.std.proofs.lemmas.List.{append-nil, append_assoc}
-use Rattle.history_check.specs.declared.Record.{Record}
-use Rattle.history_check.specs.Clocks.{IsClocked}
-use Rattle.history_check.specs.Trace.{Explains}
+use Rattle.history_words.specs.Records.{Record}
+use Rattle.history_words.specs.Clocks.{IsClocked}
+use Rattle.history_words.specs.Trace.{Explains}
 use Rattle.fabric_laws.specs.Fabric.{Fabric, whole_of}
 use Rattle.fabric_laws.specs.Whole.{Whole, memory_of}
 use Rattle.fabric_laws.specs.Sound.{Sound}

@@ -1,6 +1,6 @@
 -- What the lines of a script say, and what they do to its fabric.
 use Rattle.std.specs.Prelude.{ℕ, ◌≡◌, ◌⊎◌, nat_lt, if◌then◌else◌, Bool, true, List, [], ◌∷◌, fold, length, map, Option, Some, None}
-use Rattle.history_check.specs.declared.Record.{Record}
+use Rattle.history_words.specs.Records.{Record}
 use Rattle.fabric_laws.specs.Fabric.{Fabric}
 use Rattle.fabric_core.specs.declared.config.Config.{Config}
 use Rattle.fabric_events.specs.Events.{Event}

@@ -1,8 +1,8 @@
 //! What holds of the traces of scripts.
 ghost use Rattle.std.specs.Prelude.{◌≡◌, Bool, true, ℕ, List, codes};
-ghost use Rattle.history_check.specs.declared.Record.{Record};
-ghost use Rattle.history_check.specs.Clocks.{IsClocked};
-ghost use Rattle.history_check.specs.Trace.{Explains};
+ghost use Rattle.history_words.specs.Records.{Record};
+ghost use Rattle.history_words.specs.Clocks.{IsClocked};
+ghost use Rattle.history_words.specs.Trace.{Explains};
 ghost use Rattle.fabric_laws.specs.Fabric.{Fabric};
 ghost use Rattle.fabric_core.specs.declared.config.Config.{Config};
 ghost use Rattle.fabric_events.specs.Events.{Event};

@@ -16,19 +16,18 @@ use crate::options::StepOptions;
 use arrayvec::ArrayString;
 use fabric_core::{ANSWER_ROOM, Config, ConfigFault, EventRef, Fabric, Refusal, SeenRef};
 use fabric_settle::{happen, settle};
-use history_check::Record;
+use history_words::Record;
 use line_loop::{EngineFault, Verdict};
 use requester_core::Answer;
 use script_text::{
-    LineForm, ROOM, read_line_lent, write_config_fault, write_refusal, write_seen, write_settled,
-    write_told,
+    Line, read_line, write_config_fault, write_refusal, write_seen, write_settled, write_told,
 };
 use std::alloc::{AllocError, Global};
 use std::io::{Read, Write, sink};
 use std::marker::Model;
 use std::mem;
 use text_lines::is_skipped;
-use tlp_core::Op;
+use tlp_core::MAX_PAYLOAD;
 use trace_engine::tell_trace;
 
 /// What is seen of an event that happens to the fabric.
@@ -48,8 +47,8 @@ fn see<'a>(
 /// Room for what lines lend.
 #[derive(Drop)]
 pub(crate) struct Rooms {
-    /// Room for a line's operation.
-    operation: Op,
+    /// Room for the bytes of a line's operation.
+    bytes: [u8; MAX_PAYLOAD],
     /// Room for the answer that a requester takes.
     answer: Answer,
 }
@@ -57,7 +56,7 @@ pub(crate) struct Rooms {
 impl Rooms {
     pub(crate) fn new() -> Rooms {
         Rooms {
-            operation: ROOM,
+            bytes: [0; MAX_PAYLOAD],
             answer: ANSWER_ROOM,
         }
     }
@@ -233,7 +232,8 @@ impl Stepper {
         refusal: Refusal,
         out: &mut Vec<u8>,
     ) -> Result<Verdict, AllocError>
-        ensures ok { IfOk result (λ verdict. IsTold refusal × IsAnswer self.new out.old.items out.new.items verdict (spec.refused self.old line.now (refusal_text refusal))) }
+        ensures ok { IfOk result (λ verdict. IsTold refusal ×
+            IsAnswer self.new out.old.items out.new.items verdict (spec.refused self.old line.now (refusal_text refusal))) }
         ensures err { OnErr result (out.new.items ≡ out.old.items) }
     {
         if refusal.is_memory() {
@@ -349,7 +349,8 @@ impl Stepper {
         out: &mut Vec<u8>,
     ) -> Result<Verdict, AllocError>
         ensures state { OnOk result (self.new ≡ spec.counted self.old) }
-        ensures text { OnOk result (out.new.items ≡ out.old.items ++ (spec.told_lines self.old line.now answers.now ++ spec.shown self.old line.now settled_text)) }
+        ensures text { OnOk result (out.new.items ≡ out.old.items ++
+            (spec.told_lines self.old line.now answers.now ++ spec.shown self.old line.now settled_text)) }
         ensures verdict { IfOk result (λ verdict. verdict ≡ Verdict.Fine) }
         ensures err { OnErr result (out.new.items ≡ out.old.items) }
     {
@@ -402,11 +403,11 @@ impl Stepper {
             self.count();
             return Ok(Verdict::Fine);
         }
-        match read_line_lent(line, &mut rooms.operation) {
+        match &read_line(line, &mut rooms.bytes) {
             Err(_) => self.no_line(out),
-            Ok(LineForm::Fabric(config)) => self.make(config, out),
-            Ok(LineForm::Settle) => self.settle(line, out),
-            Ok(LineForm::Event(event)) => self.happen(line, &event, &mut rooms.answer, out),
+            Ok(Line::Fabric(config)) => self.make(*config, out),
+            Ok(Line::Settle) => self.settle(line, out),
+            Ok(Line::Event(event)) => self.happen(line, event, &mut rooms.answer, out),
         }
     }
 
@@ -451,7 +452,8 @@ pub fn run_step_with<R: Read, W: Write>(
 ) -> Result<u8, EngineFault>
     ensures ok { IfOk result (IsWhole (spec.out_step_with options) (R.remaining reader.old) (R.remaining reader.new) (W.contents writer.old) (W.contents writer.new)) }
     ensures err { OnErr result (IsPart (spec.out_step_with options) (R.remaining reader.old) (R.remaining reader.new) (W.contents writer.old) (W.contents writer.new)) }
-    ensures read { IfErr result (λ f. f ≡ EngineFault.Read → IsCaughtUp spec.step_responses (spec.new_script options) (R.remaining reader.old) (R.remaining reader.new) (W.contents writer.old) (W.contents writer.new)) }
+    ensures read { IfErr result (λ f. f ≡ EngineFault.Read →
+        IsCaughtUp spec.step_responses (spec.new_script options) (R.remaining reader.old) (R.remaining reader.new) (W.contents writer.old) (W.contents writer.new)) }
 {
     run_step_with_reasons(alloc, options, reader, writer, &mut sink())
 }
@@ -465,7 +467,8 @@ pub fn run_step<R: Read, W: Write>(
 ) -> Result<u8, EngineFault>
     ensures ok { IfOk result (IsWhole (spec.out_step is_traced) (R.remaining reader.old) (R.remaining reader.new) (W.contents writer.old) (W.contents writer.new)) }
     ensures err { OnErr result (IsPart (spec.out_step is_traced) (R.remaining reader.old) (R.remaining reader.new) (W.contents writer.old) (W.contents writer.new)) }
-    ensures read { IfErr result (λ f. f ≡ EngineFault.Read → IsCaughtUp spec.step_responses (spec.new_script (plain is_traced)) (R.remaining reader.old) (R.remaining reader.new) (W.contents writer.old) (W.contents writer.new)) }
+    ensures read { IfErr result (λ f. f ≡ EngineFault.Read →
+        IsCaughtUp spec.step_responses (spec.new_script (plain is_traced)) (R.remaining reader.old) (R.remaining reader.new) (W.contents writer.old) (W.contents writer.new)) }
 {
     run_step_with(alloc, StepOptions::plain(is_traced), reader, writer)
 }

@@ -1,7 +1,7 @@
 -- What a line of a script submits, words spell.
 use Rattle.std.proofs.Common.{◌≡◌, ℕ, Bool, true, false, if◌then◌else◌, List, [], ◌∷◌, Option, Some, None, refl, subst}
 use Rattle.std.specs.Prelude.{IfSome, option_map, bytes_eq, codes}
-use Rattle.tlp_core.specs.declared.operation.Op.{Op}
+use Rattle.tlp_core.specs.Ops.{Op}
 use Rattle.fabric_events.specs.Events.{Event}
 use Rattle.fabric_events.specs.declared.event.EventOf.TheVariants as events
 use Rattle.operation_text.specs.Words.{then_with}

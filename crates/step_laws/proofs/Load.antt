@@ -3,7 +3,7 @@ use Rattle.std.proofs.Common.{◌≡◌, ◌∙◌, ℕ, ◌+◌, ◌*◌, ◌<�
 use Rattle.std.specs.Prelude.{map, slice_set, slice_get, Some, suc, zero}
 use Rattle.std.specs.List.{sum_by}
 use Rattle.std.proofs.lemmas.List.Sums.{sum_by-cons, sum_by-set}
-use Rattle.history_check.specs.declared.Record.{Record}
+use Rattle.history_words.specs.Records.{Record}
 use Rattle.lane_ends.specs.Steps.{LaneEndsView}
 use Rattle.tlp_core.specs.TlpView.{TlpView}
 use Rattle.fabric_laws.specs.Fabric.{Fabric, items, whole_of}

@@ -2,7 +2,7 @@
 use Rattle.std.proofs.Common.{◌≡◌, ◌∙◌, ℕ, zero, suc, ◌≤◌, List, [], ◌∷◌, ◌++◌, length, refl, sym, ap, subst, arith}
 use Rattle.std.specs.Prelude.{slice_set, slice_get, Option, Some, None, Result, Ok, Err}
 use Rattle.std.proofs.lemmas.Option.{same_Some, slice_get_within}
-use Rattle.tlp_core.specs.declared.operation.Op.{Op}
+use Rattle.tlp_core.specs.Ops.{Op}
 use Rattle.tlp_core.specs.TlpView.{TlpView}
 use Rattle.requester_core.specs.declared.fault.SubmitRefusal.{SubmitRefusal}
 use Rattle.requester_core.specs.RequesterView.{RequesterView, IsSound, fresh, prepared, after_opened}

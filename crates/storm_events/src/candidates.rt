@@ -6,7 +6,7 @@ ghost use Rattle.storm_events.specs.Arrivals.{ArrivalsView, HasFate};
 use crate::draws::Draws;
 use crate::operations::operation;
 use dllp_core::Class;
-use fabric_core::{EventRef, LaneName, OpLent};
+use fabric_core::{EventRef, LaneName};
 use lane_core::DllpKind;
 use script_text::laws::an_operation_in_range_is_spelled;
 use tlp_core::Op;
@@ -66,7 +66,7 @@ fn submit<'r>(draws: &mut Draws, requesters: u8, room: &'r mut Op) -> EventRef<'
     an_operation_in_range_is_spelled();
     let port = port(draws, requesters);
     *room = operation(draws);
-    EventRef::Submit(port, OpLent::new(room))
+    EventRef::Submit(port, room.lend())
 }
 
 fn forward(draws: &mut Draws, requesters: u8) -> EventRef<'static>

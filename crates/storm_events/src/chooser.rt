@@ -12,10 +12,17 @@ use fabric_core::{ANSWER_ROOM, Event, EventRef, Fabric, LaneName};
 use lane_core::DllpKind;
 use parameters::Storm;
 use requester_core::Answer;
-use script_text::ROOM;
 use std::alloc::AllocError;
 use std::marker::Model;
 use tlp_core::Op;
+
+/// An operation in whose room that of a candidate may be put: a read of one DW.
+const ROOM: Op = Op::Read {
+    address: 0,
+    dw: 1,
+    first: 15,
+    last: 0,
+};
 
 /// How many candidates are tried before an event comes that can always happen.
 const TRIES: u32 = 256;

@@ -43,7 +43,8 @@ fn fill<R: Threads + Sync>(rt: &R, alloc: Global, batch: Batch<'_>, found: &mut 
     requires sweep { IsSweep batch.sweep.now }
     requires workers { 0 < batch.workers }
     requires fits { batch.first + length found.old ≤ 2 ^ 64 }
-    ensures { (place : ℕ) (none : Option Said) → place < length found.old → IfSome (slice_index_or found.new place none) (IsSaid batch.entry.sweep.now (batch.entry.first + place)) }
+    ensures { (place : ℕ) (none : Option Said) → place < length found.old →
+        IfSome (slice_index_or found.new place none) (IsSaid batch.entry.sweep.now (batch.entry.first + place)) }
 {
     let Batch {
         sweep,

@@ -59,7 +59,8 @@ pub fn forward(from: &mut Lane, place: usize, to: &mut Lane) -> Result<(), Forwa
     ensures ok { OnOk result (Forwards from.old.receiver from.new.receiver place to.old.sender to.new.sender) }
     ensures rest_from { from.new ≡ record from.old { receiver = from.new.receiver } }
     ensures rest_to { to.new ≡ record to.old { sender = to.new.sender } }
-    ensures content { OnOk result ((item : Item) × (slice_get from.old.receiver.queue place ≡ Some item) × (content to.new ≡ content to.old ++ item ∷ []) × (content from.new ≡ remove (content from.old) place)) }
+    ensures content { OnOk result ((item : Item) × (slice_get from.old.receiver.queue place ≡ Some item) × (content to.new ≡ content to.old ++ item ∷ []) ×
+        (content from.new ≡ remove (content from.old) place)) }
     ensures err_from { OnErr result (from.new ≡ from.old) }
     ensures err_to { OnErr result (to.new ≡ to.old) }
 {

@@ -13,7 +13,7 @@ use seq_memory::Reply;
 use seq12::Seq12;
 use std::alloc::Global;
 use switch_core::RouteFault;
-use tlp_core::{Op, TlpFault, Width};
+use tlp_core::{MAX_PAYLOAD, Op, TlpFault, Width};
 
 /// The least credits.
 const LEAST: LaneCredits = LaneCredits {
@@ -47,7 +47,7 @@ impl Row for Made {
             credits: self.4,
             block: self.5,
         };
-        match read_line(self.0.as_bytes()) {
+        match read_line(self.0.as_bytes(), &mut [0; MAX_PAYLOAD]) {
             Ok(Line::Fabric(told)) => told == config,
             _ => false,
         }
@@ -146,8 +146,8 @@ fn event_of(act: Act) -> Event {
 
 /// The event that the line tells.
 fn told_by(line: &str) -> Option<Event> {
-    match read_line(line.as_bytes()) {
-        Ok(Line::Event(event)) => Some(event),
+    match read_line(line.as_bytes(), &mut [0; MAX_PAYLOAD]) {
+        Ok(Line::Event(event)) => Some(event.to_owned()),
         _ => None,
     }
 }
@@ -214,7 +214,7 @@ struct NoLine(&'static str);
 
 impl Row for NoLine {
     fn is_right(&self, _: Global) -> bool {
-        read_line(self.0.as_bytes()).is_err()
+        read_line(self.0.as_bytes(), &mut [0; MAX_PAYLOAD]).is_err()
     }
 }
 

@@ -2,15 +2,15 @@
 use Rattle.std.proofs.Common.{◌≡◌, ℕ, ◌-◌, ◌*◌, ◌/◌, ◌%◌, ◌^◌, ◌<◌, Bool, false, None, List, length, take, drop, length-take, length-drop, refl, sym, subst, ap, ◌∙◌, inl, inr, arith, ◌⊎◌}
 use Rattle.byteorder.specs.Numbers.{little_from-lt}
 use Rattle.tlp_core.specs.Bits.{IsBytes}
-use Rattle.tlp_core.specs.Lent.{number_of}
+use Rattle.tlp_core.specs.Operands.{number_of}
 use Rattle.std.specs.Prelude.{not, ◌||◌, ◌==◌, nat_lt}
 use Rattle.std.proofs.lemmas.Bool.Decides.{nat_tests}
 use Rattle.tlp_core.specs.declared.packet.Kind.{Kind}
 use Rattle.tlp_core.specs.declared.packet.Kind.TheVariants as kinds
 use Rattle.tlp_core.specs.declared.packet.Body.{Body}
 use Rattle.tlp_core.specs.declared.packet.Body.TheVariants as bodies
-use Rattle.tlp_core.specs.declared.operation.Op.{Op}
-use Rattle.tlp_core.specs.declared.operation.Op.TheVariants as ops
+use Rattle.tlp_core.specs.Ops.{Op}
+use Rattle.tlp_core.specs.declared.operation.OpOf.TheVariants as ops
 use Rattle.tlp_core.specs.declared.operation.Width.{Width}
 use Rattle.tlp_core.specs.TlpView.{FitsKind}
 use Rattle.tlp_core.specs.Operation.{op_fault, width_of, fits, wrong_length, wrong_enables, wrong_operand, wrong_address}

@@ -1,3 +1,4 @@
+pub mod Ops
 pub mod Bits
 pub mod Enables
 pub mod TlpView
@@ -5,4 +6,4 @@ pub mod Layout
 pub mod Fault
 pub mod Faults
 pub mod Operation
-pub mod Lent
+pub mod Operands

@@ -1,11 +1,12 @@
 //! Packets to bytes: the one canonical spelling of each.
-ghost use Rattle.std.specs.Prelude.{◌≡◌, ◌+◌, ◌*◌, ◌/◌, ◌%◌, ◌^◌, ◌<◌, ◌≤◌, ◌++◌, length, take, if◌then◌else◌, nat_lt};
+ghost use Rattle.std.specs.Prelude.{◌≡◌, ◌+◌, ◌*◌, ◌/◌, ◌%◌, ◌^◌, ◌<◌, ◌≤◌, ◌++◌, ◌∷◌, [], true, false, length, take, if◌then◌else◌, nat_lt};
 ghost use Rattle.arrayvec.specs.ArrayVec.{array_vec_len};
 ghost use Rattle.byteorder.specs.Endian.{big_bytes};
 ghost use Rattle.tlp_core.specs.Layout.{canonical, short_code, code_of, status_code, rest_of_header, Spells};
+ghost use Rattle.tlp_core.specs.Operation.{is_completion};
 ghost use Rattle.tlp_core.specs.TlpView.{FitsFields, IsBodyInRange};
 
-use crate::packet::{Body, Kind, Status, Tlp, TlpRef};
+use crate::packet::{Body, Header, Kind, Status, Tlp, TlpRef};
 use arrayvec::ArrayVec;
 use byteorder::{BigEndian, ByteOrder};
 
@@ -81,6 +82,27 @@ fn status_bits(status: Status) -> u8
     }
 }
 
+/// The bytes of a completion's header behind the first 4.
+#[inline(always)]
+fn completion_rest(ids: (u16, u16), tag: u8, status: Status, byte_count: u16, lower: u8) -> [u8; 8]
+    requires count { byte_count ≤ 4096 }
+    ensures { result ≡ rest_of_header ids.1 tag (Body.Completion ids.0 status byte_count lower) }
+{
+    let completer = ids.0.to_be_bytes();
+    let requester = ids.1.to_be_bytes();
+    [
+        completer[0],
+        completer[1],
+        status_bits(status) * 32 + (byte_count % 4096 / 256) as u8,
+        (byte_count % 256) as u8,
+        requester[0],
+        requester[1],
+        tag,
+        lower,
+    ]
+}
+
+/// The bytes of a header behind the first 4.
 #[inline(always)]
 fn put_rest(out: &mut ArrayVec<u8, MAX_HEADER>, requester: u16, tag: u8, body: Body)
     requires room { array_vec_len out.old + 12 ≤ 16 }
@@ -104,14 +126,26 @@ fn put_rest(out: &mut ArrayVec<u8, MAX_HEADER>, requester: u16, tag: u8, body: B
             status,
             byte_count,
             lower,
-        } => {
-            put_u16(out, completer);
-            let high = status_bits(status) * 32 + (byte_count % 4096 / 256) as u8;
-            put(out, &[high, (byte_count % 256) as u8]);
-            put_u16(out, requester);
-            put(out, &[tag, lower]);
-        }
+        } => put(
+            out,
+            &completion_rest((completer, requester), tag, status, byte_count, lower),
+        ),
     }
+}
+
+/// The first 4 bytes of a header.
+#[inline(always)]
+fn front(header: &Header) -> [u8; 4]
+    requires tc { header.now.tc < 8 }
+    requires attr { header.now.attr < 8 }
+    ensures { result ≡ code_of header.now.kind header.now.body ∷ (header.now.tc * 16 + header.now.attr / 4 * 4) ∷ (header.now.attr % 4 * 16 + header.now.length % 1024 / 256) ∷ (header.now.length % 256) ∷ [] }
+{
+    [
+        first_byte(header.kind, header.body),
+        header.tc * 16 + header.attr / 4 * 4,
+        header.attr % 4 * 16 + (header.length % 1024 / 256) as u8,
+        (header.length % 256) as u8,
+    ]
 }
 
 /// The canonical bytes of the packet's header.
@@ -123,16 +157,48 @@ fn header_bytes(tlp: &TlpRef<'_>) -> ArrayVec<u8, MAX_HEADER>
     ensures len { array_vec_len result ≤ 16 }
 {
     let header = tlp.header;
-    let front = [
-        first_byte(header.kind, header.body),
-        header.tc * 16 + header.attr / 4 * 4,
-        header.attr % 4 * 16 + (header.length % 1024 / 256) as u8,
-        (header.length % 256) as u8,
-    ];
     let mut out = ArrayVec::new();
-    put(&mut out, &front);
+    put(&mut out, &front(&header));
     put_rest(&mut out, header.requester, header.tag, header.body);
     out
+}
+
+/// How many bytes a completion's header has, whatever it says.
+pub const COMPLETION_HEADER: usize = 12;
+
+/// Puts the canonical bytes of a completion's header there, which its payload follows, and says whether the
+/// packet is a completion: a request changes nothing. So the payload need not be copied behind it first.
+#[tactic(auto, using(crate::proofs::Canon::fields_fit, crate::proofs::Room::fits_room))]
+#[inline(always)]
+pub fn put_completion_header(packet: &TlpRef<'_>, room: &mut [u8; COMPLETION_HEADER]) -> bool
+    ensures value { result ≡ is_completion packet.now.kind }
+    ensures bytes { result ≡ true → canonical packet.now ≡ room.new ++ packet.now.payload }
+    ensures few { result ≡ true → length packet.now.payload ≤ 128 }
+    ensures kept { result ≡ false → room.new ≡ room.old }
+{
+    let header = packet.header;
+    let Body::Completion {
+        completer,
+        status,
+        byte_count,
+        lower,
+    } = header.body
+    else {
+        return false;
+    };
+    let [code, traffic, high, low] = front(&header);
+    let rest = completion_rest(
+        (completer, header.requester),
+        header.tag,
+        status,
+        byte_count,
+        lower,
+    );
+    *room = [
+        code, traffic, high, low, rest[0], rest[1], rest[2], rest[3], rest[4], rest[5], rest[6],
+        rest[7],
+    ];
+    true
 }
 
 /// Fills the buffer with the canonical bytes of the packet, whatever it held: the header of 3 DW

@@ -1,5 +1,6 @@
 //! Why bytes are no packet, or an operation makes none.
-ghost use Rattle.std.specs.Prelude.{◌≡◌};
+ghost use Rattle.std.specs.Prelude.{◌≡◌, Some, IfSome};
+ghost use Rattle.tlp_core.specs.declared.fault.TlpFault as faults;
 ghost use Rattle.tlp_core.specs.Fault.{number_of, name_of};
 
 use thiserror::Error;
@@ -57,6 +58,29 @@ impl TlpFault {
             TlpFault::ByteEnables => 11,
             TlpFault::OperandSize => 12,
             TlpFault::Unaligned => 13,
+        }
+    }
+
+    /// The fault that is told under that number, none for 0 and for more than 13.
+    pub fn of_number(number: u32) -> Option<TlpFault>
+        ensures some { IfSome result (λ f. number_of f ≡ number) }
+        ensures all { (f : faults.TlpFault) → number ≡ number_of f → result ≡ Some f }
+    {
+        match number {
+            1 => Some(TlpFault::Short),
+            2 => Some(TlpFault::Prefix),
+            3 => Some(TlpFault::Kind),
+            4 => Some(TlpFault::TenBitTag),
+            5 => Some(TlpFault::Hints),
+            6 => Some(TlpFault::Digest),
+            7 => Some(TlpFault::Poisoned),
+            8 => Some(TlpFault::Translated),
+            9 => Some(TlpFault::LengthMismatch),
+            10 => Some(TlpFault::PayloadTooLong),
+            11 => Some(TlpFault::ByteEnables),
+            12 => Some(TlpFault::OperandSize),
+            13 => Some(TlpFault::Unaligned),
+            _ => None,
         }
     }
 

@@ -4,8 +4,7 @@ ghost use Rattle.tlp_core.specs.Layout.{kind_of, header_length, dw_count, addres
 ghost use Rattle.tlp_core.specs.Bits.{bits};
 ghost use Rattle.tlp_core.specs.TlpView.{has_data};
 
-use crate::packet::{Body, Kind, MAX_PAYLOAD, Status};
-use arrayvec::ArrayVec;
+use crate::packet::{Body, Kind, Status};
 use byteorder::{BigEndian, ByteOrder};
 
 /// `count` bits of `byte`, the lowest of them bit `low`.
@@ -132,13 +131,4 @@ pub(crate) fn requester_start(kind: Kind) -> usize
         Kind::Completion | Kind::CompletionData => 8,
         _ => 4,
     }
-}
-
-pub(crate) fn payload_of(bytes: &[u8]) -> ArrayVec<u8, MAX_PAYLOAD>
-    requires { length bytes.now ≤ 128 }
-    ensures { result.items ≡ bytes.now }
-{
-    let mut payload = ArrayVec::new();
-    let _ = payload.try_extend_from_slice(bytes);
-    payload
 }

@@ -16,10 +16,12 @@ pub mod laws;
 mod lent;
 mod operation;
 mod packet;
+mod payload;
 
 pub use decoding::{decode, decode_lent};
-pub use encoding::{MAX_TLP, encode, encode_lent};
+pub use encoding::{COMPLETION_HEADER, MAX_TLP, encode, encode_lent, put_completion_header};
 pub use fault::TlpFault;
-pub use lent::{OpForm, OpRef, op_lent, operand_of};
-pub use operation::{Op, Width, copy_of, op_fault, op_of};
+pub use lent::{OpRef, op_lent, operand_of};
+pub use operation::{Op, OpOf, Width, copy_of, op_fault, op_of};
 pub use packet::{Body, Header, Kind, MAX_PAYLOAD, Status, Tlp, TlpRef};
+pub use payload::{Payload, PayloadRef, payload_of};

@@ -7,7 +7,7 @@
 ghost use Rattle.std.specs.Prelude.{◌≡◌};
 ghost use Rattle.tlp_core.specs.Operation.{is_completion};
 
-use arrayvec::ArrayVec;
+use crate::payload::{Payload, payload_of};
 use std::marker::Model;
 
 /// Max_Payload_Size, in bytes.
@@ -87,7 +87,7 @@ pub struct Tlp {
     pub tag: u8,
     pub body: Body,
     /// In rising address order.
-    pub payload: ArrayVec<u8, MAX_PAYLOAD>,
+    pub payload: Payload,
 }
 
 impl Model for Tlp {
@@ -174,7 +174,7 @@ impl<'a> TlpRef<'a> {
             requester: header.requester,
             tag: header.tag,
             body: header.body,
-            payload: crate::field::payload_of(self.payload),
+            payload: payload_of(self.payload),
         }
     }
 }

@@ -11,11 +11,11 @@ use Rattle.tlp_engine.proofs.RequestLemmas.{asked, counted}
 use Rattle.std.specs.Option.{option_map_or}
 use Rattle.std.proofs.lemmas.List.{get_or-replicate}
 use Rattle.tlp_core.specs.declared.fault.TlpFault.{TlpFault}
-use Rattle.tlp_core.specs.declared.operation.Op.{Op}
+use Rattle.tlp_core.specs.Ops.{Op}
 use Rattle.tlp_core.specs.TlpView.{TlpView, IsPacket}
 use Rattle.tlp_core.specs.Operation.{is_completion}
 use Rattle.tlp_core.specs.Faults.{reading}
-use Rattle.seq_memory.specs.declared.Entry.{Entry}
+use Rattle.seq_memory.specs.Entries.{Entry}
 use Rattle.seq_memory.specs.Limits.{Extent}
 use Rattle.seq_memory.specs.Step.{after}
 use Rattle.seq_memory.specs.History.{MemoryView, bytes_of, contents, extent_of}

@@ -9,7 +9,7 @@ use Rattle.tlp_core.specs.TlpView.{TlpView}
 use Rattle.tlp_core.specs.Layout.{canonical}
 use Rattle.tlp_core.specs.Faults.{reading}
 use Rattle.tlp_core.specs.Operation.{is_completion}
-use Rattle.seq_memory.specs.declared.Entry.{Entry}
+use Rattle.seq_memory.specs.Entries.{Entry}
 use Rattle.seq_memory.specs.Limits.{Extent}
 use Rattle.seq_memory.specs.History.{MemoryView}
 use Rattle.completer_core.specs.Serving.{after_serving, completion_to}

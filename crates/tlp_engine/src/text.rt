@@ -8,9 +8,8 @@ ghost use Rattle.hex_text.specs.Line.{spaced};
 ghost use Rattle.tlp_engine.specs.Tlp.{fault_text};
 
 use arrayvec::ArrayVec;
-use completion_bytes::{HEADER, put_header};
 use hex_text::{HexText, write_both, write_bytes};
-use tlp_core::{MAX_TLP, TlpFault, TlpRef, encode_lent};
+use tlp_core::{COMPLETION_HEADER, MAX_TLP, TlpFault, TlpRef, encode_lent, put_completion_header};
 
 /// Adds the bytes.
 fn put<const N: usize>(text: &mut ArrayVec<u8, N>, bytes: &[u8])
@@ -27,8 +26,8 @@ fn put<const N: usize>(text: &mut ArrayVec<u8, N>, bytes: &[u8])
 pub fn write_packet(packet: &TlpRef<'_>, room: &mut [u8; MAX_TLP], text: &mut HexText)
     ensures { text.new ≡ spaced (encode_upper (canonical packet.now)) ++ 10 ∷ [] }
 {
-    let mut header = [0; HEADER];
-    if put_header(packet, &mut header) {
+    let mut header = [0; COMPLETION_HEADER];
+    if put_completion_header(packet, &mut header) {
         write_both(&header, packet.payload, text);
         return;
     }

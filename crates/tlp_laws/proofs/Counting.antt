@@ -4,8 +4,8 @@ use Rattle.std.specs.Prelude.{slice_get, ◌==◌, ◌&&◌, nat_lt, fold, cond}
 use Rattle.std.proofs.lemmas.Bool.{cases_eq, cases_lt, ne_eqb, eq-eqb, lt-ltb, le-ltb}
 use Rattle.std.proofs.lemmas.Bool.Decides.{nat_tests}
 use Rattle.std.proofs.lemmas.Option.{none-some, same_Some}
-use Rattle.seq_memory.specs.declared.Entry.{Entry}
-use Rattle.history_check.specs.Trace.{is_request}
+use Rattle.seq_memory.specs.Entries.{Entry}
+use Rattle.history_words.specs.Trace.{is_request}
 use Rattle.fabric_laws.specs.Lists.{Each, one_if, count}
 use Rattle.fabric_laws.specs.ListFacts.{each_at, count_nil}
 use Rattle.fabric_laws.specs.Sound.{times}

@@ -3,10 +3,10 @@ use Rattle.std.proofs.Common.{ℕ, ◌≡◌, ◌+◌, suc, List, [], ◌∷◌,
 use Rattle.std.proofs.lemmas.List.{append-nil, append_assoc}
 use Rattle.seq_memory.specs.Limits.{Extent}
 use Rattle.seq_memory.specs.History.{extent_of}
-use Rattle.seq_memory.specs.declared.Entry.{Entry}
-use Rattle.history_check.specs.declared.Record.{Record}
-use Rattle.history_check.specs.declared.Record.TheVariants.{Sub, Ans}
-use Rattle.history_check.specs.Trace.{submissions}
+use Rattle.seq_memory.specs.Entries.{Entry}
+use Rattle.history_words.specs.Records.{Record}
+use Rattle.history_words.specs.declared.record.RecordOf.TheVariants.{Sub, Ans}
+use Rattle.history_words.specs.Trace.{submissions}
 use Rattle.fabric_laws.specs.Whole.{Whole, entry_of}
 use Rattle.fabric_laws.specs.Fabric.{Fabric, whole_of}
 use Rattle.fabric_laws.specs.Lists.{Each}

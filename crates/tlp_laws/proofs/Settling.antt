@@ -1,6 +1,6 @@
 -- A settlement is a run that submits nothing.
 use Rattle.std.proofs.Common.{◌≡◌, ℕ, List, [], ◌∷◌, ◌++◌, length, refl, subst}
-use Rattle.history_check.specs.declared.Record.{Record}
+use Rattle.history_words.specs.Records.{Record}
 use Rattle.fabric_laws.specs.Fabric.{Fabric}
 use Rattle.fabric_laws.specs.Lists.{Each}
 use Rattle.fabric_events.specs.Events.{Event}

@@ -1,19 +1,19 @@
 -- A request that is alone in a fabric, and what becomes of it.
 use Rattle.std.specs.Prelude.{ℕ, ◌≡◌, ◌<◌, ◌-◌, ◌^◌, false, true, List, [], ◌∷◌, ◌++◌, Some, slice_get}
 use Rattle.std.specs.List.{list_any}
-use Rattle.tlp_core.specs.declared.operation.Op.{Op}
+use Rattle.tlp_core.specs.Ops.{Op}
 use Rattle.tlp_core.specs.TlpView.{TlpView}
 use Rattle.tlp_core.specs.Operation.{is_posted}
-use Rattle.seq_memory.specs.declared.Reply.{Reply}
+use Rattle.seq_memory.specs.Entries.{Reply}
 use Rattle.seq_memory.specs.Step.{answer}
 use Rattle.seq_memory.specs.History.{MemoryView, bytes_of}
 use Rattle.completer_core.specs.Serving.{with_entry}
 use Rattle.completer_core.specs.Completion.{completion_of}
 use Rattle.tlp_engine.specs.Tlp.{requests_of, answer_packet, with_history, completion_text}
 use Rattle.line_loop.specs.Run.{Answer}
-use Rattle.history_check.specs.declared.Record.{Record}
-use Rattle.history_check.specs.declared.Record.TheVariants.{Ans}
-use Rattle.history_check.specs.Trace.{answers_to}
+use Rattle.history_words.specs.Records.{Record}
+use Rattle.history_words.specs.declared.record.RecordOf.TheVariants.{Ans}
+use Rattle.history_words.specs.Trace.{answers_to}
 use Rattle.fabric_laws.specs.Fabric.{Fabric, whole_of}
 use Rattle.fabric_laws.specs.Lists.{Each}
 use Rattle.fabric_laws.specs.Trace.{Belongs}

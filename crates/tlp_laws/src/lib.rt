@@ -2,10 +2,10 @@
 #![tactic(auto)]
 
 ghost use Rattle.std.specs.Prelude.{◌≡◌, ◌*◌, ◌++◌, List, Some, ℕ};
-ghost use Rattle.tlp_core.specs.declared.operation.Op.{Op};
+ghost use Rattle.tlp_core.specs.Ops.{Op};
 ghost use Rattle.tlp_core.specs.Operation.{op_of};
 ghost use Rattle.tlp_core.specs.TlpView.{TlpView};
-ghost use Rattle.history_check.specs.declared.Record.{Record};
+ghost use Rattle.history_words.specs.Records.{Record};
 ghost use Rattle.fabric_laws.specs.Fabric.{Fabric, whole_of};
 ghost use Rattle.fabric_laws.specs.Trace.{Belongs};
 ghost use Rattle.fabric_events.specs.declared.event.EventOf.TheVariants.{Submit};
@@ -30,7 +30,8 @@ use seq_memory::laws::replies_stay;
 /// request, and comes to rest again by events that submit nothing, its history has the request as its one entry more. If
 /// the request isn't posted, it is answered, with the reply of the sequential memory.
 pub fn a_lone_request_is_answered_by_the_memory()
-    ensures { (f g : Fabric) (records told : List Record) (port : ℕ) (op : Op) → IsAlone f records port op told g → IsAnswered f.memory port op (records ++ told) g.memory }
+    ensures { (f g : Fabric) (records told : List Record) (port : ℕ) (op : Op) → IsAlone f records port op told g →
+        IsAnswered f.memory port op (records ++ told) g.memory }
 {
     a_quiet_fabric_has_every_submission();
     a_run_keeps_its_trace();
@@ -57,7 +58,8 @@ pub fn a_settlement_leaves_a_request_alone()
 /// asks for the same operation under the requester's ID it prints the completion with the reply of the sequential memory,
 /// which is the fabric's answer, or `-` if the request is posted; and its memory is that of the fabric after it.
 pub fn tlp_answers_what_a_fabric_does()
-    ensures { (f g : Fabric) (records told : List Record) (port : ℕ) (op : Op) (t : TlpView) → IsAlone f records port op told g → op_of t ≡ Some op → t.requester ≡ port * 256 →
+    ensures { (f g : Fabric) (records told : List Record) (port : ℕ) (op : Op) (t : TlpView) → IsAlone f records port op told g → op_of t ≡ Some op →
+        t.requester ≡ port * 256 →
         answer_packet with_history f.memory t ≡ by_tlp f.memory t op g.memory }
 {
     a_lone_request_is_answered_by_the_memory();

@@ -3,17 +3,17 @@ use Rattle.std.proofs.Common.{◌≡◌, ℕ, zero, suc, ◌^◌, ◌<◌, ◌�
 use Rattle.std.specs.Prelude.{slice_get}
 use Rattle.std.proofs.lemmas.List.Elements.{All-nil, All-cons, All-head, All-tail}
 use Rattle.std.proofs.lemmas.Option.{same_Some}
-use Rattle.tlp_core.specs.declared.operation.Op.{Op}
+use Rattle.tlp_core.specs.Ops.{Op}
 use Rattle.seq_memory.specs.Limits.{IsWithinLimits}
 use Rattle.seq_memory.specs.History.{extent_of}
-use Rattle.seq_memory.specs.declared.Entry.{Entry}
-use Rattle.seq_memory.specs.declared.Reply.{Reply}
-use Rattle.history_check.specs.declared.Record.{Record}
-use Rattle.history_check.specs.declared.Record.TheVariants as records
-use Rattle.history_check.specs.Claim.{Claim}
-use Rattle.history_check.specs.Flaws.{moment}
-use Rattle.history_check.specs.Trace.{submissions, IsNumbered, Explains}
-use Rattle.history_check.specs.Clocks.{IsClocked}
+use Rattle.seq_memory.specs.Entries.{Entry}
+use Rattle.seq_memory.specs.Entries.{Reply}
+use Rattle.history_words.specs.Records.{Record}
+use Rattle.history_words.specs.declared.record.RecordOf.TheVariants as records
+use Rattle.history_words.specs.Claim.{Claim}
+use Rattle.history_words.specs.Flaws.{moment}
+use Rattle.history_words.specs.Trace.{submissions, IsNumbered, Explains}
+use Rattle.history_words.specs.Clocks.{IsClocked}
 use Rattle.operation_text.specs.Operations.{IsSpelledOp, IsSpelledReply}
 use Rattle.trace_text.specs.Tellable.{IsRequest, IsTellableRecord, IsTellableEntry, IsTellable}
 use Rattle.told_laws.specs.Told.{IsToldSub}

@@ -1,7 +1,7 @@
 -- Submissions that lines can tell.
 use Rattle.std.specs.Prelude.{ℕ}
-use Rattle.history_check.specs.declared.Record.{Record}
-use Rattle.history_check.specs.declared.Record.TheVariants as records
+use Rattle.history_words.specs.Records.{Record}
+use Rattle.history_words.specs.declared.record.RecordOf.TheVariants as records
 use Rattle.operation_text.specs.Operations.{IsSpelledOp}
 use Rattle.trace_text.specs.Tellable.{IsRequest}
 

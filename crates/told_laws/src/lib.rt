@@ -4,9 +4,9 @@
 ghost use Rattle.std.specs.Prelude.{◌^◌, ◌<◌, All, length};
 ghost use Rattle.seq_memory.specs.History.{extent_of};
 ghost use Rattle.seq_memory.specs.Limits.{IsWithinLimits};
-ghost use Rattle.history_check.specs.Claim.{Claim};
-ghost use Rattle.history_check.specs.Clocks.{IsClocked};
-ghost use Rattle.history_check.specs.Trace.{Explains};
+ghost use Rattle.history_words.specs.Claim.{Claim};
+ghost use Rattle.history_words.specs.Clocks.{IsClocked};
+ghost use Rattle.history_words.specs.Trace.{Explains};
 ghost use Rattle.trace_text.specs.Tellable.{IsTellable};
 ghost use Rattle.told_laws.specs.Told.{IsToldSub};
 

@@ -1,7 +1,7 @@
 -- Of which line of a trace's text a reason is told, and when.
 use Rattle.std.specs.Prelude.{ℕ, ◌≡◌, ◌+◌, ◌-◌, ◌^◌, ◌<◌, nat_le, min, if◌then◌else◌, List, [], ◌∷◌, ◌++◌, length, Option, Some, None, slice_get}
 use Rattle.text_lines.specs.Lines.{is_skipped}
-use Rattle.history_check.specs.declared.flaws.FlawKind.{FlawKind}
+use Rattle.history_words.specs.declared.flaws.FlawKind.{FlawKind}
 use Rattle.flaw_places.specs.Places.{is_of_entry}
 
 -- the first fault: one that is known, or else one that is found
@@ -57,7 +57,7 @@ abbrev pub LinesHaveTheirNumbers : Type 0
 LinesHaveTheirNumbers = (lines : List (List ℕ)) (n number : ℕ) → length lines < 2 ^ 64
     → slice_get (unskipped 1 lines) n ≡ Some number → number_at (numbered_all nothing_numbered lines) n ≡ number
 
--- the head and the memory's line stand before the records
+-- the header and the memory's line stand before the records
 abbrev pub record_line : TraceLinesView → ℕ → ℕ
 record_line s place = number_at s (plus place 2)
 

@@ -3,9 +3,9 @@ use crate::trace_lines::TraceLines;
 use arrayvec::ArrayString;
 use diagnostics::Reason;
 use flaw_places::{flawed_request, is_of_entry};
-use history_check::{AsClaim, Flaw, FlawKind, Head, Record};
+use history_words::{AsClaim, Flaw, FlawKind, RecordHeader, RecordRef};
 use operation_text::write_reply;
-use seq_memory::{Reply, perform};
+use seq_memory::{Reply, ReplyRef, perform};
 use std::alloc::{AllocError, Global};
 
 /// A request, by its requester and its number.
@@ -16,22 +16,22 @@ struct Request {
 }
 
 /// The record submits the request.
-fn submits(head: Head, request: Request) -> bool {
-    match head {
-        Head::Sub {
+fn submits(header: RecordHeader, request: Request) -> bool {
+    match header {
+        RecordHeader::Sub {
             requester,
             number,
             ..
         } => requester == request.requester && number == request.number,
-        Head::Ans { .. } => false,
+        RecordHeader::Ans { .. } => false,
     }
 }
 
 /// The record answers the request.
-fn answers(head: Head, request: Request) -> bool {
-    match head {
-        Head::Sub { .. } => false,
-        Head::Ans {
+fn answers(header: RecordHeader, request: Request) -> bool {
+    match header {
+        RecordHeader::Sub { .. } => false,
+        RecordHeader::Ans {
             requester,
             number,
             ..
@@ -42,7 +42,7 @@ fn answers(head: Head, request: Request) -> bool {
 /// The place of the request's submission.
 fn submission<C: AsClaim>(claim: &C, request: Request) -> Option<usize> {
     for place in 0..claim.records() {
-        if submits(claim.head(place)?, request) {
+        if submits(claim.header(place)?, request) {
             return Some(place);
         }
     }
@@ -52,7 +52,7 @@ fn submission<C: AsClaim>(claim: &C, request: Request) -> Option<usize> {
 /// The place of the request's first answer.
 fn answer<C: AsClaim>(claim: &C, request: Request) -> Option<usize> {
     for place in 0..claim.records() {
-        if answers(claim.head(place)?, request) {
+        if answers(claim.header(place)?, request) {
             return Some(place);
         }
     }
@@ -84,7 +84,7 @@ impl<C: AsClaim> Case<'_, C> {
 
     /// The length of the history at the record; 0 if there is none.
     fn moment(&self, place: usize) -> u64 {
-        self.claim.head(place).map_or(0, Head::moment)
+        self.claim.header(place).map_or(0, RecordHeader::moment)
     }
 
     /// Adds the request's place in the history, where it has one.
@@ -97,15 +97,15 @@ impl<C: AsClaim> Case<'_, C> {
 }
 
 /// The record submits an operation of the requester.
-fn is_from(head: Option<Head>, from: u8) -> bool {
-    matches!(head, Some(Head::Sub { requester, .. }) if requester == from)
+fn is_from(header: Option<RecordHeader>, from: u8) -> bool {
+    matches!(header, Some(RecordHeader::Sub { requester, .. }) if requester == from)
 }
 
 /// How many requests the requester has submitted before the place.
 fn submitted<C: AsClaim>(claim: &C, before: usize, from: u8) -> u64 {
     let mut count: u64 = 0;
     for place in 0..before.min(claim.records()) {
-        if is_from(claim.head(place), from) {
+        if is_from(claim.header(place), from) {
             count = count.saturating_add(1);
         }
     }
@@ -163,10 +163,10 @@ fn first_unsettled<C: AsClaim>(claim: &C, before: usize, from: u8) -> u64 {
 }
 
 /// The number of a write that the requester submits, if it is none of those below.
-fn write_from(head: Option<Head>, from: u8, least: u64) -> Option<u32> {
-    match head {
+fn write_from(header: Option<RecordHeader>, from: u8, least: u64) -> Option<u32> {
+    match header {
         Some(
-            Head::Sub {
+            RecordHeader::Sub {
                 requester,
                 number,
                 is_posted: true,
@@ -180,7 +180,7 @@ fn write_from(head: Option<Head>, from: u8, least: u64) -> Option<u32> {
 /// The place and the number of the first such write.
 fn first_write<C: AsClaim>(claim: &C, requester: u8, least: u64) -> Option<(usize, u32)> {
     for place in 0..claim.records() {
-        if let Some(number) = write_from(claim.head(place), requester, least) {
+        if let Some(number) = write_from(claim.header(place), requester, least) {
             return Some((place, number));
         }
     }
@@ -265,13 +265,13 @@ fn reply_at<C: AsClaim>(alloc: Global, claim: &C, index: usize) -> Option<Reply>
     let mut last = None;
     for p in 0..index.saturating_add(1) {
         let entry = claim.entry(p)?;
-        last = Some(perform(base, block, &mut bytes, &entry.op));
+        last = Some(perform(base, block, &mut bytes, &entry.op.to_owned()));
     }
     last
 }
 
 /// Adds a reply's text.
-fn put_reply(reply: &Reply, reason: &mut Reason) {
+fn put_reply(reply: &ReplyRef<'_>, reason: &mut Reason) {
     let mut text = ArrayString::new();
     write_reply(reply, &mut text);
     reason.put(text.as_str());
@@ -283,7 +283,7 @@ fn put_other_reply<C: AsClaim>(
     alloc: Global,
     case: &Case<'_, C>,
     request: Request,
-    reply: &Reply,
+    reply: &ReplyRef<'_>,
     reason: &mut Reason,
 ) {
     reason.put(": ");
@@ -293,7 +293,7 @@ fn put_other_reply<C: AsClaim>(
     };
     if let Some(made) = reply_at(alloc, case.claim, index) {
         reason.put(" where ");
-        put_reply(&made, reason);
+        put_reply(&made.lend(), reason);
         reason.put(" is expected");
     }
     case.put_point(request, reason);
@@ -304,10 +304,10 @@ fn flags(alloc: Global, count: usize) -> Result<Vec<bool>, AllocError> {
 }
 
 /// The number of the requester's request that the record answers, if it answers one.
-fn answered_by(head: Option<Head>, from: u8) -> Option<u32> {
-    match head {
+fn answered_by(header: Option<RecordHeader>, from: u8) -> Option<u32> {
+    match header {
         Some(
-            Head::Ans {
+            RecordHeader::Ans {
                 requester,
                 number,
                 ..
@@ -322,7 +322,7 @@ fn answered<C: AsClaim>(alloc: Global, claim: &C, before: usize, from: u8) -> Op
     let before = before.min(claim.records());
     let mut answered = flags(alloc, before).ok()?;
     for place in 0..before {
-        if let Some(number) = answered_by(claim.head(place), from) {
+        if let Some(number) = answered_by(claim.header(place), from) {
             if let Some(flag) = answered.get_mut(number as usize) {
                 *flag = true;
             }
@@ -408,7 +408,7 @@ fn put_of_record<C: AsClaim>(
         FlawKind::Late => put_late(case, flaw.place, request, reason),
         FlawKind::Clock => put_clock(case, flaw.place, request, reason),
         FlawKind::Reply => {
-            if let Some(Record::Ans { reply, .. }) = case.claim.record(flaw.place) {
+            if let Some(RecordRef::Ans { reply, .. }) = case.claim.record(flaw.place) {
                 put_other_reply(alloc, case, request, &reply, reason);
             }
         }

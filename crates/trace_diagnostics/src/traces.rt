@@ -7,7 +7,7 @@ use crate::cause::tell_misread;
 use crate::flaws::flaw_reason;
 use crate::trace_lines::TraceLines;
 use flaw_places::is_of_entry;
-use history_check::{AsClaim, Flaw};
+use history_words::{AsClaim, Flaw};
 use line_loop::EngineFault;
 use record_text::Cause;
 use std::alloc::Global;

@@ -1,9 +1,9 @@
 -- The flaw that is told, with the n's asked for or without.
 use Rattle.std.proofs.Common.{◌≡◌, ◌∙◌, ℕ, Bool, true, false, ap, Option, Some, None}
 use Rattle.std.specs.Option.{option_or}
-use Rattle.history_check.specs.declared.flaws.FlawKind.{FlawKind}
-use Rattle.history_check.specs.Claim.{Claim}
-use Rattle.history_check.specs.Flaws.{first_flaw, first_clock_flaw, first_flaw_clocked}
+use Rattle.history_words.specs.declared.flaws.FlawKind.{FlawKind}
+use Rattle.history_words.specs.Claim.{Claim}
+use Rattle.history_words.specs.Flaws.{first_flaw, first_clock_flaw, first_flaw_clocked}
 use Rattle.trace_engine.specs.Check.{if_clocked, flaw_with}
 
 pub by_first : (x : Claim) (o : Option (FlawKind × ℕ)) → first_flaw x ≡ o → first_flaw_clocked x ≡ option_or o (first_clock_flaw x)

@@ -1,9 +1,9 @@
 -- What `check` answers to the text of a trace.
 use Rattle.std.specs.Prelude.{ℕ, List, [], ◌∷◌, ◌++◌, Bool, true, false, codes, Option, Some, None, Result, Ok, Err}
-use Rattle.history_check.specs.declared.flaws.FlawKind.{FlawKind}
+use Rattle.history_words.specs.declared.flaws.FlawKind.{FlawKind}
 use Rattle.flaw_places.specs.Places.{flaw_line}
-use Rattle.history_check.specs.Claim.{Claim}
-use Rattle.history_check.specs.Flaws.{first_flaw, first_flaw_clocked}
+use Rattle.history_words.specs.Claim.{Claim}
+use Rattle.history_words.specs.Flaws.{first_flaw, first_flaw_clocked}
 use Rattle.record_text.specs.declared.fault.ReadFault.{ReadFault}
 use Rattle.record_text.specs.Names.{fault_line}
 use Rattle.trace_text.specs.TraceReaderView.{TraceReaderView, nothing_read, after_line, after_long_line, at_end}

@@ -1,8 +1,8 @@
 -- Of which line of a trace's text a reason is told.
 use Rattle.std.specs.Prelude.{ℕ, ◌≡◌, length, Option, Some, None}
-use Rattle.history_check.specs.declared.flaws.FlawKind.{FlawKind}
-use Rattle.history_check.specs.Claim.{Claim}
-use Rattle.history_check.specs.Flaws.{first_flaw_clocked}
+use Rattle.history_words.specs.declared.flaws.FlawKind.{FlawKind}
+use Rattle.history_words.specs.Claim.{Claim}
+use Rattle.history_words.specs.Flaws.{first_flaw_clocked}
 use Rattle.record_text.specs.declared.fault.ReadFault.{ReadFault}
 use Rattle.record_text.specs.RecordReaderView.{RecordReaderView}
 use Rattle.trace_diagnostics.specs.Told.{TraceReasonsView, TraceLinesView, line_of_flaw}

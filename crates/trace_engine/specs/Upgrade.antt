@@ -1,6 +1,6 @@
 -- What `upgrade` answers to the text of a trace.
 use Rattle.std.specs.Prelude.{ℕ, List, true, false, Result, Ok, Err}
-use Rattle.history_check.specs.Claim.{Claim}
+use Rattle.history_words.specs.Claim.{Claim}
 use Rattle.record_text.specs.declared.fault.ReadFault.{ReadFault}
 use Rattle.trace_text.specs.TraceReaderView.{TraceReaderView, nothing_read, after_line, after_long_line, at_end}
 use Rattle.trace_text.specs.Texts.{trace_text}

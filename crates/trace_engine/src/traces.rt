@@ -1,6 +1,6 @@
 //! What the subcommands that read a trace share.
 ghost use Rattle.std.specs.Prelude.{◌≡◌, ◌++◌, ◌∷◌, [], IfOk, IfErr, OnErr, OnOk, Ok, Err};
-ghost use Rattle.history_check.specs.Claim.{claim_of};
+ghost use Rattle.history_words.specs.Claim.{claim_of};
 ghost use Rattle.trace_text.specs.Texts.{trace_text};
 ghost use Rattle.trace_text.specs.TraceReaderView.{nothing_read, after_line, after_long_line, at_end};
 ghost use Rattle.record_text.specs.Names.{fault_line};
@@ -8,7 +8,7 @@ ghost use Rattle.trace_diagnostics.specs.Told.{first_of};
 ghost use Rattle.trace_engine.specs.Reasons.{faulty_line};
 
 use arrayvec::ArrayString;
-use history_check::{AsClaim, Flaw, Trace};
+use history_words::{AsClaim, Flaw, Trace};
 use line_loop::Verdict;
 use record_text::{ReadFault, write_fault};
 use seq_memory::Entry;

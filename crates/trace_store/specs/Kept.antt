@@ -1,12 +1,12 @@
 -- Operations and replies whose bytes stand in their fields, or in a list with those of others.
 use Rattle.std.specs.Prelude.{ℕ, ◌≡◌, ◌+◌, ◌<◌, ◌≤◌, ◌⊎◌, nat_le, if◌then◌else◌, List, length, take, drop}
 use Rattle.byteorder.specs.Endian.{little_number}
-use Rattle.tlp_core.specs.declared.operation.Op.{Op}
-use Rattle.tlp_core.specs.declared.operation.Op.TheVariants as ops
-use Rattle.tlp_core.specs.Operation.{width_of}
-use Rattle.tlp_core.specs.Lent.{number_of}
-use Rattle.seq_memory.specs.declared.Reply.{Reply}
-use Rattle.seq_memory.specs.declared.Reply.TheVariants as replies
+use Rattle.tlp_core.specs.Ops.{Op}
+use Rattle.tlp_core.specs.declared.operation.OpOf.TheVariants as ops
+use Rattle.tlp_core.specs.declared.operation.Width.{Width}
+use Rattle.tlp_core.specs.Operands.{number_of}
+use Rattle.seq_memory.specs.Entries.{Reply}
+use Rattle.seq_memory.specs.declared.reply.ReplyOf.TheVariants as replies
 use Rattle.seq_memory.specs.Step.{bytes_at, data_of}
 use Rattle.trace_store.specs.declared.kept.OpKind.{OpKind}
 use Rattle.trace_store.specs.declared.kept.OpKind.TheVariants as op_kinds
@@ -22,17 +22,21 @@ held bytes room size = if nat_le size 8 then take size room else bytes_at bytes 
 abbrev pub held_in : List ℕ → Fields → List ℕ
 held_in bytes f = held bytes f.room f.count
 
--- a CAS of two operands of so many bytes, one after the other
-abbrev pub cas_of : ℕ → ℕ → List ℕ → Op
-cas_of address count both = ops.Cas address (width_of (length (take count both))) (number_of (take count both)) (number_of (drop count both))
+-- the bytes of two operands, one after the other
+abbrev pub both_in : List ℕ → Fields → List ℕ
+both_in bytes f = held bytes f.room (f.count + f.count)
+
+-- a CAS of two operands of so many bytes each
+abbrev pub cas_of : ℕ → Width → ℕ → List ℕ → Op
+cas_of address w count both = ops.Cas address w (number_of (take count both)) (number_of (drop count both))
 
 -- the operation that is kept
 abbrev pub op_in : List ℕ → OpKind → Fields → Op
 op_in bytes op_kinds.Read f = ops.Read f.address f.count f.first f.last
 op_in bytes op_kinds.Write f = ops.Write f.address f.first f.last (record { items = held_in bytes f })
-op_in bytes op_kinds.FetchAdd f = ops.FetchAdd f.address (width_of (length (held_in bytes f))) (number_of (held_in bytes f))
-op_in bytes op_kinds.Swap f = ops.Swap f.address (width_of (length (held_in bytes f))) (number_of (held_in bytes f))
-op_in bytes op_kinds.Cas f = cas_of f.address f.count (held bytes f.room (f.count + f.count))
+op_in bytes (op_kinds.FetchAdd w) f = ops.FetchAdd f.address w (number_of (held_in bytes f))
+op_in bytes (op_kinds.Swap w) f = ops.Swap f.address w (number_of (held_in bytes f))
+op_in bytes (op_kinds.Cas w) f = cas_of f.address w f.count (both_in bytes f)
 
 -- the reply that is kept
 abbrev pub reply_in : List ℕ → ReplyKind → Fields → Reply
@@ -41,9 +45,9 @@ reply_in bytes reply_kinds.Data f = data_of (held_in bytes f)
 reply_in bytes reply_kinds.Unsupported f = replies.Unsupported
 reply_in bytes reply_kinds.Aborted f = replies.Aborted
 
--- an operand has 4, 8 or 16 bytes
-abbrev pub IsWidth : ℕ → Type 0
-IsWidth count = (count ≡ 4) ⊎ (count ≡ 8) ⊎ (count ≡ 16)
+-- an operand is kept in 4, 8 or 16 bytes, whatever its width
+abbrev pub IsSize : ℕ → Type 0
+IsSize count = (count ≡ 4) ⊎ (count ≡ 8) ⊎ (count ≡ 16)
 
 -- the list has so many bytes, if they don't stand in the room
 abbrev pub Holds : List ℕ → List ℕ → ℕ → Type 0
@@ -53,9 +57,9 @@ Holds bytes room size = 8 < size → little_number 8 room + size ≤ length byte
 abbrev pub HasOp : List ℕ → OpKind → Fields → Type 0
 HasOp bytes op_kinds.Read f = Unit {0}
 HasOp bytes op_kinds.Write f = (f.count ≤ 128) × Holds bytes f.room f.count
-HasOp bytes op_kinds.FetchAdd f = IsWidth f.count × Holds bytes f.room f.count
-HasOp bytes op_kinds.Swap f = IsWidth f.count × Holds bytes f.room f.count
-HasOp bytes op_kinds.Cas f = IsWidth f.count × Holds bytes f.room (f.count + f.count)
+HasOp bytes (op_kinds.FetchAdd w) f = IsSize f.count × Holds bytes f.room f.count
+HasOp bytes (op_kinds.Swap w) f = IsSize f.count × Holds bytes f.room f.count
+HasOp bytes (op_kinds.Cas w) f = IsSize f.count × Holds bytes f.room (f.count + f.count)
 
 -- the reply's bytes are there
 abbrev pub HasReply : List ℕ → ReplyKind → Fields → Type 0

@@ -1,23 +1,22 @@
-//! An operation and a reply whose bytes stand in a head, or in a list with those of others.
-ghost use Rattle.std.specs.Prelude.{◌≡◌, ◌+◌, ◌++◌, ◌≤◌, length, take, IfOk, OnOk};
+//! An operation and a reply whose bytes stand in its fields, or in a list with those of others.
+ghost use Rattle.std.specs.Prelude.{◌≡◌, ◌+◌, ◌^◌, ◌<◌, ◌≤◌, length, take, drop, IfOk, OnOk};
 ghost use Rattle.byteorder.specs.Endian.{little_number};
-ghost use Rattle.tlp_core.specs.Lent.{owned, HasSizes, IsOperand};
-ghost use Rattle.seq_memory.specs.Outcome.{owned_reply, HasRoom};
-ghost use Rattle.trace_store.specs.Kept.{held, op_in, reply_in, Holds, HasOp, HasReply, Grows};
+ghost use Rattle.tlp_core.specs.Operands.{number_of, IsOperand};
+ghost use Rattle.trace_store.specs.Kept.{held, held_in, both_in, op_in, reply_in, IsSize, Holds, HasOp, HasReply, Grows};
 
 use byteorder::{ByteOrder, LittleEndian};
-use seq_memory::ReplyForm;
+use seq_memory::ReplyRef;
 use std::alloc::AllocError;
-use tlp_core::OpForm;
+use tlp_core::{OpRef, PayloadRef, Width, operand_of};
 
-/// Which operation it is.
+/// Which operation it is, and the width of its operands.
 #[derive(Clone, Copy)]
 pub(crate) enum OpKind {
     Read,
     Write,
-    FetchAdd,
-    Swap,
-    Cas,
+    FetchAdd(Width),
+    Swap(Width),
+    Cas(Width),
 }
 
 /// Which reply it is.
@@ -36,7 +35,7 @@ pub(crate) struct Fields {
     /// Its bytes, of which there are at most 8, or where they begin in the list. A CAS has its operands
     /// there, one after the other.
     pub room: [u8; 8],
-    /// The DW of a read, the bytes of a write or a reply, those of one operand.
+    /// The DW of a read, the bytes of a write or a reply, those in which each operand is kept.
     pub count: u16,
     pub first: u8,
     pub last: u8,
@@ -65,42 +64,85 @@ fn part<'a>(bytes: &'a [u8], room: &'a [u8; 8], size: usize) -> &'a [u8]
     &bytes[from..from + size]
 }
 
+/// The bytes of a write.
+#[inline(always)]
+pub(crate) fn bytes_of<'a>(bytes: &'a [u8], fields: &'a Fields) -> &'a [u8]
+    requires { Holds bytes.now fields.now.room fields.now.count }
+    ensures value { result.now ≡ held_in bytes.now fields.now }
+    ensures size { length result.now ≡ fields.now.count }
+{
+    part(bytes, &fields.room, usize::from(fields.count))
+}
+
+/// The number in the bytes.
+#[inline(always)]
+fn number(bytes: &[u8]) -> u128
+    requires { IsOperand bytes.now }
+    ensures { result ≡ number_of bytes.now }
+{
+    operand_of(bytes).1
+}
+
+/// An operand.
+#[inline(always)]
+pub(crate) fn operand_in(bytes: &[u8], fields: &Fields) -> u128
+    requires size { IsSize fields.now.count }
+    requires held { Holds bytes.now fields.now.room fields.now.count }
+    ensures { result ≡ number_of (held_in bytes.now fields.now) }
+{
+    number(bytes_of(bytes, fields))
+}
+
+/// Two operands.
+#[inline(always)]
+pub(crate) fn operands_in(bytes: &[u8], fields: &Fields) -> (u128, u128)
+    requires size { IsSize fields.now.count }
+    requires held { Holds bytes.now fields.now.room (fields.now.count + fields.now.count) }
+    ensures first { result.0 ≡ number_of (take fields.now.count (both_in bytes.now fields.now)) }
+    ensures second { result.1 ≡ number_of (drop fields.now.count (both_in bytes.now fields.now)) }
+{
+    let count = usize::from(fields.count);
+    let both = part(bytes, &fields.room, count + count);
+    (number(&both[..count]), number(&both[count..]))
+}
+
 /// The operation, with its bytes where they stand.
 #[inline(always)]
-pub(crate) fn form_in<'a>(bytes: &'a [u8], kind: OpKind, fields: &'a Fields) -> OpForm<'a>
+pub(crate) fn op_in<'a>(bytes: &'a [u8], kind: OpKind, fields: &'a Fields) -> OpRef<'a>
     requires { HasOp bytes.now kind fields.now }
-    ensures value { owned result ≡ op_in bytes.now kind fields.now }
-    ensures sizes { HasSizes result }
+    ensures { result ≡ op_in bytes.now kind fields.now }
 {
     let address = fields.address;
-    let count = usize::from(fields.count);
     match kind {
-        OpKind::Read => OpForm::Read {
+        OpKind::Read => OpRef::Read {
             address,
             dw: fields.count,
             first: fields.first,
             last: fields.last,
         },
-        OpKind::Write => OpForm::Write {
+        OpKind::Write => OpRef::Write {
             address,
             first: fields.first,
             last: fields.last,
-            bytes: part(bytes, &fields.room, count),
+            bytes: PayloadRef::new(bytes_of(bytes, fields)),
         },
-        OpKind::FetchAdd => OpForm::FetchAdd {
+        OpKind::FetchAdd(width) => OpRef::FetchAdd {
             address,
-            operand: part(bytes, &fields.room, count),
+            width,
+            operand: operand_in(bytes, fields),
         },
-        OpKind::Swap => OpForm::Swap {
+        OpKind::Swap(width) => OpRef::Swap {
             address,
-            operand: part(bytes, &fields.room, count),
+            width,
+            operand: operand_in(bytes, fields),
         },
-        OpKind::Cas => {
-            let both = part(bytes, &fields.room, count + count);
-            OpForm::Cas {
+        OpKind::Cas(width) => {
+            let (compare, swap) = operands_in(bytes, fields);
+            OpRef::Cas {
                 address,
-                compare: &both[..count],
-                swap: &both[count..],
+                width,
+                compare,
+                swap,
             }
         }
     }
@@ -108,20 +150,15 @@ pub(crate) fn form_in<'a>(bytes: &'a [u8], kind: OpKind, fields: &'a Fields) -> 
 
 /// The reply, with its bytes where they stand.
 #[inline(always)]
-pub(crate) fn reply_form_in<'a>(
-    bytes: &'a [u8],
-    kind: ReplyKind,
-    fields: &'a Fields,
-) -> ReplyForm<'a>
+pub(crate) fn reply_in<'a>(bytes: &'a [u8], kind: ReplyKind, fields: &'a Fields) -> ReplyRef<'a>
     requires { HasReply bytes.now kind fields.now }
-    ensures value { owned_reply result ≡ reply_in bytes.now kind fields.now }
-    ensures sizes { HasRoom result }
+    ensures { result ≡ reply_in bytes.now kind fields.now }
 {
     match kind {
-        ReplyKind::Done => ReplyForm::Done,
-        ReplyKind::Data => { ReplyForm::Data(part(bytes, &fields.room, usize::from(fields.count))) }
-        ReplyKind::Unsupported => ReplyForm::Unsupported,
-        ReplyKind::Aborted => ReplyForm::Aborted,
+        ReplyKind::Done => ReplyRef::Done,
+        ReplyKind::Data => { ReplyRef::Data(PayloadRef::new(bytes_of(bytes, fields))) }
+        ReplyKind::Unsupported => ReplyRef::Unsupported,
+        ReplyKind::Aborted => ReplyRef::Aborted,
     }
 }
 
@@ -161,89 +198,146 @@ fn put(bytes: &mut Vec<u8>, more: &[u8], room: &mut [u8; 8]) -> Result<(), Alloc
     bytes.extend_from_slice(more)
 }
 
-/// Puts two operands of one size, one after the other.
+/// In how many bytes a number is kept: as few as its value needs, whatever its operation's width.
+#[inline(always)]
+fn size_for(number: u128) -> usize
+    ensures size { IsSize result }
+    ensures fits { number < 256 ^ result }
+{
+    if number < 1 << 32 {
+        4
+    } else if number < 1 << 64 {
+        8
+    } else {
+        16
+    }
+}
+
+/// Writes the number into the place.
+#[inline(always)]
+fn spell(place: &mut [u8], number: u128)
+    requires size { IsOperand place.old }
+    requires fits { number < 256 ^ length place.old }
+    ensures { number_of place.new ≡ number }
+{
+    match place.len() {
+        4 => LittleEndian::write_u32(place, number as u32),
+        8 => LittleEndian::write_u64(place, number as u64),
+        _ => LittleEndian::write_u128(place, number),
+    }
+}
+
+/// Writes two numbers of so many bytes each into the place.
+#[inline(always)]
+fn spell_both(place: &mut [u8], size: usize, first: u128, second: u128)
+    requires size { IsSize size }
+    requires place { length place.old ≡ size + size }
+    requires first { first < 256 ^ size }
+    requires second { second < 256 ^ size }
+    ensures first { number_of (take size place.new) ≡ first }
+    ensures second { number_of (drop size place.new) ≡ second }
+{
+    spell(&mut place[..size], first);
+    spell(&mut place[size..], second);
+}
+
+/// Keeps an operand, in the room if it is below 2^64.
+#[inline(always)]
+#[tactic(auto, using(crate::proofs::Parts::in_room))]
+fn put_operand(bytes: &mut Vec<u8>, operand: u128, fields: &mut Fields) -> Result<(), AllocError>
+    ensures number { OnOk result (number_of (held_in bytes.new.items fields.new) ≡ operand) }
+    ensures size { OnOk result (IsSize fields.new.count) }
+    ensures fits { OnOk result (Holds bytes.new.items fields.new.room fields.new.count) }
+    ensures grows { Grows bytes.old.items bytes.new.items }
+    ensures address { fields.new.address ≡ fields.old.address }
+{
+    if operand < 1 << 64 {
+        fields.count = 8;
+        spell(&mut fields.room, operand);
+        return Ok(());
+    }
+    let mut spelled = [0; 16];
+    spell(&mut spelled, operand);
+    fields.count = 16;
+    put(bytes, &spelled, &mut fields.room)
+}
+
+/// Keeps two operands, one after the other in as many bytes each.
 #[inline(always)]
 fn put_both(
     bytes: &mut Vec<u8>,
-    first: &[u8],
-    second: &[u8],
-    room: &mut [u8; 8],
+    first: u128,
+    second: u128,
+    fields: &mut Fields,
 ) -> Result<(), AllocError>
-    requires operand { IsOperand first.now }
-    requires same { length first.now ≡ length second.now }
-    ensures items { OnOk result (held bytes.new.items room.new (length first.now + length second.now) ≡ first.now ++ second.now) }
-    ensures fits { OnOk result (Holds bytes.new.items room.new (length first.now + length second.now)) }
+    ensures first { OnOk result (number_of (take fields.new.count (both_in bytes.new.items fields.new)) ≡ first) }
+    ensures second { OnOk result (number_of (drop fields.new.count (both_in bytes.new.items fields.new)) ≡ second) }
+    ensures size { OnOk result (IsSize fields.new.count) }
+    ensures fits { OnOk result (Holds bytes.new.items fields.new.room (fields.new.count + fields.new.count)) }
     ensures grows { Grows bytes.old.items bytes.new.items }
+    ensures address { fields.new.address ≡ fields.old.address }
 {
-    if first.len() == 4 {
-        room[..4].copy_from_slice(&first[..4]);
-        room[4..].copy_from_slice(&second[..4]);
-        return Ok(());
-    }
-    put_end(bytes, room);
-    bytes.extend_from_slice(first)?;
-    bytes.extend_from_slice(second)
+    let size = size_for(first.max(second));
+    let mut room = [0; 32];
+    let spelled = &mut room[..size + size];
+    spell_both(spelled, size, first, second);
+    fields.count = size as u16;
+    put(bytes, spelled, &mut fields.room)
 }
 
 /// Keeps the operation: its fields, and its bytes there or behind the others in the list.
 #[inline(always)]
 pub(crate) fn keep_op(
     bytes: &mut Vec<u8>,
-    op: &OpForm<'_>,
+    op: &OpRef<'_>,
     fields: &mut Fields,
 ) -> Result<OpKind, AllocError>
-    requires { HasSizes op.now }
-    ensures kept { IfOk result (λ kind. op_in bytes.new.items kind fields.new ≡ owned op.now) }
+    ensures kept { IfOk result (λ kind. op_in bytes.new.items kind fields.new ≡ op.now) }
     ensures fits { IfOk result (λ kind. HasOp bytes.new.items kind fields.new) }
     ensures grows { Grows bytes.old.items bytes.new.items }
 {
-    match *op {
-        OpForm::Read {
-            address,
+    fields.address = op.address();
+    match op {
+        OpRef::Read {
             dw,
             first,
             last,
+            ..
         } => {
-            fields.address = address;
-            fields.count = dw;
-            fields.first = first;
-            fields.last = last;
+            fields.count = *dw;
+            fields.first = *first;
+            fields.last = *last;
             Ok(OpKind::Read)
         }
-        OpForm::Write {
-            address,
+        OpRef::Write {
             first,
             last,
             bytes: written,
+            ..
         } => {
-            put(bytes, written, &mut fields.room)?;
-            fields.address = address;
+            let written = written.as_slice();
             fields.count = written.len() as u16;
-            fields.first = first;
-            fields.last = last;
+            fields.first = *first;
+            fields.last = *last;
+            put(bytes, written, &mut fields.room)?;
             Ok(OpKind::Write)
         }
-        OpForm::FetchAdd { address, operand } => {
-            put(bytes, operand, &mut fields.room)?;
-            fields.address = address;
-            fields.count = operand.len() as u16;
-            Ok(OpKind::FetchAdd)
+        OpRef::FetchAdd { width, operand, .. } => {
+            put_operand(bytes, *operand, fields)?;
+            Ok(OpKind::FetchAdd(*width))
         }
-        OpForm::Swap { address, operand } => {
-            put(bytes, operand, &mut fields.room)?;
-            fields.address = address;
-            fields.count = operand.len() as u16;
-            Ok(OpKind::Swap)
+        OpRef::Swap { width, operand, .. } => {
+            put_operand(bytes, *operand, fields)?;
+            Ok(OpKind::Swap(*width))
         }
-        OpForm::Cas {
-            address,
+        OpRef::Cas {
+            width,
             compare,
             swap,
+            ..
         } => {
-            put_both(bytes, compare, swap, &mut fields.room)?;
-            fields.address = address;
-            fields.count = compare.len() as u16;
-            Ok(OpKind::Cas)
+            put_both(bytes, *compare, *swap, fields)?;
+            Ok(OpKind::Cas(*width))
         }
     }
 }
@@ -252,22 +346,22 @@ pub(crate) fn keep_op(
 #[inline(always)]
 pub(crate) fn keep_reply(
     bytes: &mut Vec<u8>,
-    reply: &ReplyForm<'_>,
+    reply: &ReplyRef<'_>,
     fields: &mut Fields,
 ) -> Result<ReplyKind, AllocError>
-    requires { HasRoom reply.now }
-    ensures kept { IfOk result (λ kind. reply_in bytes.new.items kind fields.new ≡ owned_reply reply.now) }
+    ensures kept { IfOk result (λ kind. reply_in bytes.new.items kind fields.new ≡ reply.now) }
     ensures fits { IfOk result (λ kind. HasReply bytes.new.items kind fields.new) }
     ensures grows { Grows bytes.old.items bytes.new.items }
 {
-    match *reply {
-        ReplyForm::Done => Ok(ReplyKind::Done),
-        ReplyForm::Data(told) => {
-            put(bytes, told, &mut fields.room)?;
+    match reply {
+        ReplyRef::Done => Ok(ReplyKind::Done),
+        ReplyRef::Data(told) => {
+            let told = told.as_slice();
             fields.count = told.len() as u16;
+            put(bytes, told, &mut fields.room)?;
             Ok(ReplyKind::Data)
         }
-        ReplyForm::Unsupported => Ok(ReplyKind::Unsupported),
-        ReplyForm::Aborted => Ok(ReplyKind::Aborted),
+        ReplyRef::Unsupported => Ok(ReplyKind::Unsupported),
+        ReplyRef::Aborted => Ok(ReplyKind::Aborted),
     }
 }

@@ -1,12 +1,10 @@
 //! Whether two operations or two replies are the same.
-ghost use Rattle.std.specs.Prelude.{◌≡◌, ◌&&◌, ◌==◌, length, bytes_eq};
-ghost use Rattle.tlp_core.specs.Operation.{size_of, width_of};
-ghost use Rattle.tlp_core.specs.Lent.{owned, number_of, IsOperand, HasSizes};
-ghost use Rattle.seq_memory.specs.Outcome.{reply_of, owned_reply};
-ghost use Rattle.history_check.specs.Flaws as flaw;
+ghost use Rattle.std.specs.Prelude.{◌≡◌, bytes_eq};
+ghost use Rattle.history_words.specs.Flaws as flaw;
+ghost use Rattle.trace_store.specs.Kept.{op_in, HasOp};
 
-use seq_memory::{Outcome, ReplyForm};
-use tlp_core::{OpForm, operand_of};
+use crate::kept::{Fields, OpKind, bytes_of, operand_in, operands_in};
+use seq_memory::ReplyRef;
 
 /// The same bytes. Of one DW, as most data, that is no call.
 #[inline(always)]
@@ -15,98 +13,61 @@ fn are_same(left: &[u8], right: &[u8]) -> bool
 {
     match (left, right) {
         ([a, b, c, d], [e, f, g, h]) => a == e && b == f && c == g && d == h,
-        _ => left == right,
+        (left, right) => left == right,
     }
 }
 
-/// The same operands, of one width.
+/// The same operation, as both are kept.
 #[inline(always)]
-fn is_same_operand(left: &[u8], right: &[u8]) -> bool
-    requires left { IsOperand left.now }
-    requires right { IsOperand right.now }
-    ensures { result ≡ ((size_of (width_of (length left.now)) == size_of (width_of (length right.now))) && (number_of left.now == number_of right.now)) }
+pub(crate) fn is_same_op(bytes: &[u8], left: (OpKind, &Fields), right: (OpKind, &Fields)) -> bool
+    requires left { HasOp bytes.now left.0 left.1.now }
+    requires right { HasOp bytes.now right.0 right.1.now }
+    ensures { result ≡ flaw.same_op (op_in bytes.now left.entry.0 left.entry.1.now) (op_in bytes.now right.entry.0 right.entry.1.now) }
 {
-    let (width, number) = operand_of(left);
-    let (other, right) = operand_of(right);
-    width.size() == other.size() && number == right
-}
-
-/// The same operation.
-#[inline(always)]
-pub(crate) fn is_same_op(left: &OpForm<'_>, right: &OpForm<'_>) -> bool
-    requires left { HasSizes left.now }
-    requires right { HasSizes right.now }
-    ensures { result ≡ flaw.same_op (owned left.now) (owned right.now) }
-{
-    match (*left, *right) {
-        (
-            OpForm::Read {
-                address,
-                dw,
-                first,
-                last,
-            },
-            OpForm::Read {
-                address: to,
-                dw: count,
-                first: begin,
-                last: end,
-            },
-        ) => address == to && dw == count && first == begin && last == end,
-        (
-            OpForm::Write {
-                address,
-                first,
-                last,
-                bytes,
-            },
-            OpForm::Write {
-                address: to,
-                first: begin,
-                last: end,
-                bytes: written,
-            },
-        ) => address == to && first == begin && last == end && are_same(bytes, written),
-        (
-            OpForm::FetchAdd { address, operand },
-            OpForm::FetchAdd {
-                address: to,
-                operand: added,
-            },
-        ) => address == to && is_same_operand(operand, added),
-        (
-            OpForm::Swap { address, operand },
-            OpForm::Swap {
-                address: to,
-                operand: put,
-            },
-        ) => address == to && is_same_operand(operand, put),
-        (
-            OpForm::Cas {
-                address,
-                compare,
-                swap,
-            },
-            OpForm::Cas {
-                address: to,
-                compare: expected,
-                swap: put,
-            },
-        ) => address == to && is_same_operand(compare, expected) && is_same_operand(swap, put),
+    let (kind, fields) = left;
+    let (other, others) = right;
+    let is_there = fields.address == others.address;
+    match (kind, other) {
+        (OpKind::Read, OpKind::Read) => {
+            is_there
+                && fields.count == others.count
+                && fields.first == others.first
+                && fields.last == others.last
+        }
+        (OpKind::Write, OpKind::Write) => {
+            is_there
+                && fields.first == others.first
+                && fields.last == others.last
+                && are_same(bytes_of(bytes, fields), bytes_of(bytes, others))
+        }
+        (OpKind::FetchAdd(width), OpKind::FetchAdd(size))
+        | (OpKind::Swap(width), OpKind::Swap(size)) => {
+            is_there
+                && width.size() == size.size()
+                && operand_in(bytes, fields) == operand_in(bytes, others)
+        }
+        (OpKind::Cas(width), OpKind::Cas(size)) => {
+            let (compare, swap) = operands_in(bytes, fields);
+            let (expected, put) = operands_in(bytes, others);
+            is_there && width.size() == size.size() && compare == expected && swap == put
+        }
         _ => false,
     }
 }
 
-/// The reply is that outcome, with the data in the room.
+/// The same reply.
 #[inline(always)]
-pub(crate) fn is_outcome(reply: &ReplyForm<'_>, made: Outcome, room: &[u8]) -> bool
-    ensures { result ≡ flaw.same_reply (owned_reply reply.now) (reply_of made room.now) }
+pub(crate) fn is_same_reply(left: &ReplyRef<'_>, right: &ReplyRef<'_>) -> bool
+    ensures { result ≡ flaw.same_reply left.now right.now }
 {
-    match (*reply, made) {
-        (ReplyForm::Done, Outcome::Done) => true,
-        (ReplyForm::Data(bytes), Outcome::Data) => are_same(bytes, room),
-        (ReplyForm::Unsupported, Outcome::Unsupported) => true,
-        (ReplyForm::Aborted, Outcome::Aborted) => true,
+    match (left, right) {
+        (ReplyRef::Done, ReplyRef::Done) => true,
+        (ReplyRef::Data(bytes), ReplyRef::Data(made)) => are_same(
+            bytes.as_slice(),
+            made.as_slice(),
+        ),
+        (ReplyRef::Unsupported, ReplyRef::Unsupported) => true,
+        (ReplyRef::Aborted, ReplyRef::Aborted) => true,
         _ => false,
     }
 }

@@ -1,36 +1,36 @@
 //! The trace and the history.
 ghost use Rattle.std.specs.Prelude.{◌≡◌, [], ◌∷◌, ◌++◌, map, OnOk, OnErr, IfOk};
 ghost use Rattle.std.specs.List.{All};
-ghost use Rattle.tlp_core.specs.Lent.{owned, HasSizes};
 ghost use Rattle.seq_memory.specs.History.{extent_of};
-ghost use Rattle.seq_memory.specs.Outcome.{owned_reply, reply_of, HasRoom};
-ghost use Rattle.history_check.specs.Claim.{claim_of};
-ghost use Rattle.history_check.specs.Flaws as flaw;
-ghost use Rattle.history_check.specs.Flaws.{at_place};
-ghost use Rattle.history_check.specs.Lookup.{is_told_at};
-ghost use Rattle.trace_store.specs.Heads.{record_in, entry_in, HasRecord, HasEntry};
+ghost use Rattle.history_words.specs.declared.record.RecordOf.TheVariants as records;
+ghost use Rattle.history_words.specs.Claim.{claim_of};
+ghost use Rattle.history_words.specs.Flaws as flaw;
+ghost use Rattle.history_words.specs.Flaws.{at_place};
+ghost use Rattle.history_words.specs.Lookup.{is_told_at};
+ghost use Rattle.trace_store.specs.Kept.{op_in};
+ghost use Rattle.trace_store.specs.Stored.{record_in, entry_in, HasRecord, HasEntry};
 
-use crate::heads::{EntryHead, RecordHead, RecordKind};
-use crate::kept::{EMPTY, form_in, keep_op, keep_reply};
-use history_check::{AsClaim, Head, Record, Trace};
-use seq_memory::{Entry, Extent, Outcome, ReplyData, ReplyForm};
+use crate::kept::{EMPTY, keep_op, keep_reply};
+use crate::stored::{RecordKind, StoredEntry, StoredRecord};
+use history_words::{AsClaim, Record, RecordHeader, RecordRef, Trace};
+use seq_memory::{Entry, EntryRef, Extent, ReplyData, ReplyRef};
 use std::alloc::{AllocError, Global};
 use std::marker::Model;
-use tlp_core::OpForm;
+use tlp_core::OpRef;
 
 /// What requesters submitted to a memory and were answered, in the order of events, and the requests
 /// in the order in which the memory did them.
 #[derive(Drop)]
 pub struct TraceStore {
     extent: Extent,
-    records: Vec<RecordHead>,
-    entries: Vec<EntryHead>,
+    records: Vec<StoredRecord>,
+    entries: Vec<StoredEntry>,
     bytes: Vec<u8>,
 }
 
 impl Model for TraceStore {
-    ghost use Rattle.history_check.specs.Claim.{Claim};
-    ghost use Rattle.trace_store.specs.Heads.{claim_in, HasAll};
+    ghost use Rattle.history_words.specs.Claim.{Claim};
+    ghost use Rattle.trace_store.specs.Stored.{claim_in, HasAll};
 
     ghost Value = { Claim };
 
@@ -43,61 +43,59 @@ impl Model for TraceStore {
 fn owned_records(
     alloc: Global,
     bytes: &[u8],
-    heads: &[RecordHead],
+    all: &[StoredRecord],
 ) -> Result<Vec<Record>, AllocError>
-    requires { All (HasRecord bytes.now) heads.now }
-    ensures { IfOk result (λ v. v.items ≡ map (record_in bytes.now) heads.now) }
+    requires { All (HasRecord bytes.now) all.now }
+    ensures { IfOk result (λ v. v.items ≡ map (record_in bytes.now) all.now) }
 {
-    let mut records = Vec::with_capacity(alloc, heads.len())?;
-    for head in heads {
-        records.push(head.to_owned(bytes))?;
+    let mut records = Vec::with_capacity(alloc, all.len())?;
+    for stored in all {
+        records.push(stored.record(bytes).to_owned())?;
     }
     Ok(records)
 }
 
 /// The entries with bytes of their own.
-fn owned_entries(alloc: Global, bytes: &[u8], heads: &[EntryHead]) -> Result<Vec<Entry>, AllocError>
-    requires { All (HasEntry bytes.now) heads.now }
-    ensures { IfOk result (λ v. v.items ≡ map (entry_in bytes.now) heads.now) }
+fn owned_entries(alloc: Global, bytes: &[u8], all: &[StoredEntry]) -> Result<Vec<Entry>, AllocError>
+    requires { All (HasEntry bytes.now) all.now }
+    ensures { IfOk result (λ v. v.items ≡ map (entry_in bytes.now) all.now) }
 {
-    let mut entries = Vec::with_capacity(alloc, heads.len())?;
-    for head in heads {
-        entries.push(head.to_owned(bytes))?;
+    let mut entries = Vec::with_capacity(alloc, all.len())?;
+    for stored in all {
+        entries.push(stored.entry(bytes).to_owned())?;
     }
     Ok(entries)
 }
 
-/// The record at the place, if there is one, submits the operation.
+/// The record at the place, if there is one, submits the operation of the entry.
 #[inline(always)]
-fn submits_at(bytes: &[u8], records: &[RecordHead], place: usize, op: &OpForm<'_>) -> bool
+fn submits_at(bytes: &[u8], records: &[StoredRecord], place: usize, entry: &StoredEntry) -> bool
     requires records { All (HasRecord bytes.now) records.now }
-    requires sizes { HasSizes op.now }
-    ensures { result ≡ at_place (flaw.submits (owned op.now)) (map (record_in bytes.now) records.now) place }
+    requires entry { HasEntry bytes.now entry.now }
+    ensures { result ≡ at_place (flaw.submits (op_in bytes.now entry.now.kind entry.now.fields)) (map (record_in bytes.now) records.now) place }
 {
     match records.get(place) {
-        Some(head) => head.submits(bytes, op),
+        Some(stored) => stored.submits(bytes, entry),
         None => false,
     }
 }
 
-/// The record at the place, if there is one, is an answer with that outcome, whose data stands in the
-/// room.
+/// The record at the place, if there is one, is an answer with that reply.
 #[inline(always)]
 fn tells_at(
     bytes: &[u8],
-    records: &[RecordHead],
+    records: &[StoredRecord],
     place: Option<usize>,
-    made: Outcome,
-    room: &[u8],
+    made: &ReplyRef<'_>,
 ) -> bool
     requires { All (HasRecord bytes.now) records.now }
-    ensures { result ≡ is_told_at (map (record_in bytes.now) records.now) place (reply_of made room.now) }
+    ensures { result ≡ is_told_at (map (record_in bytes.now) records.now) place made.now }
 {
     let Some(a) = place else {
         return false;
     };
     match records.get(a) {
-        Some(head) => head.tells(bytes, made, room),
+        Some(stored) => stored.tells(bytes, made),
         None => false,
     }
 }
@@ -133,15 +131,14 @@ impl TraceStore {
         requester: u8,
         number: u32,
         n: u64,
-        op: &OpForm<'_>,
+        op: &OpRef<'_>,
     ) -> Result<(), AllocError>
-        requires { HasSizes op.now }
-        ensures ok { OnOk result (self.new ≡ record self.old { records = self.old.records ++ Record.Sub requester number (owned op.now) n ∷ [] }) }
+        ensures ok { OnOk result (self.new ≡ record self.old { records = self.old.records ++ records.Sub requester number op.now n ∷ [] }) }
         ensures err { OnErr result (self.new ≡ self.old) }
     {
         let mut fields = EMPTY;
         let kind = keep_op(&mut self.bytes, op, &mut fields)?;
-        self.records.push(RecordHead {
+        self.records.push(StoredRecord {
             fields,
             n,
             number,
@@ -158,15 +155,14 @@ impl TraceStore {
         requester: u8,
         number: u32,
         n: u64,
-        reply: &ReplyForm<'_>,
+        reply: &ReplyRef<'_>,
     ) -> Result<(), AllocError>
-        requires { HasRoom reply.now }
-        ensures ok { OnOk result (self.new ≡ record self.old { records = self.old.records ++ Record.Ans requester number (owned_reply reply.now) n ∷ [] }) }
+        ensures ok { OnOk result (self.new ≡ record self.old { records = self.old.records ++ records.Ans requester number reply.now n ∷ [] }) }
         ensures err { OnErr result (self.new ≡ self.old) }
     {
         let mut fields = EMPTY;
         let kind = keep_reply(&mut self.bytes, reply, &mut fields)?;
-        self.records.push(RecordHead {
+        self.records.push(StoredRecord {
             fields,
             n,
             number,
@@ -178,14 +174,19 @@ impl TraceStore {
 
     /// Adds an entry to the history.
     #[inline(always)]
-    pub fn acted(&mut self, requester: u8, number: u32, op: &OpForm<'_>) -> Result<(), AllocError>
-        requires { HasSizes op.now }
-        ensures ok { OnOk result (self.new ≡ record self.old { memory = record self.old.memory { entries = self.old.memory.entries ++ (record { requester = requester; number = number; op = owned op.now }) ∷ [] } }) }
+    pub fn acted(&mut self, requester: u8, number: u32, op: &OpRef<'_>) -> Result<(), AllocError>
+        ensures ok { OnOk result (self.new ≡
+            record self.old {
+              memory = record self.old.memory {
+                entries = self.old.memory.entries ++
+                    (record { requester = requester; number = number; op = op.now }) ∷ [];
+              };
+            }) }
         ensures err { OnErr result (self.new ≡ self.old) }
     {
         let mut fields = EMPTY;
         let kind = keep_op(&mut self.bytes, op, &mut fields)?;
-        self.entries.push(EntryHead {
+        self.entries.push(StoredEntry {
             fields,
             number,
             requester,
@@ -224,23 +225,22 @@ impl AsClaim for TraceStore {
     }
 
     #[inline(always)]
-    fn head(&self, place: usize) -> Option<Head> {
-        Some(self.records.get(place)?.head())
+    fn header(&self, place: usize) -> Option<RecordHeader> {
+        Some(self.records.get(place)?.header())
     }
 
     #[inline(always)]
     fn request(&self, index: usize) -> Option<(u8, u32)> {
-        let head = self.entries.get(index)?;
-        Some((head.requester, head.number))
+        let stored = self.entries.get(index)?;
+        Some((stored.requester, stored.number))
     }
 
     #[inline(always)]
     fn submits(&self, place: usize, index: usize) -> bool {
-        let Some(head) = self.entries.get(index) else {
+        let Some(stored) = self.entries.get(index) else {
             return false;
         };
-        let op = form_in(&self.bytes, head.kind, &head.fields);
-        submits_at(&self.bytes, &self.records, place, &op)
+        submits_at(&self.bytes, &self.records, place, stored)
     }
 
     #[inline(always)]
@@ -251,18 +251,20 @@ impl AsClaim for TraceStore {
         bytes: &mut [u8],
         room: &mut ReplyData,
     ) -> bool {
-        let Some(head) = self.entries.get(index) else {
+        let Some(stored) = self.entries.get(index) else {
             return false;
         };
-        let made = head.perform(&self.bytes, self.extent, bytes, room);
-        tells_at(&self.bytes, &self.records, place, made, room.as_slice())
+        let made = stored.perform(&self.bytes, self.extent, bytes, room);
+        tells_at(&self.bytes, &self.records, place, &made)
     }
 
-    fn record(&self, place: usize) -> Option<Record> {
-        Some(self.records.get(place)?.to_owned(&self.bytes))
+    #[inline(always)]
+    fn record(&self, place: usize) -> Option<RecordRef<'_>> {
+        Some(self.records.get(place)?.record(&self.bytes))
     }
 
-    fn entry(&self, index: usize) -> Option<Entry> {
-        Some(self.entries.get(index)?.to_owned(&self.bytes))
+    #[inline(always)]
+    fn entry(&self, index: usize) -> Option<EntryRef<'_>> {
+        Some(self.entries.get(index)?.entry(&self.bytes))
     }
 }

@@ -3,18 +3,18 @@ use Rattle.std.proofs.Common.{◌≡◌, ℕ, Bool, true, false, List, [], ◌�
 use Rattle.std.specs.Prelude.{◌==◌, ◌||◌, cond, codes, bytes_eq}
 use Rattle.std.proofs.lemmas.Bool.{cases_Bool}
 use Rattle.std.proofs.lemmas.Bool.Decides.{nat_tests}
-use Rattle.tlp_core.specs.declared.operation.Op.{Op}
-use Rattle.seq_memory.specs.declared.Entry.{Entry}
-use Rattle.seq_memory.specs.declared.Reply.{Reply}
+use Rattle.tlp_core.specs.Ops.{Op}
+use Rattle.seq_memory.specs.Entries.{Entry}
+use Rattle.seq_memory.specs.Entries.{Reply}
 use Rattle.seq_memory.specs.Limits.{IsBlock, Extent, is_within_limits}
-use Rattle.history_check.specs.declared.Record.{Record}
-use Rattle.history_check.specs.declared.Record.TheVariants as records
+use Rattle.history_words.specs.Records.{Record}
+use Rattle.history_words.specs.declared.record.RecordOf.TheVariants as records
 use Rattle.operation_text.specs.Operations.{address, op_spelled, reply_spelled}
 use Rattle.operation_text.specs.Words.{field, then_with, ended}
 use Rattle.operation_text.specs.Numbers.{numeral}
 use Rattle.trace_text.specs.declared.line.Version.{Version}
-use Rattle.trace_text.specs.Lines.{Line}
-use Rattle.trace_text.specs.Lines as lines
+use Rattle.trace_text.specs.declared.line.Line.{Line}
+use Rattle.trace_text.specs.declared.line.Line.TheVariants as lines
 use Rattle.record_text.specs.Forms as fields
 use Rattle.trace_text.specs.Forms as forms
 use Rattle.trace_text.specs.Forms.{line_of}

@@ -8,22 +8,22 @@ use Rattle.std.proofs.lemmas.Bool.Decides.{nat_tests}
 use Rattle.std.proofs.lemmas.List.{append-nil}
 use Rattle.std.proofs.lemmas.List.Elements.{All-nil, All-cons, All-append, All-head, All-tail, All-drop, All-get_or}
 use Rattle.text_lines.specs.Lines.{lines_of, is_skipped}
-use Rattle.tlp_core.specs.declared.operation.Op.{Op}
-use Rattle.seq_memory.specs.declared.Entry.{Entry}
-use Rattle.seq_memory.specs.declared.Reply.{Reply}
+use Rattle.tlp_core.specs.Ops.{Op}
+use Rattle.seq_memory.specs.Entries.{Entry}
+use Rattle.seq_memory.specs.Entries.{Reply}
 use Rattle.seq_memory.specs.History.{MemoryView, extent_of}
 use Rattle.seq_memory.specs.Limits.{IsSize, IsBase, IsBlock, IsWithinLimits, Extent, is_size, is_base, is_block, is_within_limits}
-use Rattle.history_check.specs.declared.Record.{Record}
-use Rattle.history_check.specs.declared.Record.TheVariants as records
-use Rattle.history_check.specs.Claim.{Claim}
+use Rattle.history_words.specs.Records.{Record}
+use Rattle.history_words.specs.declared.record.RecordOf.TheVariants as records
+use Rattle.history_words.specs.Claim.{Claim}
 use Rattle.operation_text.specs.Words.{words}
 use Rattle.operation_text.specs.Numbers.{numeral}
 use Rattle.operation_text.specs.Operations.{address, op_spelled, reply_spelled}
 use Rattle.operation_text.specs.Texts.{hexadecimal, op_text, reply_text, IsPrinted, IsPrintedChar}
 use Rattle.trace_text.specs.declared.line.Version.{Version}
 use Rattle.trace_text.specs.declared.line.Version.TheVariants as versions
-use Rattle.trace_text.specs.Lines.{Line}
-use Rattle.trace_text.specs.Lines as lines
+use Rattle.trace_text.specs.declared.line.Line.{Line}
+use Rattle.trace_text.specs.declared.line.Line.TheVariants as lines
 use Rattle.record_text.specs.declared.form.Section.{Section}
 use Rattle.record_text.specs.declared.form.Section.TheVariants as sections
 use Rattle.record_text.specs.RecordReaderView.{placed}

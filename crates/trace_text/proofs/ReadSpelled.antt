@@ -2,17 +2,17 @@
 use Rattle.std.proofs.Common.{◌≡◌, ℕ, Bool, true, false, List, [], ◌∷◌, ◌++◌, length, refl, subst, fold, Option, Some, None, inl, Ok}
 use Rattle.std.specs.Prelude.{nat_lt, cond, codes, is_some}
 use Rattle.text_lines.specs.Lines.{bare, said, is_skipped}
-use Rattle.seq_memory.specs.declared.Entry.{Entry}
+use Rattle.seq_memory.specs.Entries.{Entry}
 use Rattle.seq_memory.specs.Limits.{IsBlock, Extent, is_within_limits}
 use Rattle.seq_memory.specs.History.{extent_of}
-use Rattle.history_check.specs.declared.Record.{Record}
-use Rattle.history_check.specs.Claim.{Claim}
+use Rattle.history_words.specs.Records.{Record}
+use Rattle.history_words.specs.Claim.{Claim}
 use Rattle.operation_text.specs.Words.{words}
 use Rattle.operation_text.specs.Operations.{address}
 use Rattle.record_text.specs.declared.fault.ReadFault.{ReadFault}
 use Rattle.trace_text.specs.declared.line.Version.{Version}
-use Rattle.trace_text.specs.Lines.{Line}
-use Rattle.trace_text.specs.Lines as lines
+use Rattle.trace_text.specs.declared.line.Line.{Line}
+use Rattle.trace_text.specs.declared.line.Line.TheVariants as lines
 use Rattle.record_text.specs.declared.form.Section.{Section}
 use Rattle.record_text.specs.declared.form.Section.TheVariants as sections
 use Rattle.record_text.specs.Forms as fields

@@ -3,9 +3,9 @@ use Rattle.std.proofs.Common.{◌≡◌, ◌∙◌, ℕ, Bool, true, false, List
 use Rattle.std.specs.Prelude.{nat_lt, is_some, codes}
 use Rattle.std.proofs.lemmas.List.{append-nil, map-append}
 use Rattle.seq_memory.specs.Limits.{Extent}
-use Rattle.seq_memory.specs.declared.Entry.{Entry}
-use Rattle.history_check.specs.declared.Record.{Record}
-use Rattle.history_check.specs.Claim.{Claim}
+use Rattle.seq_memory.specs.Entries.{Entry}
+use Rattle.history_words.specs.Records.{Record}
+use Rattle.history_words.specs.Claim.{Claim}
 use Rattle.text_lines.specs.Lines.{bare, said, is_skipped}
 use Rattle.operation_text.specs.Words.{words}
 use Rattle.record_text.specs.declared.fault.ReadFault.{ReadFault}
@@ -13,8 +13,8 @@ use Rattle.record_text.specs.declared.form.Section.{Section}
 use Rattle.record_text.specs.declared.form.Section.TheVariants as sections
 use Rattle.record_text.specs.RecordReaderView as reads
 use Rattle.trace_text.specs.declared.line.Version.{Version}
-use Rattle.trace_text.specs.Lines.{Line}
-use Rattle.trace_text.specs.Lines as lines
+use Rattle.trace_text.specs.declared.line.Line.{Line}
+use Rattle.trace_text.specs.declared.line.Line.TheVariants as lines
 use Rattle.trace_text.specs.Forms.{line_of, section_after}
 use Rattle.trace_text.specs.TraceReaderView.{TraceFormView, TraceReaderView, trace_grammar, kept, nothing_read, take_line, claim_in, claim_read}
 use Rattle.trace_text.specs.TraceReaderView.{after_line as read_line, after_long_line as read_long_line}

@@ -2,7 +2,7 @@
 use Rattle.std.proofs.Common.{◌≡◌, ◌∙◌, ◌++◌, ◌+◌, ◌∷◌, ◌<◌, ◌≤◌, List, ℕ, [], zero, suc, ap, sym, refl, drop, map, length, get_or, append_assoc, drop-cons, arith}
 use Rattle.std.proofs.lemmas.List.{append-nil}
 use Rattle.std.specs.Prelude.{codes}
-use Rattle.history_check.specs.Claim.{Claim}
+use Rattle.history_words.specs.Claim.{Claim}
 use Rattle.trace_text.specs.Texts.{lines_text, memory_line, record_line, entry_line, records_text, trace_text}
 
 -- one line more

@@ -4,12 +4,12 @@ use Rattle.std.specs.Prelude.{◌==◌, ◌&&◌, ◌≢◌, if◌then◌else◌
 use Rattle.std.proofs.lemmas.Bool.{cases_Bool, eq-eqb}
 use Rattle.std.proofs.lemmas.Bool.Decides.{nat_tests}
 use Rattle.std.proofs.lemmas.List.Elements.{All-nil, All-cons}
-use Rattle.seq_memory.specs.declared.Entry.{Entry}
+use Rattle.seq_memory.specs.Entries.{Entry}
 use Rattle.seq_memory.specs.Limits.{IsSize, IsBase, IsBlock, IsWithinLimits, Extent, is_size, is_base, is_block, is_within_limits}
 use Rattle.seq_memory.specs.History.{extent_of}
-use Rattle.history_check.specs.declared.Record.{Record}
-use Rattle.history_check.specs.declared.Record.TheVariants as records
-use Rattle.history_check.specs.Claim.{Claim}
+use Rattle.history_words.specs.Records.{Record}
+use Rattle.history_words.specs.declared.record.RecordOf.TheVariants as records
+use Rattle.history_words.specs.Claim.{Claim}
 use Rattle.text_lines.specs.Lines.{lines_of}
 use Rattle.operation_text.specs.Numbers.{numeral}
 use Rattle.record_text.specs.Forms as fields

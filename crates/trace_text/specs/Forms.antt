@@ -1,6 +1,6 @@
 -- The forms of lines.
 use Rattle.std.specs.Prelude.{ℕ, ◌==◌, Bool, true, false, if◌then◌else◌, List, [], ◌∷◌, Option, Some, None, codes, bytes_eq}
-use Rattle.history_check.specs.declared.Record.TheVariants as records
+use Rattle.history_words.specs.declared.record.RecordOf.TheVariants as records
 use Rattle.operation_text.specs.Words.{then_with, field, ended}
 use Rattle.operation_text.specs.Numbers.{numeral}
 use Rattle.operation_text.specs.Operations.{op_spelled, reply_spelled}
@@ -9,8 +9,8 @@ use Rattle.record_text.specs.declared.form.Section.{Section}
 use Rattle.record_text.specs.declared.form.Section.TheVariants as sections
 use Rattle.trace_text.specs.declared.line.Version.{Version}
 use Rattle.trace_text.specs.declared.line.Version.TheVariants as versions
-use Rattle.trace_text.specs.Lines.{Line}
-use Rattle.trace_text.specs.Lines as lines
+use Rattle.trace_text.specs.declared.line.Line.{Line}
+use Rattle.trace_text.specs.declared.line.Line.TheVariants as lines
 
 abbrev pub version_by : ℕ → Option Version
 version_by n = if n == 1 then Some versions.One else (if n == 2 then Some versions.Two else None)

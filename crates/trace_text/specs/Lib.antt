@@ -1,4 +1,3 @@
-pub mod Lines
 pub mod Forms
 pub mod TraceReaderView
 pub mod Texts

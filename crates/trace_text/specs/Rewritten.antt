@@ -1,6 +1,6 @@
 -- What is written of a text line by line, and what is read of it.
 use Rattle.std.specs.Prelude.{ℕ, ◌≡◌, List, nat_lt, if◌then◌else◌, length, fold, Result, Ok, Err}
-use Rattle.history_check.specs.Claim.{Claim}
+use Rattle.history_words.specs.Claim.{Claim}
 use Rattle.text_lines.specs.Lines.{bare, said}
 use Rattle.record_text.specs.declared.fault.ReadFault.{ReadFault}
 use Rattle.trace_text.specs.TraceReaderView.{nothing_read, take_line, at_end}

@@ -2,10 +2,10 @@
 use Rattle.std.specs.Prelude.{ℕ, ◌-◌, ◌^◌, ◌≤◌, ◌<◌, All}
 use Rattle.seq_memory.specs.Limits.{IsWithinLimits}
 use Rattle.seq_memory.specs.History.{extent_of}
-use Rattle.seq_memory.specs.declared.Entry.{Entry}
-use Rattle.history_check.specs.declared.Record.{Record}
-use Rattle.history_check.specs.declared.Record.TheVariants as records
-use Rattle.history_check.specs.Claim.{Claim}
+use Rattle.seq_memory.specs.Entries.{Entry}
+use Rattle.history_words.specs.Records.{Record}
+use Rattle.history_words.specs.declared.record.RecordOf.TheVariants as records
+use Rattle.history_words.specs.Claim.{Claim}
 use Rattle.operation_text.specs.Operations.{IsSpelledOp, IsSpelledReply}
 
 -- request k of requester i: requesters are 1 to 7, and numbers below 2^32 - 1

@@ -1,9 +1,9 @@
 -- What a text of a trace is read as, line by line.
 use Rattle.std.specs.Prelude.{ℕ, ◌≡◌, ◌⊎◌, Bool, true, false, List, [], ◌∷◌, ◌++◌, Result, Ok, Err}
 use Rattle.seq_memory.specs.Limits.{Extent}
-use Rattle.seq_memory.specs.declared.Entry.{Entry}
-use Rattle.history_check.specs.declared.Record.{Record}
-use Rattle.history_check.specs.Claim.{Claim}
+use Rattle.seq_memory.specs.Entries.{Entry}
+use Rattle.history_words.specs.Records.{Record}
+use Rattle.history_words.specs.Claim.{Claim}
 use Rattle.operation_text.specs.Words.{words}
 use Rattle.record_text.specs.declared.fault.ReadFault.{ReadFault}
 use Rattle.record_text.specs.declared.fault.ReadFaultKind.{ReadFaultKind}
@@ -12,8 +12,8 @@ use Rattle.record_text.specs.RecordReaderView.{RecordReaderView}
 use Rattle.record_text.specs.RecordReaderView as reads
 use Rattle.trace_text.specs.declared.line.Version.{Version}
 use Rattle.trace_text.specs.declared.line.Version.TheVariants as versions
-use Rattle.trace_text.specs.Lines.{Line}
-use Rattle.trace_text.specs.Lines as lines
+use Rattle.trace_text.specs.declared.line.Line.{Line}
+use Rattle.trace_text.specs.declared.line.Line.TheVariants as lines
 use Rattle.trace_text.specs.Forms.{line_of, section_after}
 
 -- what is kept of the lines so far

@@ -7,8 +7,8 @@ use Rattle.record_text.specs.RecordReaderView.{RecordReaderView}
 use Rattle.record_text.specs.RecordReaderView as reads
 use Rattle.trace_text.specs.declared.line.Version.{Version}
 use Rattle.trace_text.specs.declared.line.Version.TheVariants as versions
-use Rattle.trace_text.specs.Lines.{Line}
-use Rattle.trace_text.specs.Lines as lines
+use Rattle.trace_text.specs.declared.line.Line.{Line}
+use Rattle.trace_text.specs.declared.line.Line.TheVariants as lines
 use Rattle.trace_text.specs.Forms.{line_of, section_after}
 use Rattle.trace_text.specs.Texts.{memory_line, record_line, entry_line}
 

@@ -2,9 +2,9 @@
 ghost use Rattle.std.specs.Prelude.{◌≡◌};
 ghost use Rattle.trace_text.specs.TraceReaderView as reads;
 ghost use Rattle.trace_text.specs.Forms as forms;
-ghost use Rattle.trace_text.specs.Lines.{owned_line};
 
-use crate::line::{LineForm, Version, read_line};
+use crate::line::{Line, Version, read_line};
+use history_words::RecordRef;
 use operation_text::Expected;
 use record_text::{Form, Section, Taken};
 use seq_memory::{Extent, MIN_SIZE};
@@ -28,16 +28,16 @@ const NOTHING: Expected = Expected::Named("the text's end");
 
 /// The section after a line, if the line is due in the section.
 #[inline(always)]
-pub(crate) fn section_after(section: Section, line: &LineForm<'_>) -> Option<Section>
-    ensures { result ≡ forms.section_after section (owned_line line.now) }
+pub(crate) fn section_after(section: Section, line: &Line<'_>) -> Option<Section>
+    ensures { result ≡ forms.section_after section line.now }
 {
     match (section, line) {
-        (Section::FirstLine, LineForm::FirstLine(_)) => Some(Section::Memory),
-        (Section::Memory, LineForm::Memory(_)) => Some(Section::Records),
-        (Section::Records, LineForm::Sub { .. } | LineForm::Ans { .. }) => Some(Section::Records),
-        (Section::Records, LineForm::History) => Some(Section::History),
-        (Section::History, LineForm::Entry { .. }) => Some(Section::History),
-        (Section::History, LineForm::End) => Some(Section::End),
+        (Section::FirstLine, Line::FirstLine(_)) => Some(Section::Memory),
+        (Section::Memory, Line::Memory(_)) => Some(Section::Records),
+        (Section::Records, Line::Record(_)) => Some(Section::Records),
+        (Section::Records, Line::History) => Some(Section::History),
+        (Section::History, Line::Entry(_)) => Some(Section::History),
+        (Section::History, Line::End) => Some(Section::End),
         _ => None,
     }
 }
@@ -112,43 +112,44 @@ impl TraceForm {
 }
 
 impl Form for TraceForm {
-    ghost use Rattle.trace_text.specs.Lines as lines;
+    ghost use Rattle.trace_text.specs.declared.line.Line.{Line};
     ghost use Rattle.trace_text.specs.TraceReaderView.{trace_grammar};
 
-    ghost Line = { lines.Line };
+    ghost Line = { Line };
 
     ghost grammar = { trace_grammar };
 
     #[inline(always)]
     fn take(&mut self, section: Section, text: &[u8]) -> Result<Taken, AllocError> {
-        let line = match read_line::<TraceForm>(text, self.version, &mut self.room) {
+        let read = read_line::<TraceForm>(text, self.version, &mut self.room);
+        let line = match &read {
             Ok(line) => line,
-            Err(misfit) => return Ok(Taken::Misfit(misfit)),
+            Err(misfit) => return Ok(Taken::Misfit(*misfit)),
         };
-        let Some(after) = section_after(section, &line) else {
+        let Some(after) = section_after(section, line) else {
             return Ok(Taken::NotDue);
         };
         match line {
-            LineForm::FirstLine(version) => self.version = version,
-            LineForm::Memory(extent) => self.store.set_extent(extent),
-            LineForm::Sub {
-                requester,
-                number,
-                n,
-                op,
-            } => self.store.submitted(requester, number, n, &op)?,
-            LineForm::Ans {
-                requester,
-                number,
-                n,
-                reply,
-            } => self.store.answered(requester, number, n, &reply)?,
-            LineForm::Entry {
-                requester,
-                number,
-                op,
-            } => self.store.acted(requester, number, &op)?,
-            LineForm::History | LineForm::End => {}
+            Line::FirstLine(version) => self.version = *version,
+            Line::Memory(extent) => self.store.set_extent(*extent),
+            Line::Record(
+                RecordRef::Sub {
+                    requester,
+                    number,
+                    op,
+                    n,
+                },
+            ) => self.store.submitted(*requester, *number, *n, op)?,
+            Line::Record(
+                RecordRef::Ans {
+                    requester,
+                    number,
+                    reply,
+                    n,
+                },
+            ) => self.store.answered(*requester, *number, *n, reply)?,
+            Line::Entry(entry) => self.store.acted(entry.requester, entry.number, &entry.op)?,
+            Line::History | Line::End => {}
         }
         Ok(Taken::Kept(after))
     }

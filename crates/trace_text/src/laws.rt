@@ -1,7 +1,7 @@
 //! Laws of the texts: what holds of the definitions that the contracts cite.
 ghost use Rattle.std.specs.Prelude.{◌≡◌, Bool, List, ℕ, Ok, Some};
 ghost use Rattle.seq_memory.specs.Limits.{Extent, IsWithinLimits};
-ghost use Rattle.history_check.specs.Claim.{Claim};
+ghost use Rattle.history_words.specs.Claim.{Claim};
 ghost use Rattle.record_text.specs.Forms.{requester, number, memory_of};
 ghost use Rattle.trace_text.specs.TraceReaderView.{read_of};
 ghost use Rattle.trace_text.specs.Tellable.{IsRequest, IsTellable};

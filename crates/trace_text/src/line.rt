@@ -1,14 +1,14 @@
 //! The forms of lines.
-ghost use Rattle.std.specs.Prelude.{◌≡◌, IfOk, option_map};
+ghost use Rattle.std.specs.Prelude.{◌≡◌, option_map};
 ghost use Rattle.std.specs.Result.{result_ok};
 ghost use Rattle.operation_text.specs.Words.{words, words_behind, first_field};
 ghost use Rattle.trace_text.specs.Forms as forms;
-ghost use Rattle.trace_text.specs.Lines.{owned_line, LendsSized};
 
-use operation_text::{Expected, Misfit, alone, cut, number, op_behind_lent, reply_behind_lent};
+use history_words::RecordRef;
+use operation_text::{Expected, Misfit, alone, cut, number, op_behind, reply_behind};
 use record_text::{count, memory, request, requester};
-use seq_memory::{Extent, ReplyForm};
-use tlp_core::{MAX_PAYLOAD, OpForm};
+use seq_memory::{EntryRef, Extent};
+use tlp_core::MAX_PAYLOAD;
 
 /// A line, by its first word.
 const LINE: Expected = Expected::Of(
@@ -41,29 +41,14 @@ impl Version {
     }
 }
 
-/// What a line says: the bytes of its operation or its reply are lent.
-#[derive(Clone, Copy)]
-pub(crate) enum LineForm<'r> {
+/// What a line says: its record or its entry is lent.
+#[derive(Drop)]
+pub(crate) enum Line<'r> {
     FirstLine(Version),
     Memory(Extent),
-    Sub {
-        requester: u8,
-        number: u32,
-        n: u64,
-        op: OpForm<'r>,
-    },
-    Ans {
-        requester: u8,
-        number: u32,
-        n: u64,
-        reply: ReplyForm<'r>,
-    },
+    Record(RecordRef<'r>),
     History,
-    Entry {
-        requester: u8,
-        number: u32,
-        op: OpForm<'r>,
-    },
+    Entry(EntryRef<'r>),
     End,
 }
 
@@ -78,71 +63,66 @@ fn next_version(rest: Option<&[u8]>) -> Result<(Version, Option<&[u8]>), Misfit>
     }
 }
 
-fn first_line<'r>(rest: Option<&[u8]>) -> Result<LineForm<'r>, Misfit>
-    ensures value { option_map owned_line (result_ok result) ≡ forms.first_line_of (words_behind rest.entry) }
-    ensures sized { IfOk result LendsSized }
+fn first_line<'r>(rest: Option<&[u8]>) -> Result<Line<'r>, Misfit>
+    ensures { result_ok result ≡ forms.first_line_of (words_behind rest.entry) }
 {
     let (version, rest) = next_version(rest)?;
-    alone(LineForm::FirstLine(version), rest)
+    alone(Line::FirstLine(version), rest)
 }
 
-fn memory_line<'r>(place: Option<&[u8]>, version: Version) -> Result<LineForm<'r>, Misfit>
-    ensures value { option_map owned_line (result_ok result) ≡ forms.memory_line_of version (words_behind place.entry) }
-    ensures sized { IfOk result LendsSized }
+fn memory_line<'r>(place: Option<&[u8]>, version: Version) -> Result<Line<'r>, Misfit>
+    ensures { result_ok result ≡ forms.memory_line_of version (words_behind place.entry) }
 {
     match memory(place, version.has_block()) {
-        Ok(extent) => Ok(LineForm::Memory(extent)),
+        Ok(extent) => Ok(Line::Memory(extent)),
         Err(misfit) => Err(misfit),
     }
 }
 
 #[inline(always)]
-fn sub<'r, F>(rest: Option<&[u8]>, room: &'r mut [u8; MAX_PAYLOAD]) -> Result<LineForm<'r>, Misfit>
-    ensures value { option_map owned_line (result_ok result) ≡ forms.sub_of (words_behind rest.entry) }
-    ensures sized { IfOk result LendsSized }
+fn sub<'r, F>(rest: Option<&[u8]>, room: &'r mut [u8; MAX_PAYLOAD]) -> Result<Line<'r>, Misfit>
+    ensures { result_ok result ≡ forms.sub_of (words_behind rest.entry) }
 {
     let (requester, rest) = requester(rest)?;
     let (number, rest) = request(rest)?;
     let (n, rest) = count(rest, LENGTH)?;
-    let op = op_behind_lent(rest, room)?;
-    Ok(LineForm::Sub {
+    let op = op_behind(rest, room)?;
+    Ok(Line::Record(RecordRef::Sub {
         requester,
         number,
-        n,
         op,
-    })
+        n,
+    }))
 }
 
 #[inline(always)]
-fn ans<'r, F>(rest: Option<&[u8]>, room: &'r mut [u8; MAX_PAYLOAD]) -> Result<LineForm<'r>, Misfit>
-    ensures value { option_map owned_line (result_ok result) ≡ forms.ans_of (words_behind rest.entry) }
-    ensures sized { IfOk result LendsSized }
+fn ans<'r, F>(rest: Option<&[u8]>, room: &'r mut [u8; MAX_PAYLOAD]) -> Result<Line<'r>, Misfit>
+    ensures { result_ok result ≡ forms.ans_of (words_behind rest.entry) }
 {
     let (requester, rest) = requester(rest)?;
     let (number, rest) = request(rest)?;
     let (n, rest) = count(rest, LENGTH)?;
-    let reply = reply_behind_lent(rest, room)?;
-    Ok(LineForm::Ans {
+    let reply = reply_behind(rest, room)?;
+    Ok(Line::Record(RecordRef::Ans {
         requester,
         number,
-        n,
         reply,
-    })
+        n,
+    }))
 }
 
 #[inline(always)]
-fn ent<'r, F>(rest: Option<&[u8]>, room: &'r mut [u8; MAX_PAYLOAD]) -> Result<LineForm<'r>, Misfit>
-    ensures value { option_map owned_line (result_ok result) ≡ forms.ent_of (words_behind rest.entry) }
-    ensures sized { IfOk result LendsSized }
+fn ent<'r, F>(rest: Option<&[u8]>, room: &'r mut [u8; MAX_PAYLOAD]) -> Result<Line<'r>, Misfit>
+    ensures { result_ok result ≡ forms.ent_of (words_behind rest.entry) }
 {
     let (requester, rest) = requester(rest)?;
     let (number, rest) = request(rest)?;
-    let op = op_behind_lent(rest, room)?;
-    Ok(LineForm::Entry {
+    let op = op_behind(rest, room)?;
+    Ok(Line::Entry(EntryRef {
         requester,
         number,
         op,
-    })
+    }))
 }
 
 /// The line of that kind that the rest of it spells.
@@ -152,9 +132,8 @@ fn line_by<'r>(
     version: Version,
     text: &[u8],
     room: &'r mut [u8; MAX_PAYLOAD],
-) -> Result<LineForm<'r>, Misfit>
-    ensures value { option_map owned_line (result_ok result) ≡ forms.line_by version kind.now (words_behind rest.entry) }
-    ensures sized { IfOk result LendsSized }
+) -> Result<Line<'r>, Misfit>
+    ensures { result_ok result ≡ forms.line_by version kind.now (words_behind rest.entry) }
 {
     if kind == b"sub".as_slice() {
         sub::<()>(rest, room)
@@ -165,9 +144,9 @@ fn line_by<'r>(
     } else if kind == b"memory".as_slice() {
         memory_line(rest, version)
     } else if kind == b"history".as_slice() {
-        alone(LineForm::History, rest)
+        alone(Line::History, rest)
     } else if kind == b"end".as_slice() {
-        alone(LineForm::End, rest)
+        alone(Line::End, rest)
     } else if kind == b"pciex-trace".as_slice() {
         first_line(rest)
     } else {
@@ -181,9 +160,8 @@ fn any_line<'r>(
     text: &[u8],
     version: Version,
     room: &'r mut [u8; MAX_PAYLOAD],
-) -> Result<LineForm<'r>, Misfit>
-    ensures value { option_map owned_line (result_ok result) ≡ forms.line_of version (words text.now) }
-    ensures sized { IfOk result LendsSized }
+) -> Result<Line<'r>, Misfit>
+    ensures { result_ok result ≡ forms.line_of version (words text.now) }
 {
     let (kind, rest) = cut(text);
     line_by(kind, rest, version, text, room)
@@ -196,9 +174,8 @@ pub(crate) fn read_line<'r, F>(
     text: &[u8],
     version: Version,
     room: &'r mut [u8; MAX_PAYLOAD],
-) -> Result<LineForm<'r>, Misfit>
-    ensures value { option_map owned_line (result_ok result) ≡ forms.line_of version (words text.now) }
-    ensures sized { IfOk result LendsSized }
+) -> Result<Line<'r>, Misfit>
+    ensures { result_ok result ≡ forms.line_of version (words text.now) }
 {
     match text {
         [b's', b'u', b'b', b' ', rest @ ..] => sub::<F>(Some(rest), room),

@@ -1,11 +1,11 @@
 //! What is kept of the text of a trace where its records and entries are to have bytes of their own, as those of a log.
 ghost use Rattle.std.specs.Prelude.{◌≡◌};
-ghost use Rattle.history_check.specs.Claim.{claim_of};
+ghost use Rattle.history_words.specs.Claim.{claim_of};
 ghost use Rattle.trace_text.specs.TraceReaderView as reads;
 
 use crate::form::{begins_with, expected, least_extent, section_after};
-use crate::line::{LineForm, Version, read_line};
-use history_check::{Record, Trace};
+use crate::line::{Line, Version, read_line};
+use history_words::{Record, Trace};
 use operation_text::Expected;
 use record_text::{Form, Section, Taken};
 use seq_memory::{Entry, Extent};
@@ -59,10 +59,10 @@ impl OwnedForm {
 }
 
 impl Form for OwnedForm {
-    ghost use Rattle.trace_text.specs.Lines as lines;
+    ghost use Rattle.trace_text.specs.declared.line.Line.{Line};
     ghost use Rattle.trace_text.specs.TraceReaderView.{trace_grammar};
 
-    ghost Line = { lines.Line };
+    ghost Line = { Line };
 
     ghost grammar = { trace_grammar };
 
@@ -75,40 +75,11 @@ impl Form for OwnedForm {
             return Ok(Taken::NotDue);
         };
         match line {
-            LineForm::FirstLine(version) => self.version = version,
-            LineForm::Memory(extent) => self.extent = extent,
-            LineForm::Sub {
-                requester,
-                number,
-                n,
-                op,
-            } => self.records.push(Record::Sub {
-                requester,
-                number,
-                op: op.to_owned(),
-                n,
-            })?,
-            LineForm::Ans {
-                requester,
-                number,
-                n,
-                reply,
-            } => self.records.push(Record::Ans {
-                requester,
-                number,
-                reply: reply.to_owned(),
-                n,
-            })?,
-            LineForm::Entry {
-                requester,
-                number,
-                op,
-            } => self.entries.push(Entry {
-                requester,
-                number,
-                op: op.to_owned(),
-            })?,
-            LineForm::History | LineForm::End => {}
+            Line::FirstLine(version) => self.version = version,
+            Line::Memory(extent) => self.extent = extent,
+            Line::Record(record) => self.records.push(record.to_owned())?,
+            Line::Entry(entry) => self.entries.push(entry.to_owned())?,
+            Line::History | Line::End => {}
         }
         Ok(Taken::Kept(after))
     }

@@ -1,11 +1,11 @@
 //! Reading the whole text of a trace.
 ghost use Rattle.std.specs.Prelude.{◌≡◌, IfOk, IfErr, Ok};
-ghost use Rattle.history_check.specs.Claim.{claim_of};
+ghost use Rattle.history_words.specs.Claim.{claim_of};
 ghost use Rattle.trace_text.specs.TraceReaderView.{read_of, Tells};
 
 use crate::form::TraceForm;
 use crate::owned::OwnedForm;
-use history_check::Trace;
+use history_words::Trace;
 use record_text::{Misread, ReadFault, read_records};
 use seq_memory::Entry;
 use std::alloc::Global;

@@ -1,10 +1,9 @@
 //! Writing a trace in the second version while it is read.
 ghost use Rattle.std.specs.Prelude.{◌≡◌, ◌++◌, OnOk, OnErr, IfOk, IfErr, Ok, Err};
-ghost use Rattle.trace_text.specs.Lines.{owned_line};
 ghost use Rattle.trace_text.specs.TraceRewriterView as writes;
 
 use crate::form::{begins_with, expected, section_after};
-use crate::line::{LineForm, Version, read_line};
+use crate::line::{Line, Version, read_line};
 use crate::writing::put_line;
 use arrayvec::ArrayString;
 use operation_text::Expected;
@@ -33,35 +32,36 @@ impl Model for RewriteForm {
 
 /// The version of the text after a line.
 #[inline(always)]
-fn version_after(version: Version, line: &LineForm<'_>) -> Version
-    ensures { result ≡ writes.version_after version (owned_line line.now) }
+fn version_after(version: Version, line: &Line<'_>) -> Version
+    ensures { result ≡ writes.version_after version line.now }
 {
     match line {
-        LineForm::FirstLine(version) => *version,
+        Line::FirstLine(version) => *version,
         _ => version,
     }
 }
 
 impl Form for RewriteForm {
-    ghost use Rattle.trace_text.specs.Lines as lines;
+    ghost use Rattle.trace_text.specs.declared.line.Line.{Line};
     ghost use Rattle.trace_text.specs.TraceRewriterView.{rewrite_grammar};
 
-    ghost Line = { lines.Line };
+    ghost Line = { Line };
 
     ghost grammar = { rewrite_grammar };
 
     fn take(&mut self, section: Section, text: &[u8]) -> Result<Taken, AllocError> {
-        let line = match read_line::<RewriteForm>(text, self.version, &mut self.room) {
+        let read = read_line::<RewriteForm>(text, self.version, &mut self.room);
+        let line = match &read {
             Ok(line) => line,
-            Err(misfit) => return Ok(Taken::Misfit(misfit)),
+            Err(misfit) => return Ok(Taken::Misfit(*misfit)),
         };
-        let Some(after) = section_after(section, &line) else {
+        let Some(after) = section_after(section, line) else {
             return Ok(Taken::NotDue);
         };
         self.line.clear();
-        put_line(&line, &mut self.line);
+        put_line(line, &mut self.line);
         self.text.extend_from_slice(self.line.as_bytes())?;
-        self.version = version_after(self.version, &line);
+        self.version = version_after(self.version, line);
         Ok(Taken::Kept(after))
     }
 

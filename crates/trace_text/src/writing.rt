@@ -2,18 +2,15 @@
 ghost use Rattle.std.specs.Prelude.{◌≡◌, ◌≤◌, ◌++◌, ◌∷◌, [], length, map, string_bytes, IfOk, OnOk};
 ghost use Rattle.std.specs.Fmt.{decimal};
 ghost use Rattle.arrayvec.specs.ArrayString.{array_string_len};
-ghost use Rattle.history_check.specs.Claim.{claim_of};
-ghost use Rattle.trace_text.specs.Lines.{owned_line, LendsSized};
+ghost use Rattle.history_words.specs.Claim.{claim_of};
 ghost use Rattle.trace_text.specs.TraceRewriterView.{added};
 ghost use Rattle.trace_text.specs.Texts.{memory_line, record_line, entry_line, lines_text, records_text, trace_text};
 
-use crate::line::LineForm;
+use crate::line::Line;
 use arrayvec::ArrayString;
-use history_check::{Record, Trace};
-use operation_text::{
-    write_decimal, write_hexadecimal, write_op, write_op_lent, write_reply, write_reply_lent,
-};
-use seq_memory::{Entry, Extent};
+use history_words::{Record, RecordRef, Trace};
+use operation_text::{write_decimal, write_hexadecimal, write_op, write_reply};
+use seq_memory::{Entry, EntryRef, Extent};
 use std::alloc::{AllocError, Global};
 
 /// Writes the kind of a record, its requester and its request's number.
@@ -55,12 +52,13 @@ fn put_memory(extent: Extent, line: &mut ArrayString<512>)
 }
 
 /// Writes the line of a record.
-fn put_record(seen: &Record, line: &mut ArrayString<512>)
+#[inline(always)]
+fn put_record(seen: &RecordRef<'_>, line: &mut ArrayString<512>)
     requires { array_string_len line.old ≡ 0 }
     ensures { line.new.bytes ≡ record_line seen.now ++ 10 ∷ [] }
 {
     match seen {
-        Record::Sub {
+        RecordRef::Sub {
             requester,
             number,
             op,
@@ -70,7 +68,7 @@ fn put_record(seen: &Record, line: &mut ArrayString<512>)
             put_count(*n, line);
             write_op(op, line);
         }
-        Record::Ans {
+        RecordRef::Ans {
             requester,
             number,
             reply,
@@ -85,7 +83,8 @@ fn put_record(seen: &Record, line: &mut ArrayString<512>)
 }
 
 /// Writes the line of an entry.
-fn put_entry(entry: &Entry, line: &mut ArrayString<512>)
+#[inline(always)]
+fn put_entry(entry: &EntryRef<'_>, line: &mut ArrayString<512>)
     requires { array_string_len line.old ≡ 0 }
     ensures { line.new.bytes ≡ entry_line entry.now ++ 10 ∷ [] }
 {
@@ -96,48 +95,17 @@ fn put_entry(entry: &Entry, line: &mut ArrayString<512>)
 }
 
 /// Writes a line in the second version.
-pub(crate) fn put_line(said: &LineForm<'_>, line: &mut ArrayString<512>)
-    requires empty { array_string_len line.old ≡ 0 }
-    requires sized { LendsSized said.now }
-    ensures { line.new.bytes ≡ added (owned_line said.now) }
+pub(crate) fn put_line(said: &Line<'_>, line: &mut ArrayString<512>)
+    requires { array_string_len line.old ≡ 0 }
+    ensures { line.new.bytes ≡ added said.now }
 {
-    match *said {
-        LineForm::FirstLine(_) => line.push_str("pciex-trace 2\n"),
-        LineForm::Memory(extent) => put_memory(extent, line),
-        LineForm::Sub {
-            requester,
-            number,
-            n,
-            op,
-        } => {
-            put_request("sub ", requester, number, line);
-            put_count(n, line);
-            write_op_lent(&op, line);
-            line.push_str("\n");
-        }
-        LineForm::Ans {
-            requester,
-            number,
-            n,
-            reply,
-        } => {
-            put_request("ans ", requester, number, line);
-            put_count(n, line);
-            write_reply_lent(&reply, line);
-            line.push_str("\n");
-        }
-        LineForm::History => line.push_str("history\n"),
-        LineForm::Entry {
-            requester,
-            number,
-            op,
-        } => {
-            put_request("ent ", requester, number, line);
-            line.push_str(" ");
-            write_op_lent(&op, line);
-            line.push_str("\n");
-        }
-        LineForm::End => line.push_str("end\n"),
+    match said {
+        Line::FirstLine(_) => line.push_str("pciex-trace 2\n"),
+        Line::Memory(extent) => put_memory(*extent, line),
+        Line::Record(record) => put_record(record, line),
+        Line::History => line.push_str("history\n"),
+        Line::Entry(entry) => put_entry(entry, line),
+        Line::End => line.push_str("end\n"),
     }
 }
 
@@ -148,7 +116,7 @@ fn add_records(records: &[Record], text: &mut String) -> Result<(), AllocError>
     let mut line = ArrayString::new();
     for record in records {
         line.clear();
-        put_record(record, &mut line);
+        put_record(&record.lend(), &mut line);
         text.push_str(line.as_str())?;
     }
     Ok(())
@@ -161,7 +129,7 @@ fn add_entries(history: &[Entry], text: &mut String) -> Result<(), AllocError>
     let mut line = ArrayString::new();
     for entry in history {
         line.clear();
-        put_entry(entry, &mut line);
+        put_entry(&entry.lend(), &mut line);
         text.push_str(line.as_str())?;
     }
     Ok(())

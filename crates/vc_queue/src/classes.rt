@@ -200,7 +200,8 @@ impl Classes {
 
     /// The cut before a place that no posted packet stands before: none behind a posted packet, and past the end.
     fn cut_free(&self, place: usize) -> Option<Cut>
-        ensures { (all : List _) → IsSplit all self.now → MatchOption result (is_takeable (map item_of all) place ≡ false) (λ cut. IsCut (take place all) cut × (cut.posted ≡ 0)) }
+        ensures { (all : List _) → IsSplit all self.now →
+            MatchOption result (is_takeable (map item_of all) place ≡ false) (λ cut. IsCut (take place all) cut × (cut.posted ≡ 0)) }
     {
         let mut cut = Cut::start();
         for _before in 0..place {
@@ -217,7 +218,8 @@ impl Classes {
 
     /// Whether the packet behind a cut, of this class, may pass the packets before it in its own queue.
     fn passes_its_own(&self, class: Class, cut: Cut) -> bool
-        ensures { (all : List _) (place : ℕ) → IsSplit all self.now → IsCut (take place all) cut → cut.posted ≡ 0 → first_class (drop place all) ≡ Some class → result ≡ is_takeable (map item_of all) place }
+        ensures { (all : List _) (place : ℕ) → IsSplit all self.now → IsCut (take place all) cut → cut.posted ≡ 0 →
+            first_class (drop place all) ≡ Some class → result ≡ is_takeable (map item_of all) place }
     {
         if is_same(class, Class::Completion) {
             return passes_before(&self.completion, cut.completion);
@@ -227,7 +229,9 @@ impl Classes {
 
     /// The packet at a place of all that may pass every earlier one; none otherwise.
     pub(crate) fn peek(&self, place: usize) -> Option<&Arrived>
-        ensures { (all : List _) → IsSplit all self.now → MatchOption result (is_takeable (map item_of all) place ≡ false) (λ x. (is_takeable (map item_of all) place ≡ true) × (slice_get all place ≡ Some x.now)) }
+        ensures { (all : List _) → IsSplit all self.now →
+            MatchOption result (is_takeable (map item_of all) place ≡ false) (λ x. (is_takeable (map item_of all) place ≡ true) ×
+            (slice_get all place ≡ Some x.now)) }
     {
         let Some(cut) = self.cut_free(place) else {
             return None;
@@ -272,7 +276,8 @@ impl Classes {
     /// Puts a packet behind the others, with the next arrival number. Fails only where its queue can't grow.
     fn add(&mut self, tlp: Tlp, mark: u32) -> Result<(), AllocError>
         requires { self.old.next + 1 < 2 ^ 64 }
-        ensures ok { OnOk result ((all : List _) → IsSplit all self.old → IsSplit (all ++ record { arrival = self.old.next; tlp = tlp; mark = mark } ∷ []) self.new) }
+        ensures ok { OnOk result ((all : List _) → IsSplit all self.old →
+            IsSplit (all ++ record { arrival = self.old.next; tlp = tlp; mark = mark } ∷ []) self.new) }
         ensures err { OnErr result ((all : List _) → IsSplit all self.old → IsSplit all self.new) }
     {
         let arrival = self.next;

@@ -29,7 +29,8 @@ pub fn everything_passes_a_non_posted_request()
 
 /// A request passes every completion, so it waits for posted requests alone.
 pub fn requests_pass_completions()
-    ensures pair { (later earlier : TlpView) → class_of later.kind ≢ classes.Completion → class_of earlier.kind ≡ classes.Completion → may_pass later earlier ≡ true }
+    ensures pair { (later earlier : TlpView) → class_of later.kind ≢ classes.Completion → class_of earlier.kind ≡ classes.Completion →
+        may_pass later earlier ≡ true }
     ensures queue { (q : List Item) (place : ℕ) (item : Item) → slice_get q place ≡ Some item → class_of item.0.kind ≢ classes.Completion →
         ((before : ℕ) (earlier : Item) → before < place → slice_get q before ≡ Some earlier → class_of earlier.0.kind ≢ classes.Posted) →
         is_takeable q place ≡ true }

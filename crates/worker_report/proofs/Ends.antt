@@ -1,9 +1,9 @@
 -- Why a run ends.
 use Rattle.std.proofs.Common.{◌≡◌, ◌<◌, ◌∙◌, ℕ, List, [], ◌∷◌, ◌++◌, length, refl, sym, subst, arith}
 use Rattle.std.specs.Prelude.{Option, None}
-use Rattle.history_check.specs.declared.Record.{Record}
-use Rattle.history_check.specs.TraceView.{TraceView}
-use Rattle.history_check.specs.declared.flaws.FlawKind.{FlawKind}
+use Rattle.history_words.specs.Records.{Record}
+use Rattle.history_words.specs.TraceView.{TraceView}
+use Rattle.history_words.specs.declared.flaws.FlawKind.{FlawKind}
 use Rattle.fabric_laws.specs.Fabric.{Fabric}
 use Rattle.fabric_laws.specs.Lists.{Each}
 use Rattle.hall_core.specs.Opens.{Leaves}

@@ -1,11 +1,11 @@
 -- The records of one run have no flaw.
 use Rattle.std.proofs.Common.{◌≡◌, ℕ, List, sym, ◌∙◌, subst, refl}
 use Rattle.std.specs.Prelude.{Some, slice_get}
-use Rattle.history_check.specs.declared.Record.{Record}
-use Rattle.history_check.specs.TraceView.{TraceView}
-use Rattle.history_check.specs.Claim.{claim_of}
-use Rattle.history_check.specs.Lookup.{requester_of}
-use Rattle.history_check.specs.Trace.{Explains}
+use Rattle.history_words.specs.Records.{Record}
+use Rattle.history_words.specs.TraceView.{TraceView}
+use Rattle.history_words.specs.Claim.{claim_of}
+use Rattle.history_words.specs.Lookup.{requester_of}
+use Rattle.history_words.specs.Trace.{Explains}
 use Rattle.fabric_laws.specs.Whole.{Whole, memory_of}
 use Rattle.fabric_laws.specs.Sound.{Sound}
 use Rattle.fabric_laws.specs.Fabric.{Fabric, whole_of}

@@ -1,7 +1,7 @@
 -- Why a run ends without a report: numbers, names and causes.
 use Rattle.std.specs.Prelude.{◌≡◌, ◌≢◌, ◌⊎◌, ℕ, ◌<◌, List, codes, length, Option, Some}
-use Rattle.history_check.specs.TraceView.{TraceView}
-use Rattle.history_check.specs.declared.flaws.FlawKind.{FlawKind}
+use Rattle.history_words.specs.TraceView.{TraceView}
+use Rattle.history_words.specs.declared.flaws.FlawKind.{FlawKind}
 use Rattle.fabric_core.specs.declared.config.Config.{Config}
 use Rattle.fabric_core.specs.Config.{IsConfig}
 use Rattle.worker_report.specs.declared.halt.RunHalt.{RunHalt}

@@ -1,8 +1,8 @@
 -- When the records of requesters are those of one run of a fabric.
 use Rattle.std.specs.Prelude.{◌≡◌, ◌<◌, ℕ, suc, ◌+◌, List, [], ◌∷◌, length}
 use Rattle.std.specs.List.{AllByRecursion as Each}
-use Rattle.history_check.specs.declared.Record.{Record}
-use Rattle.history_check.specs.Lookup.{requester_of}
+use Rattle.history_words.specs.Records.{Record}
+use Rattle.history_words.specs.Lookup.{requester_of}
 use Rattle.fabric_laws.specs.Fabric.{Fabric, whole_of}
 use Rattle.fabric_laws.specs.Trace.{Belongs}
 use Rattle.fabric_core.specs.declared.config.Config.{Config}

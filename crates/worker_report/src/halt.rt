@@ -4,7 +4,7 @@ ghost use Rattle.worker_report.specs.Halts.{halt_number, halt_name, halt_of};
 
 use fabric_core::Refusal;
 use hall_core::StillHeld;
-use history_check::Flaw;
+use history_words::Flaw;
 use worker_turns::Stop;
 
 /// Why a run ended without a report. The first halt that a worker sets is the one that is answered.

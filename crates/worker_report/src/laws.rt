@@ -1,10 +1,10 @@
 //! What holds of every run whose hall all seats close.
 ghost use Rattle.std.specs.Prelude.{◌≡◌, ℕ, List, ◌++◌, length, slice_get, Some, None};
-ghost use Rattle.history_check.specs.declared.Record.{Record};
-ghost use Rattle.history_check.specs.TraceView.{TraceView};
-ghost use Rattle.history_check.specs.Claim.{claim_of};
-ghost use Rattle.history_check.specs.Flaws.{first_flaw};
-ghost use Rattle.history_check.specs.Trace.{Explains};
+ghost use Rattle.history_words.specs.Records.{Record};
+ghost use Rattle.history_words.specs.TraceView.{TraceView};
+ghost use Rattle.history_words.specs.Claim.{claim_of};
+ghost use Rattle.history_words.specs.Flaws.{first_flaw};
+ghost use Rattle.history_words.specs.Trace.{Explains};
 ghost use Rattle.fabric_laws.specs.Fabric.{Fabric};
 ghost use Rattle.fabric_core.specs.declared.config.Config.{Config};
 ghost use Rattle.hall_laws.specs.Rule.{HasConfig};

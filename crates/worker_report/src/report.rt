@@ -1,8 +1,8 @@
 //! What a run did, and the check of it.
 ghost use Rattle.std.specs.Prelude.{IfOk, IfErr, OnOk, ◌≡◌};
-ghost use Rattle.history_check.specs.Flaws.{first_flaw};
-ghost use Rattle.history_check.specs.Claim.{claim_of};
-ghost use Rattle.history_check.specs.Trace.{Explains};
+ghost use Rattle.history_words.specs.Flaws.{first_flaw};
+ghost use Rattle.history_words.specs.Claim.{claim_of};
+ghost use Rattle.history_words.specs.Trace.{Explains};
 ghost use Rattle.hall_laws.specs.Rule.{HasConfig};
 ghost use Rattle.worker_report.specs.Halts.{IsOfMemory, IsFlaw, IsEndBy};
 ghost use Rattle.worker_report.specs.OneRun.{IsOfOneRun, IsGathered};
@@ -11,7 +11,8 @@ use crate::halt::RunHalt;
 use crate::laws::{the_records_of_one_run_are_explained, what_seats_recorded_is_one_run};
 use fabric_core::Fabric;
 use hall_core::{Hall, ReqSeat, WorkSeat};
-use history_check::{FlawKind, Record, Trace, check};
+use history_check::check;
+use history_words::{FlawKind, Record, Trace};
 use std::alloc::Global;
 
 /// What the threads of a run leave: all seats of its hall, and what the requesters recorded.

@@ -1,11 +1,11 @@
 -- What a requester's records say, step by step.
 use Rattle.std.specs.Prelude.{◌≡◌, ◌≢◌, ℕ, suc, ◌<◌, ◌≤◌, ◌⊎◌, ◌==◌, Bool, true, false, List, [], ◌∷◌, ◌++◌, length, take, slice_get, Option, Some, None}
 use Rattle.std.specs.List.{list_any, AllByRecursion as Each}
-use Rattle.tlp_core.specs.declared.operation.Op.{Op}
+use Rattle.tlp_core.specs.Ops.{Op}
 use Rattle.tlp_core.specs.Operation.{is_posted}
-use Rattle.history_check.specs.declared.Record.{Record}
-use Rattle.history_check.specs.Lookup.{requester_of}
-use Rattle.history_check.specs.Trace.{submissions, answers_to}
+use Rattle.history_words.specs.Records.{Record}
+use Rattle.history_words.specs.Lookup.{requester_of}
+use Rattle.history_words.specs.Trace.{submissions, answers_to}
 use Rattle.recorder.specs.declared.laws.Pushed.{Pushed}
 use Rattle.hall_core.specs.Views.{SeatView, HallView, IsSeatOf}
 use Rattle.worker_requester.specs.declared.requester.Requester.{Requester}

@@ -5,7 +5,7 @@ ghost use Rattle.worker_requester.specs.Following.{IsUnusedSeat, Follows, IsSame
 
 use crate::refused::stop_of;
 use hall_core::{Hall, HallRefusal, ReqSeat};
-use history_check::Record;
+use history_words::Record;
 use recorder::{Pusher, Recorder};
 use std::thread;
 use tlp_core::{Op, copy_of};
@@ -177,7 +177,8 @@ impl<'a> Requester<'a> {
         ensures same { IsSame self.old self.new }
         ensures limit { turns.new.limit ≡ turns.old.limit }
         ensures turn { IfOk result (λ round. ¬ (round ≡ Round.Ended) → (turns.old.done < turns.new.done) × (turns.new.done ≤ turns.new.limit)) }
-        ensures ended { IfOk result (λ round. round ≡ Round.Ended → Finishes self.new.script.now self.new.pusher.pushed × (self.new.pusher.pushed.records ≡ self.new.seat.knows.records)) }
+        ensures ended { IfOk result (λ round. round ≡ Round.Ended →
+            Finishes self.new.script.now self.new.pusher.pushed × (self.new.pusher.pushed.records ≡ self.new.seat.knows.records)) }
     {
         if let Some(recorded) = self.waiting.take() {
             return self.tell(recorded, turns);

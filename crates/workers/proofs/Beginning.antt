@@ -11,8 +11,8 @@ use Rattle.hall_core.specs.Views.{SeatView, HallView, AreNewSeats}
 use Rattle.worker_report.specs.declared.halt.RunHalt.{RunHalt}
 use Rattle.worker_report.specs.declared.plan.RunPlan.{RunPlan}
 use Rattle.worker_report.specs.declared.report.Report.{Report}
-use Rattle.tlp_core.specs.declared.operation.Op.{Op}
-use Rattle.history_check.specs.declared.Record.{Record}
+use Rattle.tlp_core.specs.Ops.{Op}
+use Rattle.history_words.specs.Records.{Record}
 use Rattle.worker_report.specs.Halts.{IsPlan, IsOfMemory, IsEndBy, IsCause, halt_of}
 use Rattle.worker_report.specs.OneRun.{IsOfOneRun, IsRunOf}
 use Rattle.worker_turns.specs.declared.stop.Stop.{Stop}

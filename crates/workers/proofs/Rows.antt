@@ -6,11 +6,11 @@ use Rattle.std.specs.Prelude.{remove, Option, Some, None, IfNone, slice_get}
 use Rattle.std.specs.declared.thread.PromisedHandle.{PromisedHandle}
 use Rattle.std.specs.List.{AllByRecursion as Each, list_any, cons_option}
 use Rattle.atomic_table.specs.Seated.{TableId}
-use Rattle.tlp_core.specs.declared.operation.Op.{Op}
-use Rattle.history_check.specs.declared.Record.{Record}
-use Rattle.history_check.specs.declared.Record.TheVariants as records
-use Rattle.history_check.specs.Lookup.{requester_of}
-use Rattle.history_check.specs.Trace.{submission, submissions, answers_to}
+use Rattle.tlp_core.specs.Ops.{Op}
+use Rattle.history_words.specs.Records.{Record}
+use Rattle.history_words.specs.declared.record.RecordOf.TheVariants as records
+use Rattle.history_words.specs.Lookup.{requester_of}
+use Rattle.history_words.specs.Trace.{submission, submissions, answers_to}
 use Rattle.hall_laws.specs.Rule.{newcomer}
 use Rattle.hall_core.specs.Views.{SeatView, HallView, IsSeatOf, AreSeatsOf}
 use Rattle.recorder.specs.declared.laws.Pushed.{Pushed}

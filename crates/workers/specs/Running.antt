@@ -5,9 +5,9 @@ use Rattle.std.specs.declared.thread.PromisedHandle.{PromisedHandle}
 use Rattle.std.specs.declared.vec.Vec.{Vec}
 use Rattle.std.specs.Global.{Global}
 use Rattle.atomic_table.specs.Seated.{TableId}
-use Rattle.tlp_core.specs.declared.operation.Op.{Op}
-use Rattle.history_check.specs.declared.Record.{Record}
-use Rattle.history_check.specs.Trace.{submissions}
+use Rattle.tlp_core.specs.Ops.{Op}
+use Rattle.history_words.specs.Records.{Record}
+use Rattle.history_words.specs.Trace.{submissions}
 use Rattle.recorder.specs.declared.laws.Pushed.{Pushed}
 use Rattle.hall_core.specs.Views.{SeatView, HallView, IsSeatOf}
 use Rattle.worker_requester.specs.declared.requester.Ended.{Ended}

@@ -1,7 +1,7 @@
 //! A run from its plan to its report.
 ghost use Rattle.std.specs.Prelude.{◌≡◌, ◌+◌, ◌<◌, [], IfOk, IfErr, length, map};
-ghost use Rattle.history_check.specs.Claim.{claim_of};
-ghost use Rattle.history_check.specs.Trace.{Explains};
+ghost use Rattle.history_words.specs.Claim.{claim_of};
+ghost use Rattle.history_words.specs.Trace.{Explains};
 ghost use Rattle.hall_laws.specs.Rule.{HasConfig};
 ghost use Rattle.worker_report.specs.Halts.{IsPlan, IsOfMemory, IsCause};
 ghost use Rattle.worker_report.specs.OneRun.{IsGathered, IsRunOf};

@@ -13,7 +13,7 @@ use crate::context::{Crew, RunContext};
 use crate::jobs::{Job, Worker};
 use crate::tasks::{Task, work};
 use hall_core::{Hall, ReqSeat, WorkSeat};
-use history_check::Record;
+use history_words::Record;
 use recorder::{Pusher, Recorder, Taker};
 use std::alloc::{AllocError, Global};
 use std::sync::Wait;
@@ -70,7 +70,8 @@ fn start<'s, E, G: Gate + Sync>(
 ) -> Result<PromisedHandle<Ended, Keeps<'s>>, AllocError>
     requires seat { IsUnusedSeat keeps.hall.now keeps.requester seat }
     requires pusher { (pusher.queue ≡ keeps.recorder.now) × (pusher.pushed.requester ≡ keeps.requester) × (pusher.pushed.records ≡ []) }
-    ensures { IfOk result (λ h. (h.promise.hall.now ≡ keeps.entry.hall.now) × (h.promise.recorder.now ≡ keeps.entry.recorder.now) × (h.promise.script.now ≡ keeps.entry.script.now) × (h.promise.requester ≡ keeps.entry.requester)) }
+    ensures { IfOk result (λ h. (h.promise.hall.now ≡ keeps.entry.hall.now) × (h.promise.recorder.now ≡ keeps.entry.recorder.now) ×
+        (h.promise.script.now ≡ keeps.entry.script.now) × (h.promise.requester ≡ keeps.entry.requester)) }
 {
     let Keeps {
         hall,
@@ -232,7 +233,8 @@ fn start_crew<'s, E, G: Gate + Sync>(
     ensures records { taker.new.taken.records ≡ taker.old.taken.records }
     ensures known { OnOk result (taker.new.taken.known ≡ unbegun (7 - length run.now.plan.scripts.items) (length run.now.plan.scripts.items + 1)) }
     ensures handles { IfOk result (λ r. AreHandles run.now.hall run.now.recorder 1 (map (λ s. s.items) run.now.plan.scripts.items) r.0.items) }
-    ensures others { IfOk result (λ r. AreShares run.now.plan.config.requesters run.now.plan.threads (map (λ h. h.promise.jobs.now) r.1.items) × AreOfHall run.now.hall r.1.items) }
+    ensures others { IfOk result (λ r. AreShares run.now.plan.config.requesters run.now.plan.threads (map (λ h. h.promise.jobs.now) r.1.items) ×
+        AreOfHall run.now.hall r.1.items) }
 {
     let others = start_others(scope, run, gate, workers)?;
     let handles = start_all(scope, run, gate, seats, taker)?;
@@ -294,7 +296,8 @@ fn join_all<R: Threads>(
     ensures taker { taker.new.queue ≡ taker.old.queue }
     ensures records { taker.new.taken.records ≡ taker.old.taken.records }
     ensures seats { IfOk result (λ v. (vec_len v ≡ length run.now.plan.scripts.items) × AreSeats run.now.hall v.items) }
-    ensures known { IfOk result (λ v. (told : _) × (taker.new.taken.known ≡ taker.old.taken.known ++ told) × AreFinished 1 (map (λ s. s.items) run.now.plan.scripts.items) told × AreRecorded 1 v.items told) }
+    ensures known { IfOk result (λ v. (told : _) × (taker.new.taken.known ≡ taker.old.taken.known ++ told) ×
+        AreFinished 1 (map (λ s. s.items) run.now.plan.scripts.items) told × AreRecorded 1 v.items told) }
 {
     let Ok(mut seats) = Vec::with_capacity(run.alloc, run.plan.scripts.len()) else {
         return Err(Stop::Memory);

@@ -3,7 +3,7 @@ use Rattle.std.specs.Prelude.{slice_get, Some}
 use Rattle.seq_memory.specs.History.{extent_of}
 use Rattle.seq_memory.specs.Limits.{IsWithinLimits}
 use Rattle.requester_core.specs.RequesterView.{RequesterView}
-use Rattle.history_check.specs.declared.Record.{Record}
+use Rattle.history_words.specs.Records.{Record}
 use Rattle.fabric_laws.specs.Fabric.{Fabric}
 use Rattle.text_lines.specs.Lines.{lines_of}
 use Rattle.trace_text.specs.Tellable.{IsTellable}

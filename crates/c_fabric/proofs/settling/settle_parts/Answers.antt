@@ -1,5 +1,5 @@
 use Rattle.std.proofs.Common.{◌≡◌, List, fold, sym, ap, subst}
-use Rattle.history_check.specs.declared.Record.{Record}
+use Rattle.history_words.specs.Records.{Record}
 use Rattle.c_fabric.specs.SessionView.{SettledView, IsKept, settled_of}
 use Rattle.c_fabric.specs.Calls.{settled_view}
 use Rattle.c_fabric.proofs.SettleLemmas.{keeps}

@@ -1,8 +1,8 @@
 use Rattle.std.proofs.Common.{◌≡◌, None}
-use Rattle.history_check.specs.Claim.{Claim}
-use Rattle.history_check.specs.Clocks.{IsClocked}
-use Rattle.history_check.specs.Flaws.{first_flaw_clocked}
-use Rattle.history_check.specs.Trace.{Explains}
+use Rattle.history_words.specs.Claim.{Claim}
+use Rattle.history_words.specs.Clocks.{IsClocked}
+use Rattle.history_words.specs.Flaws.{first_flaw_clocked}
+use Rattle.history_words.specs.Trace.{Explains}
 use Rattle.c_linked.proofs.Traced.{as_device}
 use Rattle.c_linked.proofs.laws.the_trace_behind_a_link_is_explained.Goals as goal
 

@@ -1,7 +1,7 @@
 use Rattle.std.proofs.Common.{◌≡◌, ◌∙◌, ap, None}
 use Rattle.std.specs.Option.{option_or}
-use Rattle.history_check.specs.Claim.{Claim}
-use Rattle.history_check.specs.Flaws.{first_flaw, first_clock_flaw, first_flaw_clocked}
+use Rattle.history_words.specs.Claim.{Claim}
+use Rattle.history_words.specs.Flaws.{first_flaw, first_clock_flaw, first_flaw_clocked}
 use Rattle.endpoint_laws.specs.Runs.{claim_after}
 use Rattle.endpoint_laws.proofs.Running.{Rules, explained, clocked}
 use Rattle.endpoint_laws.proofs.laws.an_endpoints_trace_is_explained.Goals as goal

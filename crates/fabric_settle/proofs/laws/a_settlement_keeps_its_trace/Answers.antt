@@ -1,7 +1,7 @@
 use Rattle.std.proofs.Common.{◌≡◌, ◌∙◌, ◌++◌, List, sym, subst}
-use Rattle.history_check.specs.declared.Record.{Record}
-use Rattle.history_check.specs.Clocks.{KeepsRealTimeOrder}
-use Rattle.history_check.specs.Trace.{Explains}
+use Rattle.history_words.specs.Records.{Record}
+use Rattle.history_words.specs.Clocks.{KeepsRealTimeOrder}
+use Rattle.history_words.specs.Trace.{Explains}
 use Rattle.fabric_laws.specs.Fabric.{Fabric, whole_of}
 use Rattle.fabric_laws.specs.Trace.{Belongs}
 use Rattle.fabric_settle.specs.Keeping.{IsLossless, Never, events_of, with_record}

@@ -2,12 +2,12 @@ use Rattle.std.proofs.Common.{ℕ, ◌≡◌, ◌<◌, ◌≤◌, length, take, 
 use Rattle.std.specs.Prelude.{is_some, slice_get, option_and_then}
 use Rattle.std.proofs.lemmas.Option.{slice_get_within}
 use Rattle.std.proofs.lemmas.List.{length-replicate, get_or-replicate, length-set}
-use Rattle.tlp_core.specs.declared.operation.Op.{Op}
-use Rattle.seq_memory.specs.declared.Entry.{Entry}
-use Rattle.history_check.specs.declared.Record.{Record}
-use Rattle.history_check.specs.Flaws.{entry_at, misses, is_stranger, sub_place, place_of}
-use Rattle.history_check.specs.Heads.{found_in}
-use Rattle.history_check.specs.Lookup.{IsIndex, ArePoints}
+use Rattle.tlp_core.specs.Ops.{Op}
+use Rattle.seq_memory.specs.Entries.{Entry}
+use Rattle.history_words.specs.Records.{Record}
+use Rattle.history_words.specs.Flaws.{entry_at, misses, is_stranger, sub_place, place_of}
+use Rattle.history_words.specs.Headers.{found_in}
+use Rattle.history_words.specs.Lookup.{IsIndex, ArePoints}
 use Rattle.history_check.proofs.Firsts.{first_at-none, first_at-more, first_at-found, any_below-one, tells}
 use Rattle.history_check.proofs.Parts.{there, was_submitted, not_submitted}
 use Rattle.history_check.proofs.Entries.{stranger, no_stranger, entry-stranger, entry-twice, entry-order, entry-good, read_point, read_settled, missed, settled_all, settled_next, points_next, points_none, nothing_there}

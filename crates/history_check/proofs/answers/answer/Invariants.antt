@@ -1,5 +1,5 @@
 use Rattle.std.proofs.Common.{◌≡◌, None}
-use Rattle.history_check.specs.Flaws.{first_at, answer_at}
+use Rattle.history_words.specs.Flaws.{first_at, answer_at}
 use Rattle.history_check.proofs.answers.answer.Given as goal
 
 abbrev pub invariant-loop-a : goal.invariant-loop-a

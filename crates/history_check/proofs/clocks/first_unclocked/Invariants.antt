@@ -1,7 +1,7 @@
 use Rattle.std.proofs.Common.{ℕ, ◌≡◌, take, None}
 use Rattle.std.specs.Prelude.{nat_lt}
 use Rattle.std.specs.List.{list_any}
-use Rattle.history_check.specs.Flaws.{moment, first_at, clock_at}
+use Rattle.history_words.specs.Flaws.{moment, first_at, clock_at}
 use Rattle.history_check.proofs.clocks.first_unclocked.Given as goal
 
 abbrev pub invariant-loop-a : goal.invariant-loop-a

@@ -1,5 +1,5 @@
 use Rattle.std.proofs.Common.{take}
-use Rattle.history_check.specs.Lookup.{AreFirsts}
+use Rattle.history_words.specs.Lookup.{AreFirsts}
 use Rattle.history_check.proofs.comparing.first_answers.Given as goal
 
 abbrev pub invariant-loop-a : goal.invariant-loop-a

@@ -1,14 +1,14 @@
 use Rattle.std.proofs.Common.{rules, ℕ, ◌≡◌, ◌+◌, ◌++◌, Bool, Option, Some, length, take, drop, ap, sym, ◌∙◌, arith, List}
 use Rattle.std.specs.Prelude.{replicate, slice_get, option_and_then}
 use Rattle.std.proofs.lemmas.List.{length-replicate, drop_all, take_all, append-nil, length_push}
-use Rattle.seq_memory.specs.declared.Entry.{Entry}
+use Rattle.seq_memory.specs.Entries.{Entry}
 use Rattle.seq_memory.specs.Limits.{Extent}
 use Rattle.seq_memory.specs.Step.{after, answer}
 use Rattle.seq_memory.specs.History.{extent_of}
-use Rattle.history_check.specs.Flaws.{some_and}
-use Rattle.history_check.specs.Heads.{bytes_after, replays_at, first_in}
-use Rattle.history_check.specs.Lookup.{is_told_at, is_told_in}
-use Rattle.history_check.specs.Claim.{Claim}
+use Rattle.history_words.specs.Flaws.{some_and}
+use Rattle.history_words.specs.Headers.{bytes_after, replays_at, first_in}
+use Rattle.history_words.specs.Lookup.{is_told_at, is_told_in}
+use Rattle.history_words.specs.Claim.{Claim}
 use Rattle.history_check.proofs.Parts.{there}
 use Rattle.history_check.proofs.Replies.{contents_none, contents_next, right_next, right_all}
 use Rattle.history_check.proofs.comparing.right_replies.Goals as goal

@@ -1,7 +1,7 @@
 use Rattle.std.proofs.Common.{ℕ, ◌≡◌, ◌<◌, take, length}
 use Rattle.std.specs.Prelude.{slice_get}
 use Rattle.seq_memory.specs.History.{extent_of, contents}
-use Rattle.history_check.specs.Lookup.{right_in}
+use Rattle.history_words.specs.Lookup.{right_in}
 use Rattle.history_check.proofs.comparing.right_replies.Given as goal
 
 abbrev pub invariant-loop-p : goal.invariant-loop-p

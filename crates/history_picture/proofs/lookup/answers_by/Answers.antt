@@ -1,7 +1,7 @@
 use Rattle.std.proofs.Common.{◌∙◌, ap, sym, cond}
 use Rattle.std.specs.Prelude.{ℕ, Option, Some, None}
 use Rattle.std.specs.Option.{option_or}
-use Rattle.history_check.specs.Trace.{answers_to}
+use Rattle.history_words.specs.Trace.{answers_to}
 use Rattle.history_picture.proofs.Lookups.{answer_next}
 use Rattle.history_picture.proofs.lookup.answers_by.Goals as goal
 

@@ -1,5 +1,5 @@
 use Rattle.std.proofs.Common.{◌∙◌, ◌++◌, ap, ℕ, List}
-use Rattle.seq_memory.specs.declared.Entry.{Entry}
+use Rattle.seq_memory.specs.Entries.{Entry}
 use Rattle.svg_text.specs.Shapes.{shapes_text}
 use Rattle.history_picture.specs.Picture.{rows, requesters, entries, mark_shapes, width_of, bottom_of, shown_entries}
 use Rattle.history_picture.proofs.Steps.{both}

@@ -1,6 +1,6 @@
 use Rattle.std.proofs.Common.{◌∙◌, ◌++◌, ap, List}
-use Rattle.history_check.specs.declared.Record.{Record}
-use Rattle.history_check.specs.TraceView.{TraceView}
+use Rattle.history_words.specs.Records.{Record}
+use Rattle.history_words.specs.TraceView.{TraceView}
 use Rattle.history_picture.specs.declared.marks.View.{View}
 use Rattle.history_picture.specs.Picture.{view_of, view_text}
 use Rattle.history_picture.proofs.picture.put_picture.Goals as goal

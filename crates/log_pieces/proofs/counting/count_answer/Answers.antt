@@ -1,7 +1,6 @@
 use Rattle.std.proofs.Common.{◌≡◌, ◌∙◌, ℕ, length, sym, ap, Some}
 use Rattle.std.specs.Prelude.{Option, option_map, slice_get}
-use Rattle.std.proofs.lemmas.Result.{IfOk-weaker}
-use Rattle.tlp_core.specs.declared.operation.Op.{Op}
+use Rattle.tlp_core.specs.Ops.{Op}
 use Rattle.log_pieces.specs.declared.rows.Request.{Request}
 use Rattle.log_pieces.specs.Pieces.{pieces}
 use Rattle.log_pieces.specs.InPieces.{answers_by}
@@ -14,5 +13,5 @@ returns-in-Some c =
     let request = c.in-Some.request in
     let there : slice_get c.args.row.now.requests c.args.number ≡ Some (request.number, request.op.now) =
     sym c.request.ensures ∙ ap (option_map (λ (r : Request). (r.number, r.op.now))) c.in-Some.is in
-    IfOk-weaker c.count.result _ _ (λ count counted i next n reply.
-    counted ∙ sym (some_answers p request.number request.op.now i next n reply) ∙ ap (λ (o : Option (ℕ × Op)). length (answers_by p o i next n reply)) (sym there)) c.count.ensures
+    λ i next n reply.
+    c.count.ensures ∙ sym (some_answers p request.number request.op.now i next n reply) ∙ ap (λ (o : Option (ℕ × Op)). length (answers_by p o i next n reply)) (sym there)

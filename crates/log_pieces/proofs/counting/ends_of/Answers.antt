@@ -1,5 +1,5 @@
 use Rattle.std.proofs.Common.{◌∙◌, sym, ap}
-use Rattle.history_check.specs.TraceView.{TraceView, observed}
+use Rattle.history_words.specs.TraceView.{TraceView, observed}
 use Rattle.log_pieces.proofs.EndLemmas.{of_prefixes}
 use Rattle.log_pieces.proofs.counting.ends_of.Goals as goal
 

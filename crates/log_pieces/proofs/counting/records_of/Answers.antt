@@ -1,6 +1,6 @@
 use Rattle.std.proofs.Common.{◌≡◌, ◌∙◌, ℕ, ◌<◌, ◌≤◌, [], length, take, sym, ap, subst, IfOk}
 use Rattle.seq_memory.specs.Limits.{Extent}
-use Rattle.history_check.specs.TraceView.{TraceView, observed}
+use Rattle.history_words.specs.TraceView.{TraceView, observed}
 use Rattle.log_pieces.specs.Pieces.{pieces}
 use Rattle.log_pieces.specs.InPieces.{split_all}
 use Rattle.log_pieces.proofs.PrefixLemmas.{by_reach, reached_by, by_whole}

@@ -1,8 +1,8 @@
 use Rattle.std.proofs.Common.{◌≡◌, ◌∙◌, ℕ, List, [], refl, sym, subst}
-use Rattle.seq_memory.specs.declared.Entry.{Entry}
-use Rattle.history_check.specs.TraceView.{TraceView, observed}
-use Rattle.history_check.specs.Claim.{claim_of}
-use Rattle.history_check.specs.Trace.{submissions, Explains}
+use Rattle.seq_memory.specs.Entries.{Entry}
+use Rattle.history_words.specs.TraceView.{TraceView, observed}
+use Rattle.history_words.specs.Claim.{claim_of}
+use Rattle.history_words.specs.Trace.{submissions, Explains}
 use Rattle.log_runs.specs.Explainable.{IsExplainable, SeenAlike, AreSeenAs}
 use Rattle.log_pieces.specs.declared.Granularity.{Granularity}
 use Rattle.log_pieces.specs.declared.Granularity.TheVariants as sizes

@@ -1,5 +1,5 @@
 use Rattle.std.proofs.Common.{◌∙◌, ap, sym, arith, get_or}
-use Rattle.history_check.specs.declared.Record.TheVariants as records
+use Rattle.history_words.specs.declared.record.RecordOf.TheVariants as records
 use Rattle.log_pieces.specs.Pieces.{pieces}
 use Rattle.log_pieces.proofs.RowLemmas.{sub_records, sub_rows, answer_records, answer_rows, on_ok}
 use Rattle.log_pieces.proofs.splitting.add.Goals as goal

@@ -1,6 +1,6 @@
 use Rattle.std.proofs.Common.{◌≡◌, ◌∙◌, [], subst, ap, List}
-use Rattle.history_check.specs.declared.Record.{Record}
-use Rattle.history_check.specs.TraceView.{TraceView}
+use Rattle.history_words.specs.Records.{Record}
+use Rattle.history_words.specs.TraceView.{TraceView}
 use Rattle.log_pieces.specs.Pieces.{pieces}
 use Rattle.log_pieces.specs.InPieces.{cut_log, split_all}
 use Rattle.log_pieces.proofs.splitting.cut_log.Goals as goal

@@ -1,6 +1,6 @@
 use Rattle.std.proofs.Common.{◌≡◌, ◌∙◌, ◌+◌, ◌++◌, ◌∷◌, [], List, take, sym, ap, subst, arith, add-one}
 use Rattle.std.proofs.Math.Seq.{take-suc}
-use Rattle.history_check.specs.declared.Record.{Record}
+use Rattle.history_words.specs.Records.{Record}
 use Rattle.log_pieces.specs.Pieces.{pieces}
 use Rattle.log_pieces.specs.InPieces.{split, split_all}
 use Rattle.log_pieces.specs.RowView.{RowView, AreRows}

@@ -1,7 +1,7 @@
 use Rattle.std.proofs.Common.{◌≡◌, ◌∙◌, Option, List, Some, sym, ap}
 use Rattle.std.specs.Prelude.{slice_get, option_and_then}
 use Rattle.seq_memory.specs.Step.{after, answer}
-use Rattle.history_check.specs.declared.Record.{Record}
+use Rattle.history_words.specs.Records.{Record}
 use Rattle.log_runs.specs.Histories.{submitted}
 use Rattle.log_replies.proofs.Filling.{Acted, acted}
 use Rattle.log_replies.proofs.completing.act.Goals as goal

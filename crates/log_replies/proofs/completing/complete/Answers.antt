@@ -1,5 +1,5 @@
 use Rattle.std.proofs.Common.{sym, ap, subst}
-use Rattle.history_check.specs.TraceView.{TraceView}
+use Rattle.history_words.specs.TraceView.{TraceView}
 use Rattle.log_runs.specs.Tasks.{IsWellFormed}
 use Rattle.log_replies.proofs.completing.complete.Goals as goal
 

@@ -1,6 +1,6 @@
 use Rattle.std.proofs.Common.{◌≡◌, ◌∙◌, false, sym, ap, List, replicate}
 use Rattle.std.specs.List.{list_any}
-use Rattle.history_check.specs.declared.Record.{Record}
+use Rattle.history_words.specs.Records.{Record}
 use Rattle.log_runs.specs.Histories.{history_of}
 use Rattle.log_replies.specs.Completing.{lacks_reply}
 use Rattle.log_replies.proofs.Filling.{nothing_lacked}

@@ -12,6 +12,6 @@ returns-clause-text c =
     let origin = texts.origin_text t in
     let class = texts.class_text t.tc t.attr in
     let end = c.put_class.new.out.bytes in
-    then c.args.out.now.bytes c.put_op.new.out.bytes end op (codes " from " ++ (origin ++ class)) c.put_op.ensures.text
-    (then c.put_op.new.out.bytes c.push_str.new.self.bytes end (codes " from ") (origin ++ class) c.push_str.ensures.bytes
+    then c.args.out.now.bytes c.write_op.new.out.bytes end op (codes " from " ++ (origin ++ class)) c.write_op.ensures.text
+    (then c.write_op.new.out.bytes c.push_str.new.self.bytes end (codes " from ") (origin ++ class) c.push_str.ensures.bytes
     (then c.push_str.new.self.bytes c.put_origin.new.out.bytes end origin class c.put_origin.ensures.text c.put_class.ensures.text))

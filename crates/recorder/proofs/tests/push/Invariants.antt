@@ -1,5 +1,5 @@
 use Rattle.std.proofs.Common.{◌≡◌}
-use Rattle.history_check.specs.Lookup.{requester_of}
+use Rattle.history_words.specs.Lookup.{requester_of}
 use Rattle.recorder.proofs.tests.push.Given as goal
 
 abbrev pub invariant-loop : goal.invariant-loop

@@ -1,6 +1,6 @@
 use Rattle.std.proofs.Common.{◌≡◌, ◌*◌, ◌%◌, ◌^◌, ◌++◌, length, ap, ◌∙◌}
 use Rattle.std.specs.Prelude.{codes, None}
-use Rattle.tlp_core.specs.declared.operation.Op.TheVariants as ops
+use Rattle.tlp_core.specs.declared.operation.OpOf.TheVariants as ops
 use Rattle.tlp_core.specs.declared.operation.Width.TheVariants.{Four}
 use Rattle.seq_memory.specs.Step.{refusal}
 use Rattle.seq_memory.specs.History.{extent_of, bytes_of}

@@ -1,6 +1,6 @@
 use Rattle.std.proofs.Common.{◌≡◌, ◌∙◌, ℕ, List, length, ◌<◌, sym, subst, ap, Some}
 use Rattle.std.specs.Prelude.{slice_index}
-use Rattle.seq_memory.specs.declared.Reply.{Reply}
+use Rattle.seq_memory.specs.Entries.{Reply}
 use Rattle.search_effects.specs.Effects.{told_of}
 use Rattle.search_counts.proofs.RoleLemmas.{zeros_refuse}
 use Rattle.search_counts.proofs.roles.changes_zeros.Goals as goal

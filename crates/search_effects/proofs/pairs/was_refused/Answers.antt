@@ -1,5 +1,5 @@
 use Rattle.std.proofs.Common.{◌∙◌, inl, inr, Some, ap}
-use Rattle.seq_memory.specs.declared.Reply.{Reply}
+use Rattle.seq_memory.specs.Entries.{Reply}
 use Rattle.search_effects.specs.Effects.{told_of}
 use Rattle.search_effects.proofs.pairs.was_refused.Goals as goal
 

@@ -1,5 +1,5 @@
 use Rattle.std.proofs.Common.{◌∙◌}
-use Rattle.seq_memory.specs.declared.Reply.TheVariants as replies
+use Rattle.seq_memory.specs.declared.reply.ReplyOf.TheVariants as replies
 use Rattle.search_effects.proofs.Yielding.{refused_kept, never_unsupported, never_aborted}
 use Rattle.search_effects.proofs.puts.is_kept_by.Goals as goal
 

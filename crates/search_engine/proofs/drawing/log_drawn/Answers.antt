@@ -1,5 +1,5 @@
 use Rattle.std.proofs.Common.{◌≡◌, ◌∙◌, ◌-◌, ◌++◌, ℕ, List, [], ap, sym, subst, Ok}
-use Rattle.history_check.specs.TraceView.{TraceView}
+use Rattle.history_words.specs.TraceView.{TraceView}
 use Rattle.search_reasons.specs.Lines.{lines_in}
 use Rattle.search_picture.specs.Picture.{scene_text}
 use Rattle.search_scene.specs.Scenes.{Shows}

@@ -1,6 +1,6 @@
 use Rattle.std.proofs.Common.{◌≡◌, ℕ, ◌-◌, length, refl, inl, inr, subst, arith, Result, Ok, Err}
 use Rattle.record_text.specs.declared.fault.ReadFault.{ReadFault}
-use Rattle.history_check.specs.TraceView.{TraceView}
+use Rattle.history_words.specs.TraceView.{TraceView}
 use Rattle.log_events.specs.Formed.{AreFormed}
 use Rattle.log_text.specs.LogReaderView.{seen_of}
 use Rattle.search_engine.specs.Bounded.{bounds_of}

@@ -1,7 +1,7 @@
 use Rattle.std.proofs.Common.{◌≡◌, ◌∙◌, ap, IfOk, List, length, subst}
 use Rattle.std.specs.Prelude.{IfNone, IfSome}
-use Rattle.history_check.specs.TraceView.{TraceView}
-use Rattle.history_check.specs.declared.Record.{Record}
+use Rattle.history_words.specs.TraceView.{TraceView}
+use Rattle.history_words.specs.Records.{Record}
 use Rattle.log_events.specs.Formed.{AreFormed}
 use Rattle.search_engine.specs.Flaws.{IsFirstFlaw}
 use Rattle.search_engine.proofs.flaws.first_flaw.Goals as goal

@@ -1,6 +1,6 @@
 use Rattle.std.proofs.Common.{◌≡◌, false, take}
 use Rattle.std.specs.List.{list_any}
-use Rattle.history_check.specs.Trace.{answers_to}
+use Rattle.history_words.specs.Trace.{answers_to}
 use Rattle.search_engine.proofs.flaws.is_answered.Given as goal
 
 abbrev pub invariant-loop-record : goal.invariant-loop-record

@@ -1,7 +1,7 @@
 use Rattle.std.proofs.Common.{IfOk, Option, length, subst}
 use Rattle.std.specs.Prelude.{IfNone}
 use Rattle.std.proofs.lemmas.Result.{IfOk-weaker}
-use Rattle.history_check.specs.declared.flaws.Flaw.{Flaw}
+use Rattle.history_words.specs.declared.flaws.Flaw.{Flaw}
 use Rattle.log_events.specs.Formed.{AreFormed}
 use Rattle.search_engine.specs.Bounded.{bounds_of}
 use Rattle.search_engine.proofs.FlawLemmas.{judged_of}

@@ -1,6 +1,6 @@
 use Rattle.std.proofs.Common.{◌≡◌, ◌∙◌, ap, ℕ, List, Ok}
-use Rattle.history_check.specs.TraceView.{TraceView}
-use Rattle.history_check.specs.Claim.{claim_of}
+use Rattle.history_words.specs.TraceView.{TraceView}
+use Rattle.history_words.specs.Claim.{claim_of}
 use Rattle.trace_text.specs.TraceReaderView.{read_of}
 use Rattle.log_text.specs.Told.{IsToldLog}
 use Rattle.search_engine.specs.Search.{IsFoundIn}

@@ -1,7 +1,7 @@
-use Rattle.history_check.specs.Claim.{Claim, claim_of}
-use Rattle.history_check.specs.Clocks.{IsClocked, KeepsRealTimeOrder}
-use Rattle.history_check.specs.Trace.{Explains}
-use Rattle.history_check.specs.TraceView.{TraceView}
+use Rattle.history_words.specs.Claim.{Claim, claim_of}
+use Rattle.history_words.specs.Clocks.{IsClocked, KeepsRealTimeOrder}
+use Rattle.history_words.specs.Trace.{Explains}
+use Rattle.history_words.specs.TraceView.{TraceView}
 use Rattle.search_history.specs.Answers.{IsFound, IsInOrder}
 use Rattle.search_history.specs.declared.searching.Sought.{Sought}
 use Rattle.search_history.specs.declared.searching.Sought.TheVariants as answers

@@ -1,6 +1,6 @@
 use Rattle.std.proofs.Common.{◌≡◌, ◌∙◌, ap, List, subst, sym}
-use Rattle.history_check.specs.declared.Record.{Record}
-use Rattle.history_check.specs.TraceView.{TraceView}
+use Rattle.history_words.specs.Records.{Record}
+use Rattle.history_words.specs.TraceView.{TraceView}
 use Rattle.log_runs.specs.Histories.{history_of}
 use Rattle.log_runs.specs.Tasks.{IsWellFormed}
 use Rattle.search_history.proofs.Runs.{run_alike, run_explains, run_clocked, replied_by}

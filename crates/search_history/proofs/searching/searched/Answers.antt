@@ -1,6 +1,6 @@
 use Rattle.std.proofs.Common.{◌≡◌, ◌∙◌, ap, length, Option, ℕ, subst, sym, take}
 use Rattle.std.specs.Prelude.{IfNone}
-use Rattle.history_check.specs.TraceView.{TraceView}
+use Rattle.history_words.specs.TraceView.{TraceView}
 use Rattle.log_events.specs.Formed.{AreFormed}
 use Rattle.log_events.specs.Joined.{ArePartners}
 use Rattle.log_runs.specs.Explainable.{prefix}

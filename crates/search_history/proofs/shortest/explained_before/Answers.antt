@@ -1,5 +1,5 @@
 use Rattle.std.proofs.Common.{◌≡◌, ◌∙◌, ap, sym, subst, take}
-use Rattle.history_check.specs.TraceView.{TraceView}
+use Rattle.history_words.specs.TraceView.{TraceView}
 use Rattle.log_runs.specs.Tasks.{IsWellFormed}
 use Rattle.search_history.proofs.Runs.{well_formed, formed_if}
 use Rattle.search_history.proofs.shortest.explained_before.Goals as goal

@@ -1,7 +1,7 @@
 use Rattle.std.proofs.Common.{◌≡◌, ℕ, true, nat_eq, arith}
 use Rattle.std.proofs.lemmas.Bool.Decides.{nat_tests}
-use Rattle.tlp_core.specs.declared.operation.Op.{Op}
-use Rattle.seq_memory.specs.declared.Entry.{Entry}
+use Rattle.tlp_core.specs.Ops.{Op}
+use Rattle.seq_memory.specs.Entries.{Entry}
 use Rattle.search_scene.proofs.bars.is_of.Goals as goal
 
 entry_is : (e : Entry) (i k : ℕ) → e.requester ≡ i → nat_eq e.number k ≡ true → (op : Op) × (e ≡ record { requester = i; number = k; op = op })

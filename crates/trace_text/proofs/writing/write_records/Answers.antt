@@ -1,7 +1,7 @@
 use Rattle.std.proofs.Common.{◌∙◌, ◌++◌, ◌∷◌, [], ap, map}
 use Rattle.std.specs.Prelude.{string_bytes}
-use Rattle.history_check.specs.Claim.{claim_of}
-use Rattle.history_check.specs.TraceView.{TraceView}
+use Rattle.history_words.specs.Claim.{claim_of}
+use Rattle.history_words.specs.TraceView.{TraceView}
 use Rattle.trace_text.specs.Texts.{lines_text, memory_line, record_line}
 use Rattle.trace_text.proofs.TextLemmas.{records_text-by}
 use Rattle.trace_text.proofs.writing.write_records.Goals as goal

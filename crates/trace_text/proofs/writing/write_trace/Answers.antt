@@ -1,5 +1,5 @@
 use Rattle.std.specs.Prelude.{string_bytes}
-use Rattle.history_check.specs.Claim.{claim_of}
+use Rattle.history_words.specs.Claim.{claim_of}
 use Rattle.trace_text.proofs.TextLemmas.{trace_text-by}
 use Rattle.trace_text.proofs.writing.write_trace.Goals as goal
 

@@ -1,4 +1,4 @@
-use Rattle.history_check.specs.Claim.{claim_of}
+use Rattle.history_words.specs.Claim.{claim_of}
 use Rattle.worker_report.proofs.Explained.{explained, explained_claim, stands}
 use Rattle.worker_report.proofs.laws.the_records_of_one_run_are_explained.Goals as goal
 

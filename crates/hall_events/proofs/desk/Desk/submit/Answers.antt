@@ -1,8 +1,10 @@
-use Rattle.std.proofs.Common.{rules, ◌≡◌, ◌+◌, ℕ, suc, List, [], ◌∷◌, length, inl, refl, sym, subst, ap, ◌∙◌, arith, drop}
-use Rattle.seq_memory.specs.declared.Entry.{Entry}
+use Rattle.std.proofs.Common.{rules, ◌≡◌, ◌+◌, ℕ, suc, List, [], ◌∷◌, length, inl, refl, sym, subst, ap, ◌∙◌, arith, drop, Ok}
+use Rattle.tlp_core.specs.Ops.{Op}
+use Rattle.seq_memory.specs.Entries.{Entry}
 use Rattle.seq_memory.specs.History.{MemoryView}
 use Rattle.requester_core.specs.RequesterView.{RequesterView}
 use Rattle.lane_ends.specs.Steps.{SenderEndView}
+use Rattle.fabric_core.specs.Answers.{submit_on, SubmitFits, Refuses, lane_grows}
 use Rattle.fabric_events.specs.declared.event.EventOf.TheVariants.{Submit}
 use Rattle.fabric_events.specs.declared.event.LaneName.TheVariants.{Up}
 use Rattle.fabric_events.specs.declared.event.SeenOf.TheVariants.{Submitted}
@@ -37,7 +39,7 @@ event-requires-clause-event c =
     let op = c.args.op.now in
     let k : ℕ = c.in-Ok.number in let q' = c.submit.new.requester in let e' = c.submit.new.sender in
     let after : Token = after_event (Submit port op) (Submitted k) m.entries ((slot port 1, Sender e') ∷ ((0, Memory m) ∷ [])) t in
-    let goes : Goes (Submit port op) (Submitted k) t (slot port 0) (Requester q') after = c.submitting.ensures.owes t port k op m q q' e e' at refl c.in-Ok.ensures.answers c.in-Ok.ensures.fits in
+    let goes : Goes (Submit port op) (Submitted k) t (slot port 0) (Requester q') after = c.submitting.ensures.owes t port k op m q q' e e' at refl (subst (λ (o : Op). submit_on q e o ≡ Ok (k, q', e')) c.lend.ensures c.in-Ok.ensures.answers) (subst (λ (o : Op). SubmitFits q o) c.lend.ensures c.in-Ok.ensures.fits) in
     let ts : c.turn.new.self.me.0 ≡ t ∷ [] = ap (λ (z : Sat). z.0) c.turn.ensures.2 ∙ ap (λ (z : Sat). z.0) me in
     let F : List Token → Part → Part → Part → Type 0 = λ l p r z. Goes (Submit port op) (Submitted k) (token_of l) (part_slot p) (Requester q') (after_event (Submit port op) (Submitted k) m.entries ((part_slot r, Sender e') ∷ ((part_slot z, Memory m) ∷ [])) (token_of l)) in
     let h = c.in_ok-memory-3 in
@@ -60,7 +62,7 @@ returns-in-Ok-clause-submitted c =
     let known : Known (t ∷ []) = subst (λ (z : Sat). Known z.0) me c.in_ok-memory-3.ensures.taken.4.1 in
     let k : ℕ = c.in-Ok.number in let q' = c.submit.new.requester in let e' = c.submit.new.sender in
     let after : Token = after_event (Submit port op) (Submitted k) m.entries ((slot port 1, Sender e') ∷ ((0, Memory m) ∷ [])) t in
-    let goes : Goes (Submit port op) (Submitted k) t (slot port 0) (Requester q') after = c.submitting.ensures.owes t port k op m q q' e e' at refl c.in-Ok.ensures.answers c.in-Ok.ensures.fits in
+    let goes : Goes (Submit port op) (Submitted k) t (slot port 0) (Requester q') after = c.submitting.ensures.owes t port k op m q q' e e' at refl (subst (λ (o : Op). submit_on q e o ≡ Ok (k, q', e')) c.lend.ensures c.in-Ok.ensures.answers) (subst (λ (o : Op). SubmitFits q o) c.lend.ensures c.in-Ok.ensures.fits) in
     let G : ℕ → Type 0 = λ p. Goes (Submit p op) (Submitted k) t (slot port 0) (Requester q') after in
     let tells : SubmitTells w k op (length m.entries) (learned_also (Submit port op) (Submitted k) m.entries w) = subst (λ (p : ℕ). SubmitTells w k op (length m.entries) (learned_also (Submit p op) (Submitted k) m.entries w)) (sym own) (c.submitting.ensures.tells t after [] (slot port 1) (slot port 0) k (Sender e) (Requester q) (Requester q') m op known refl (subst G own goes)) in
     let N : List Entry → Type 0 = λ l. SubmitTells w k op (length l) (learned_also (Submit port op) (Submitted k) m.entries w) in
@@ -85,4 +87,4 @@ returns-in-Err-clause-why c =
     let at : IsAtPort t port = (own, omega (arith, many, c.requires.desk.1)) in
     let op = c.args.op.now in
     let known : Known (t ∷ []) = subst (λ (z : Sat). Known z.0) me c.in_ok-memory-3.ensures.taken.4.1 in
-    subst (IsRefused w (Submit port op)) (sym c.refuse_both.ensures.refused) (inl (c.submitting.ensures.refused t [] port op m q e c.in-Err.refusal at (known, refl) c.in-Err.ensures.refuses))
+    subst (IsRefused w (Submit port op)) (sym c.refuse_both.ensures.refused) (inl (c.submitting.ensures.refused t [] port op m q e c.in-Err.refusal at (known, refl) (subst (λ (o : Op). Refuses lane_grows (submit_on q e o) c.in-Err.refusal) c.lend.ensures c.in-Err.ensures.refuses)))

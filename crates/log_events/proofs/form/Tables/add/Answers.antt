@@ -1,5 +1,5 @@
 use Rattle.std.proofs.Common.{◌∙◌, ◌+◌, ◌<◌, true, get_or, set, sym, arith}
-use Rattle.history_check.specs.declared.Record.TheVariants as records
+use Rattle.history_words.specs.declared.record.RecordOf.TheVariants as records
 use Rattle.log_events.proofs.CountLemmas.{counted_sub, counted_answer, same_counted, is_within, read_at}
 use Rattle.log_events.proofs.JoinLemmas.{joined_sub, joined_answer, same_joined}
 use Rattle.log_events.proofs.form.Tables.add.Goals as goal

@@ -1,7 +1,7 @@
 use Rattle.std.proofs.Common.{Option, subst}
 use Rattle.std.specs.Prelude.{slice_get}
-use Rattle.tlp_core.specs.declared.operation.Op.{Op}
-use Rattle.seq_memory.specs.declared.Reply.{Reply}
+use Rattle.tlp_core.specs.Ops.{Op}
+use Rattle.seq_memory.specs.Entries.{Reply}
 use Rattle.search_effects.specs.Effects.{told_of}
 use Rattle.search_words.specs.Words.{IsTaken}
 use Rattle.search_words.proofs.EventLemmas.{one_op, one_reply}

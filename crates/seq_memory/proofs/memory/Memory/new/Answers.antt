@@ -1,7 +1,7 @@
 use Rattle.std.proofs.Common.{◌∙◌, ap, ℕ, List, sym}
 use Rattle.std.specs.Prelude.{replicate}
 use Rattle.seq_memory.specs.History.{contents}
-use Rattle.seq_memory.specs.declared.Entry.{Entry}
+use Rattle.seq_memory.specs.Entries.{Entry}
 use Rattle.seq_memory.proofs.Histories.{contents-none}
 use Rattle.seq_memory.proofs.memory.Memory.new.Goals as goal
 

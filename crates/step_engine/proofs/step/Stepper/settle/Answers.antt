@@ -1,5 +1,5 @@
 use Rattle.std.proofs.Common.{◌∙◌, IfOk, List, subst, ap}
-use Rattle.history_check.specs.declared.Record.{Record}
+use Rattle.history_words.specs.Records.{Record}
 use Rattle.fabric_settle.specs.Rounds.{settlement}
 use Rattle.line_loop.specs.Run.{IsAnswer}
 use Rattle.step_engine.specs.Step.{StepperView, recorded_all, settled}

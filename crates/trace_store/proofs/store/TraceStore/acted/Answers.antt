@@ -1,6 +1,5 @@
 use Rattle.std.proofs.Common.{refl, ap}
-use Rattle.tlp_core.specs.Lent.{owned}
-use Rattle.tlp_core.specs.declared.operation.Op.{Op}
+use Rattle.tlp_core.specs.Ops.{Op}
 use Rattle.trace_store.proofs.Growth.{all_there_still, same_view, entry_there, entry_added, on_err}
 use Rattle.trace_store.proofs.store.TraceStore.acted.Goals as goal
 
@@ -27,6 +26,6 @@ invariant_of-self-2 c =
 pub returns-clause-ok : goal.returns-clause-ok
 returns-clause-ok c =
     let i = c.self.inside in
-    entry_added i.extent i.bytes.items c.keep_op.new.bytes.items i.records.items i.entries.items c.push.new.self.items _ (record { requester = c.args.requester; number = c.args.number; op = owned c.args.op.now }) c.args.self.now
+    entry_added i.extent i.bytes.items c.keep_op.new.bytes.items i.records.items i.entries.items c.push.new.self.items _ (record { requester = c.args.requester; number = c.args.number; op = c.args.op.now }) c.args.self.now
     c.keep_op.ensures.grows c.self.invariant c.in_ok-push.ensures.items
     (ap (λ (x : Op). record { requester = c.args.requester; number = c.args.number; op = x }) c.in_ok-kind.ensures.kept) c.self.view_is

@@ -1,7 +1,6 @@
 use Rattle.std.proofs.Common.{refl, ap}
-use Rattle.seq_memory.specs.Outcome.{owned_reply}
-use Rattle.seq_memory.specs.declared.Reply.{Reply}
-use Rattle.history_check.specs.declared.Record.TheVariants as records
+use Rattle.seq_memory.specs.Entries.{Reply}
+use Rattle.history_words.specs.declared.record.RecordOf.TheVariants as records
 use Rattle.trace_store.proofs.Growth.{all_there_still, same_view, record_there, record_added, on_err}
 use Rattle.trace_store.proofs.store.TraceStore.answered.Goals as goal
 
@@ -28,6 +27,6 @@ invariant_of-self-2 c =
 pub returns-clause-ok : goal.returns-clause-ok
 returns-clause-ok c =
     let i = c.self.inside in
-    record_added i.extent i.bytes.items c.keep_reply.new.bytes.items i.records.items c.push.new.self.items i.entries.items _ (records.Ans c.args.requester c.args.number (owned_reply c.args.reply.now) c.args.n) c.args.self.now
+    record_added i.extent i.bytes.items c.keep_reply.new.bytes.items i.records.items c.push.new.self.items i.entries.items _ (records.Ans c.args.requester c.args.number c.args.reply.now c.args.n) c.args.self.now
     c.keep_reply.ensures.grows c.self.invariant c.in_ok-push.ensures.items
     (ap (λ (x : Reply). records.Ans c.args.requester c.args.number x c.args.n) c.in_ok-kind.ensures.kept) c.self.view_is

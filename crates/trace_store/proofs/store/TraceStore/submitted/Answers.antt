@@ -1,7 +1,6 @@
 use Rattle.std.proofs.Common.{refl, ap}
-use Rattle.tlp_core.specs.Lent.{owned}
-use Rattle.tlp_core.specs.declared.operation.Op.{Op}
-use Rattle.history_check.specs.declared.Record.TheVariants as records
+use Rattle.tlp_core.specs.Ops.{Op}
+use Rattle.history_words.specs.declared.record.RecordOf.TheVariants as records
 use Rattle.trace_store.proofs.Growth.{all_there_still, same_view, record_there, record_added, on_err}
 use Rattle.trace_store.proofs.store.TraceStore.submitted.Goals as goal
 
@@ -28,6 +27,6 @@ invariant_of-self-2 c =
 pub returns-clause-ok : goal.returns-clause-ok
 returns-clause-ok c =
     let i = c.self.inside in
-    record_added i.extent i.bytes.items c.keep_op.new.bytes.items i.records.items c.push.new.self.items i.entries.items _ (records.Sub c.args.requester c.args.number (owned c.args.op.now) c.args.n) c.args.self.now
+    record_added i.extent i.bytes.items c.keep_op.new.bytes.items i.records.items c.push.new.self.items i.entries.items _ (records.Sub c.args.requester c.args.number c.args.op.now c.args.n) c.args.self.now
     c.keep_op.ensures.grows c.self.invariant c.in_ok-push.ensures.items
     (ap (λ (x : Op). records.Sub c.args.requester c.args.number x c.args.n) c.in_ok-kind.ensures.kept) c.self.view_is

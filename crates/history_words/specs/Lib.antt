@@ -1,0 +1,9 @@
+pub mod Records
+pub mod TraceView
+pub mod Claim
+pub mod Names
+pub mod Trace
+pub mod Flaws
+pub mod Lookup
+pub mod Headers
+pub mod Clocks

@@ -1,0 +1,10 @@
+use Rattle.std.proofs.Common.{◌≡◌, ◌+◌, ◌-◌, ◌^◌, ◌≤◌, ◌++◌}
+use Rattle.tlp_core.specs.Operation.{address_of, count_of}
+use Rattle.op_pieces.specs.Pieces.{cut, dw_of}
+use Rattle.op_pieces.proofs.cutting.cut.Given as goal
+
+abbrev pub invariant-loop-turn : goal.invariant-loop-turn
+invariant-loop-turn l = record {
+  same : l.pieces.items ++ cut l.bytes (dw_of l.fn.op - l.turn) l.rest ≡ cut l.bytes (dw_of l.fn.op) l.fn.op;
+  fits : address_of l.rest + count_of l.rest ≤ 2 ^ 64;
+}

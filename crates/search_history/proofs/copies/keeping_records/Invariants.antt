@@ -1,6 +1,0 @@
-use Rattle.std.proofs.Common.{◌≡◌, take}
-use Rattle.search_history.specs.Contradictions.{keeping_from}
-use Rattle.search_history.proofs.copies.keeping_records.Given as goal
-
-abbrev pub invariant-loop-place : goal.invariant-loop-place
-invariant-loop-place l = l.copy.items ≡ keeping_from 0 l.kept (take l.place l.records)
