@@ -13,6 +13,7 @@ use crate::session::Session;
 use crate::slot::{Slot, close, open};
 use c_buffer::{Failure, copy};
 use fabric_laws::laws::the_trace_belongs;
+use history_words::Claim;
 use std::alloc::{AllocError, Global};
 use std::mem;
 use trace_text::write_trace;
@@ -35,7 +36,14 @@ fn text_of(alloc: Global, session: &mut Session) -> Result<String, AllocError>
     }
     let records = mem::replace(&mut session.witness.records, Vec::new(alloc));
     let trace = session.fabric.trace_of(records);
-    let text = write_trace(alloc, &trace, session.fabric.history());
+    let history = session.fabric.history();
+    let text = write_trace(
+        alloc,
+        &Claim {
+            trace: &trace,
+            history,
+        },
+    );
     session.witness.records = trace.records;
     text
 }

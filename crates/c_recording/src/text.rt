@@ -16,8 +16,7 @@ use trace_text::write_trace;
 fn written(alloc: Global, log: &Log) -> Result<String, AllocError>
     ensures { IfOk result (λ text. string_bytes text ≡ trace_text log.now.claim) }
 {
-    let (trace, history) = log.to_owned(alloc)?;
-    write_trace(alloc, &trace, history.as_slice())
+    write_trace(alloc, log.claim())
 }
 
 /// The text of what was recorded. Fails where that was lost, too.

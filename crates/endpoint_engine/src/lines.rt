@@ -114,8 +114,7 @@ impl Lines {
         let Some(log) = &self.log else {
             return no_line(out);
         };
-        let (trace, history) = log.to_owned(self.alloc)?;
-        tell_trace(self.alloc, &trace, history.as_slice(), out)
+        tell_trace(self.alloc, log.claim(), out)
     }
 
     /// Answers a line that is no TLP.

@@ -2,7 +2,6 @@
 ghost use Rattle.std.specs.Prelude.{◌≡◌, ◌+◌, ◌≤◌, ◌^◌, fold, IfOk, IsErr, OnOk};
 ghost use Rattle.tlp_core.specs.Operation.{address_of, count_of, op_of};
 ghost use Rattle.op_pieces.specs.Pieces.{dw_of, cut};
-ghost use Rattle.history_words.specs.Claim.{claim_of};
 ghost use Rattle.endpoint_packets.specs.Classes.{becomes};
 ghost use Rattle.endpoint_log.specs.Steps as spec;
 
@@ -10,9 +9,9 @@ use crate::moved::{BLOCK, dw_in_front, first_moved, moved, reply_in};
 use config_space::Setup;
 use endpoint_core::Endpoint;
 use endpoint_packets::{Received, Room, receive};
-use history_words::{AsClaim, Trace};
+use history_words::AsClaim;
 use op_pieces::{back, dw_of, dw_to, front};
-use seq_memory::{Entry, Extent};
+use seq_memory::Extent;
 use std::alloc::{AllocError, Global};
 use std::marker::Model;
 use tlp_core::{OpRef, TlpRef, op_lent};
@@ -215,9 +214,9 @@ impl Log {
     }
 
     /// The trace, and its history.
-    pub fn to_owned(&self, alloc: Global) -> Result<(Trace, Vec<Entry>), AllocError>
-        ensures { IfOk result (λ t. claim_of t.0 t.1.items ≡ self.now.claim) }
+    pub fn claim(&self) -> &TraceStore
+        ensures { result.now ≡ self.now.claim }
     {
-        self.store.to_owned(alloc)
+        &self.store
     }
 }

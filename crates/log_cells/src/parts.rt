@@ -1,6 +1,6 @@
 //! The part of a log on some bytes of the memory.
-ghost use Rattle.std.specs.Prelude.{◌≡◌, ◌≤◌, ℕ, IfOk, IfSome, IsTrue, Some, slice_get, length, map};
-ghost use Rattle.log_runs.specs.EventView.{event_of};
+ghost use Rattle.std.specs.Prelude.{◌≡◌, ◌≤◌, ℕ, IfOk, IfSome, IsTrue, List, Some, slice_get, length, map};
+ghost use Rattle.log_runs.specs.EventView.{EventView, event_of, part_event};
 ghost use Rattle.log_runs.specs.Runs.{Live, start};
 ghost use Rattle.log_cells.specs.Parts.{IsKept, NamesInside, AreKept, Holds};
 ghost use Rattle.log_cells.specs.Places.{ArePlaces};
@@ -9,26 +9,26 @@ use crate::cells::Cells;
 use crate::laws::a_part_has_a_run;
 use crate::names::{name_of, names_in};
 use crate::places::place_of;
-use log_runs::{Event, Log};
+use log_runs::{Event, Log, PartEvent};
 use seq_memory::{ALIGNMENT, Extent, MAX_SIZE};
 use std::alloc::{AllocError, Global};
 
-/// The event as the part has it.
-fn kept<'a>(event: Event<'a>, names: &[usize]) -> Event<'a>
-    ensures { IsKept names.now (event_of event.entry) (event_of result) }
+/// The event at place `a` of the whole log, as the part has it.
+fn kept(event: &Event<'_>, names: &[usize], a: usize) -> PartEvent
+    ensures { (es : List EventView) → slice_get es a ≡ Some (event_of event.now) → IsKept names.now (event_of event.now) (part_event es result) }
 {
     match event {
-        Event::Due { request } => match name_of(names, request) {
-            Some(request) => Event::Due { request },
-            None => Event::Free,
+        Event::Due { request } => match name_of(names, *request) {
+            Some(request) => PartEvent::Due { request },
+            None => PartEvent::Free,
         },
-        other => other,
+        Event::Sub { .. } | Event::Free => PartEvent::Whole(a),
     }
 }
 
 /// If it is a submission, all its bytes lie from `low` up to `high`.
-fn is_inside(event: Event<'_>, low: u64, high: u64) -> bool
-    ensures { IsTrue result → NamesInside low high (event_of event.entry) }
+fn is_inside(event: &Event<'_>, low: u64, high: u64) -> bool
+    ensures { IsTrue result → NamesInside low high (event_of event.now) }
 {
     match event {
         Event::Sub { op, .. } => place_of(op).is_inside(low, high),
@@ -36,32 +36,36 @@ fn is_inside(event: Event<'_>, low: u64, high: u64) -> bool
     }
 }
 
-/// The event with the name at that place.
-fn event_at<'a>(log: &Log<'a>, names: &[usize], at: usize) -> Option<Event<'a>>
-    ensures { IfSome result (λ e. (a : ℕ) × (slice_get names.now at ≡ Some a) × (slice_get log.now.events a ≡ Some (event_of e))) }
+/// The event with the name at that place, as the part has it; none if it is a request that isn't inside.
+fn event_at(log: &Log<'_>, names: &[usize], at: usize, low: u64, high: u64) -> Option<PartEvent>
+    ensures { IfSome result (λ p. (a : ℕ) × (e : EventView) × (slice_get names.now at ≡ Some a) × (slice_get log.now.events a ≡ Some e) ×
+        NamesInside low high e × IsKept names.now e (part_event log.now.events p)) }
 {
-    log.event(*names.get(at)?)
+    let a = *names.get(at)?;
+    let event = log.event(a)?;
+    if is_inside(&event, low, high) {
+        Some(kept(&event, names, a))
+    } else {
+        None
+    }
 }
 
 /// The events with these names; none if a request isn't inside.
-fn events_in<'a>(
+fn events_in(
     alloc: Global,
-    log: &Log<'a>,
+    log: &Log<'_>,
     names: &[usize],
     low: u64,
     high: u64,
-) -> Result<Option<Vec<Event<'a>>>, AllocError>
-    ensures { IfOk result (λ o. IfSome o (λ v. AreKept log.now.events names.now low high (map event_of v.items) (length names.now))) }
+) -> Result<Option<Vec<PartEvent>>, AllocError>
+    ensures { IfOk result (λ o. IfSome o (λ v. AreKept log.now.events names.now low high (map (part_event log.now.events) v.items) (length names.now))) }
 {
     let mut events = Vec::with_capacity(alloc, names.len())?;
     for at in 0..names.len() {
-        let Some(event) = event_at(log, names, at) else {
+        let Some(event) = event_at(log, names, at, low, high) else {
             return Ok(None);
         };
-        if !is_inside(event, low, high) {
-            return Ok(None);
-        }
-        events.push(kept(event, names))?;
+        events.push(event)?;
     }
     Ok(Some(events))
 }
@@ -126,8 +130,6 @@ pub fn part<'a>(
     let Some(events) = events_in(alloc, log, &names, low, high)? else {
         return Ok(None);
     };
-    Ok(Some(LogPart {
-        log: Log::new(extent, events),
-        names,
-    }))
+    let inner = log.part(alloc, extent, &events)?;
+    Ok(Some(LogPart { log: inner, names }))
 }

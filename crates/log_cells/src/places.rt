@@ -6,7 +6,7 @@ ghost use Rattle.log_cells.specs.Places.{ArePlaces, IsPlaceOf};
 
 use log_runs::{Event, Log};
 use std::alloc::{AllocError, Global};
-use tlp_core::Op;
+use tlp_core::OpRef;
 
 /// Some bytes, by their first address and their number.
 #[derive(Clone, Copy)]
@@ -34,7 +34,7 @@ impl Place {
     }
 }
 
-pub(crate) fn place_of(op: &Op) -> Place
+pub(crate) fn place_of(op: &OpRef<'_>) -> Place
     ensures from { result.from ≡ address_of op.now }
     ensures count { result.count ≡ count_of op.now }
 {
@@ -57,7 +57,7 @@ fn place_of_event(event: Event<'_>, places: &[Place]) -> Place
     ensures { IsPlaceOf (event_of event.entry) result }
 {
     match event {
-        Event::Sub { op, .. } => place_of(op),
+        Event::Sub { op, .. } => place_of(&op),
         Event::Due { request } => known(places, request),
         Event::Free => NOWHERE,
     }

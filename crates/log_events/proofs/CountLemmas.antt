@@ -1,11 +1,11 @@
 -- Counts after one record more.
 use Rattle.std.proofs.Common.{◌≡◌, ◌∙◌, ℕ, zero, suc, Bool, ◌+◌, ◌<◌, ◌≤◌, ◌++◌, ◌∷◌, [], List, Option, Some, length, take, set, get_or, replicate, refl, sym, ap, subst, inl, inr, arith, true, false, length-append}
-use Rattle.std.specs.Prelude.{slice_get, ◌||◌, ◌&&◌, ◌==◌}
+use Rattle.std.specs.Prelude.{None, slice_get, ◌||◌, ◌&&◌, ◌==◌}
 use Rattle.std.specs.List.{list_any}
 use Rattle.std.proofs.lemmas.Bool.{cases_eq, cases_lt, cases_Bool, eqb-true, eq-eqb, and_parts}
 use Rattle.std.proofs.lemmas.List.{length-set, get_or-set_same, get_or-set_other, get_or-replicate, get_or_past, length-replicate, take-take}
 use Rattle.std.proofs.lemmas.List.Folds.{list_any_more}
-use Rattle.std.proofs.lemmas.Option.{slice_get_read, slice_get_within, get_or_from_slice_get, same_Some}
+use Rattle.std.proofs.lemmas.Option.{slice_get_cases, slice_get_read, slice_get_within, get_or_from_slice_get, same_Some}
 use Rattle.tlp_core.specs.Ops.{Op}
 use Rattle.seq_memory.specs.Entries.{Reply}
 use Rattle.history_words.specs.Records.{Record}
@@ -279,5 +279,17 @@ formed_at rs n a l numbered right (records.Ans i k reply m) at (inr again) =
 pub all_formed : (totals : List ℕ) (marks : List Bool) (rs : List Record) (n : ℕ) → IsCounted totals marks rs n → AreFormed rs n
 all_formed totals marks rs n known = λ a l wrong. formed_at rs n a l known.numbered known.right wrong.0 wrong.1 wrong.2
 
-pub read_at : {X : Type 0} → (rs : List X) (a : ℕ) (r s : X) → a < length rs → r ≡ get_or rs a r → r ≡ s → slice_get rs a ≡ Some s
-read_at rs a r s within read e = slice_get_read rs (length rs) a r refl within read ∙ ap Some e
+-- the record at a place that there is isn't missing
+pub never_past : {X : Type 0} → (rs : List X) (a : ℕ) → a < length rs → slice_get rs a ≡ None → ⊥
+never_past [] a within none = omega (arith, within)
+never_past (r ∷ rs) zero within none = cc
+never_past (r ∷ rs) (suc a) within none = never_past rs a (omega (arith, within)) none
+
+-- none of the records passes, if none before does, and not the one there
+pub none_more : {X : Type 0} → (p : X → Bool) (rs : List X) (a : ℕ) (found : Bool) → a < length rs → list_any p (take a rs) ≡ false → ((r : X) → slice_get rs a ≡ Some r → found ≡ p r) → found ≡ false → list_any p (take (a + 1) rs) ≡ false
+none_more p rs a found within before value absent = elim (slice_get_cases rs a).1 [
+  | inl here ↦
+      let x = here.0 in
+      list_any_more p rs a x within ∙ ap (λ b. b || p (get_or rs a x)) before ∙ ap p here.3 ∙ sym (value x here.2) ∙ absent
+  | inr past ↦ absurd (omega (arith, within, past.0))
+]

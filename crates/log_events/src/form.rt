@@ -4,6 +4,7 @@ ghost use Rattle.std.specs.List.{list_any};
 ghost use Rattle.tlp_core.specs.Ops.{Op};
 ghost use Rattle.tlp_core.specs.Operation.{is_posted};
 ghost use Rattle.seq_memory.specs.Entries.{Reply};
+ghost use Rattle.history_words.specs.Records.{Record};
 ghost use Rattle.history_words.specs.declared.record.RecordOf.TheVariants as kinds;
 ghost use Rattle.history_words.specs.Trace.{IsNumbered, answers_to};
 ghost use Rattle.log_runs.specs.Tasks.{IsMisformed};
@@ -15,10 +16,10 @@ ghost use Rattle.log_events.specs.Joined.{AreJoined, ArePartners};
 use crate::counts::Counts;
 use crate::events::submission_at;
 use crate::partners::Partners;
-use history_words::Record;
+use history_words::RecordRef;
 use log_runs::laws::{numbers_name_submissions, submissions_grow_by_records};
 use std::alloc::{AllocError, Global};
-use tlp_core::Op;
+use trace_store::Records;
 
 /// Which records belong together, as far as the form is right.
 #[derive(Drop)]
@@ -61,26 +62,37 @@ fn place(rows: &[Vec<usize>], requester: u8, number: u32) -> Option<usize> {
 }
 
 /// The record submits the request.
-fn submits(item: &Record, requester: u8, number: u32) -> bool
+fn submits(item: &RecordRef<'_>, requester: u8, number: u32) -> bool
     ensures { result ≡ spec.submits requester number item.now }
 {
     match item {
-        Record::Sub {
+        RecordRef::Sub {
             requester: who,
             number: own,
             ..
         } => *who == requester && *own == number,
-        Record::Ans { .. } => false,
+        RecordRef::Ans { .. } => false,
+    }
+}
+
+/// The record at the place submits the request.
+fn submits_at(records: &Records<'_>, at: usize, requester: u8, number: u32) -> bool
+    ensures some { IsTrue result → (op : Op) × (n : ℕ) × (slice_get records.now at ≡ Some (kinds.Sub requester number op n)) }
+    ensures value { (r : Record) → slice_get records.now at ≡ Some r → result ≡ spec.submits requester number r }
+{
+    match records.get(at) {
+        Some(item) => submits(&item, requester, number),
+        None => false,
     }
 }
 
 /// The place of the first of the records that submits the request.
-fn first_submission(records: &[Record], requester: u8, number: u32) -> Option<usize>
+fn first_submission(records: &Records<'_>, requester: u8, number: u32) -> Option<usize>
     ensures some { IfSome result (λ b. (op : Op) × (n : ℕ) × (slice_get records.now b ≡ Some (kinds.Sub requester number op n))) }
     ensures none { IfNone result (list_any (spec.submits requester number) records.now ≡ false) }
 {
     for at in 0..records.len() {
-        if submits(&records[at], requester, number) {
+        if submits_at(records, at, requester, number) {
             return Some(at);
         }
     }
@@ -88,7 +100,12 @@ fn first_submission(records: &[Record], requester: u8, number: u32) -> Option<us
 }
 
 /// The place of the record that submits the request: the guess, if it is right, or the first.
-fn place_of(records: &[Record], guess: Option<usize>, requester: u8, number: u32) -> Option<usize>
+fn place_of(
+    records: &Records<'_>,
+    guess: Option<usize>,
+    requester: u8,
+    number: u32,
+) -> Option<usize>
     ensures some { IfSome result (λ b. (op : Op) × (n : ℕ) × (slice_get records.now b ≡ Some (kinds.Sub requester number op n))) }
     ensures none { IfNone result (list_any (spec.submits requester number) records.now ≡ false) }
 {
@@ -99,11 +116,11 @@ fn place_of(records: &[Record], guess: Option<usize>, requester: u8, number: u32
 }
 
 /// The request that is submitted at that place is posted.
-fn is_posted_at(records: &[Record], at: usize) -> bool
+fn is_posted_at(records: &Records<'_>, at: usize) -> bool
     ensures { (i k n : ℕ) (op : Op) → slice_get records.now at ≡ Some (kinds.Sub i k op n) → result ≡ is_posted op }
 {
     match records.get(at) {
-        Some(Record::Sub { op, .. }) => op.is_posted(),
+        Some(RecordRef::Sub { op, .. }) => op.is_posted(),
         _ => false,
     }
 }
@@ -126,6 +143,7 @@ impl Tables {
     fn submit(&mut self, requester: u8, at: usize) -> Result<(), AllocError>
         requires { get_or self.old.counts requester 0 < 18446744073709551615 }
         ensures counts { OnOk result (self.new.counts ≡ set self.old.counts requester (get_or self.old.counts requester 0 + 1)) }
+        ensures requester { requester < 256 }
         ensures partners { OnOk result (self.new.partners ≡ self.old.partners) }
         ensures answered { OnOk result (self.new.answered.items ≡ self.old.answered.items) }
     {
@@ -158,7 +176,7 @@ impl Tables {
     }
 
     /// Where the request is submitted, if behind these records an answer to it is right.
-    fn open_at(&self, records: &[Record], requester: u8, number: u32) -> Option<usize>
+    fn open_at(&self, records: &Records<'_>, requester: u8, number: u32) -> Option<usize>
         requires numbered { IsNumbered records.now }
         requires answered { AreMarks self.now.answered.items records.now }
         ensures some { IfSome result (IsOpen records.now requester number) }
@@ -179,7 +197,7 @@ impl Tables {
     }
 
     /// Takes the next record, if its form is right.
-    fn add(&mut self, records: &[Record], at: usize) -> Result<bool, AllocError>
+    fn add(&mut self, records: &Records<'_>, at: usize) -> Result<bool, AllocError>
         requires within { at < length records.now }
         requires known { IsCounted self.old.counts self.old.answered.items records.now at }
         requires joined { AreJoined self.old.partners records.now at }
@@ -190,27 +208,32 @@ impl Tables {
     {
         submissions_grow_by_records();
         numbers_name_submissions();
-        match &records[at] {
-            Record::Sub {
-                requester,
-                number,
-                ..
-            } => {
-                if self.counts.of(*requester) != *number as usize {
+        match records.get(at) {
+            Some(
+                RecordRef::Sub {
+                    requester,
+                    number,
+                    ..
+                },
+            ) => {
+                if self.counts.of(requester) != number as usize {
                     return Ok(false);
                 }
-                self.submit(*requester, at)?;
+                self.submit(requester, at)?;
             }
-            Record::Ans {
-                requester,
-                number,
-                ..
-            } => {
-                let Some(submission) = self.open_at(&records[..at], *requester, *number) else {
+            Some(
+                RecordRef::Ans {
+                    requester,
+                    number,
+                    ..
+                },
+            ) => {
+                let Some(submission) = self.open_at(&records.first(at), requester, number) else {
                     return Ok(false);
                 };
                 self.answer(submission, at);
             }
+            None => {}
         }
         Ok(true)
     }
@@ -219,7 +242,7 @@ impl Tables {
 /// Joins submissions and answers, up to the first record whose form is wrong: a submission that
 /// hasn't its requester's next number, an answer to what wasn't submitted before or to a posted
 /// write, or a second answer.
-pub fn form_of(alloc: Global, records: &[Record]) -> Result<Form, AllocError>
+pub fn form_of(alloc: Global, records: &Records<'_>) -> Result<Form, AllocError>
     ensures wrong { IfOk result (λ f. IfSome f.flaw (MisformedAt records.now)) }
     ensures first { IfOk result (λ f. IfSome f.flaw (AreFormed records.now)) }
     ensures formed { IfOk result (λ f. IfNone f.flaw (AreFormed records.now (length records.now))) }

@@ -9,6 +9,6 @@ mod events;
 mod form;
 mod partners;
 
-pub use events::{log_of, reply_at};
+pub use events::{answer_at, log_of};
 pub use form::{Form, form_of};
 pub use partners::Partners;

@@ -1,5 +1,5 @@
 -- Where the pieces of each record end.
-use Rattle.std.proofs.Common.{◌≡◌, ◌∙◌, ℕ, suc, zero, ◌+◌, ◌<◌, ◌++◌, ◌∷◌, [], List, Option, Some, length, slice_get, take, get_or, sym, ap, subst, arith, length-append}
+use Rattle.std.proofs.Common.{◌≡◌, ◌∙◌, ℕ, suc, zero, ◌+◌, ◌<◌, ◌++◌, ◌∷◌, [], List, Some, length, slice_get, take, get_or, sym, ap, arith, length-append}
 use Rattle.std.specs.Prelude.{◌==◌}
 use Rattle.tlp_core.specs.Ops.{Op}
 use Rattle.seq_memory.specs.Entries.{Reply}
@@ -12,8 +12,8 @@ use Rattle.log_runs.specs.Explainable.{prefix}
 use Rattle.log_pieces.specs.declared.Granularity.{Granularity}
 use Rattle.log_pieces.specs.Pieces.{pieces}
 use Rattle.op_pieces.specs.Pieces.{parts}
-use Rattle.log_pieces.specs.InPieces.{in_pieces, cut_log, width, numbered, next_number, answers_by, split, split_all}
-use Rattle.log_pieces.specs.RowView.{RowView, AreRows, row_of}
+use Rattle.log_pieces.specs.InPieces.{in_pieces, cut_log, width, next_number, answers_by, split, split_all}
+use Rattle.log_pieces.specs.RowView.{RowView, AreRows}
 use Rattle.log_pieces.proofs.PieceLemmas.{many_parts}
 use Rattle.log_pieces.proofs.RowLemmas.{row_there, split_more}
 use Rattle.log_pieces.proofs.Shapes.{length_subs, length_answers}

@@ -1,6 +1,6 @@
 -- Prefixes of a log and of its pieces.
 use Rattle.std.proofs.Common.{◌≡◌, ◌∙◌, ℕ, zero, suc, ◌+◌, ◌<◌, ◌≤◌, List, [], length, take, sym, ap, subst, arith, Result, Ok, Err, IfOk}
-use Rattle.std.proofs.lemmas.List.{length-take, length-take-le}
+use Rattle.std.proofs.lemmas.List.{length-take-le}
 use Rattle.std.specs.declared.alloc.AllocError.{AllocError}
 use Rattle.seq_memory.specs.Limits.{Extent}
 use Rattle.history_words.specs.Records.{Record}

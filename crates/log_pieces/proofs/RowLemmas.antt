@@ -5,12 +5,18 @@ use Rattle.std.proofs.lemmas.Option.{same_Some, slice_get-get_or}
 use Rattle.std.proofs.lemmas.List.Elements.{filter_map-append}
 use Rattle.std.proofs.lemmas.Bool.{cases_eq, eq-eqb, ne_eqb}
 use Rattle.std.proofs.lemmas.List.{append-nil, append_assoc, length-replicate, length-set, take_at, take-append-drop, take-append-le}
+use Rattle.std.proofs.Math.Seq.{take-length}
 use Rattle.seq_memory.specs.Entries.{Reply}
+use Rattle.seq_memory.specs.Limits.{Extent}
 use Rattle.tlp_core.specs.Ops.{Op}
 use Rattle.history_words.specs.Records.{Record}
 use Rattle.history_words.specs.declared.record.RecordOf.TheVariants as records
 use Rattle.history_words.specs.Trace.{submissions, submission}
-use Rattle.log_pieces.specs.InPieces.{width, numbered, subs, answers_by, next_number, split, split_all}
+use Rattle.history_words.specs.TraceView.{TraceView, observed}
+use Rattle.log_runs.specs.Explainable.{prefix}
+use Rattle.log_runs.proofs.Lists.{take_more_at}
+use Rattle.log_pieces.specs.Pieces.{pieces}
+use Rattle.log_pieces.specs.InPieces.{width, numbered, subs, answers_by, next_number, split, split_all, with_more, cut_log}
 use Rattle.log_pieces.specs.RowView.{RowView, AreRows, row_of}
 
 pub width_more : (p : Op → List Op) (ops : List Op) (op : Op) → width p (ops ++ op ∷ []) ≡ width p ops + length (p op)
@@ -39,6 +45,24 @@ split_more p before [] r = append-nil (split p before r) ∙ ap (λ (b : List Re
 split_more p before (q ∷ rs) r =
     ap (λ xs. split p before q ++ xs) (split_more p (before ++ q ∷ []) rs r ∙ ap (λ (b : List Record). split_all p (before ++ q ∷ []) rs ++ split p b r) (append_assoc before (q ∷ []) rs))
     ∙ sym (append_assoc (split p before q) (split_all p (before ++ q ∷ []) rs) (split p (before ++ q ∷ rs) r))
+
+-- ---- a log in pieces, one record after another
+
+pub pieces_none : (bytes : ℕ) (x : Extent) (t made : TraceView) → x ≡ observed t → made ≡ record { base = x.base; size = x.size; block = x.block; records = [] }
+    → made ≡ cut_log bytes (prefix 0 t)
+pieces_none bytes x t made is none = none ∙ ap (λ (y : Extent). record { base = y.base; size = y.size; block = y.block; records = [] }) is
+
+pub pieces_more : (bytes i : ℕ) (x : Extent) (rs : List Record) (r : Record) (t : TraceView) → x ≡ observed t → rs ≡ t.records → slice_get rs i ≡ Some r
+    → with_more (cut_log bytes (prefix i t)) (split (pieces bytes x) (take i rs) r) ≡ cut_log bytes (prefix (i + 1) t)
+pieces_more bytes i x rs r t is same at =
+    let p = pieces bytes (observed t) in
+    ap (λ (y : Extent). with_more (cut_log bytes (prefix i t)) (split (pieces bytes y) (take i rs) r)) is
+    ∙ ap (λ (qs : List Record). with_more (cut_log bytes (prefix i t)) (split p (take i qs) r)) same
+    ∙ ap (λ (qs : List Record). record t { records = qs })
+    (sym (split_more p [] (take i t.records) r) ∙ ap (split_all p []) (sym (take_more_at t.records i r (ap (λ (qs : List Record). slice_get qs i) (sym same) ∙ at))))
+
+pub pieces_all : (bytes n : ℕ) (t : TraceView) → n ≡ length t.records → cut_log bytes (prefix n t) ≡ cut_log bytes t
+pieces_all bytes n t all = ap (λ (qs : List Record). cut_log bytes (record t { records = qs })) (ap (λ k. take k t.records) all ∙ take-length t.records)
 
 -- ---- rows
 
@@ -102,17 +126,17 @@ row_there p rows rs i row d known small is =
     let inside : i < length rows = omega (arith, known.len, small) in
     same_Some row (row_of p (submissions rs i)) (ap Some is ∙ sym (slice_get-get_or rows i d inside) ∙ known.at i small)
 
-pub sub_records : (p : Op → List Op) (rows : List RowView) (rs : List Record) (i k n : ℕ) (op : Op) (row d : RowView) (item : Record) (ops : List Op) (old new : List Record)
+pub sub_records : (p : Op → List Op) (rows : List RowView) (rs : List Record) (i k n : ℕ) (op : Op) (row d : RowView) (item : Record) (ops : List Op) (old new : TraceView)
     → AreRows p rows rs → i < 256 → row ≡ get_or rows i d → item ≡ records.Sub i k op n → ops ≡ p op
-    → new ≡ old ++ subs i (next_number (k == length row.requests) row.next) n ops → new ≡ old ++ split p rs item
+    → new ≡ with_more old (subs i (next_number (k == length row.requests) row.next) n ops) → new ≡ with_more old (split p rs item)
 sub_records p rows rs i k n op row d item ops old new known small at is all grown =
     let there = row_there p rows rs i row d known small at in
     let long : length row.requests ≡ length (submissions rs i) = ap (λ (r : RowView). length r.requests) there ∙ length_numbered p 0 (submissions rs i) in
     let next : row.next ≡ width p (submissions rs i) = ap (λ (r : RowView). r.next) there in
-    grown ∙ ap (λ l. old ++ subs i (next_number (k == l) row.next) n ops) long
-    ∙ ap (λ l. old ++ subs i (next_number (k == length (submissions rs i)) l) n ops) next
-    ∙ ap (λ (xs : List Op). old ++ subs i (next_number (k == length (submissions rs i)) (width p (submissions rs i))) n xs) all
-    ∙ ap (λ (r : Record). old ++ split p rs r) (sym is)
+    grown ∙ ap (λ l. with_more old (subs i (next_number (k == l) row.next) n ops)) long
+    ∙ ap (λ l. with_more old (subs i (next_number (k == length (submissions rs i)) l) n ops)) next
+    ∙ ap (λ (xs : List Op). with_more old (subs i (next_number (k == length (submissions rs i)) (width p (submissions rs i))) n xs)) all
+    ∙ ap (λ (r : Record). with_more old (split p rs r)) (sym is)
 
 pub sub_rows : (p : Op → List Op) (rows : List RowView) (rs : List Record) (i k n : ℕ) (op : Op) (row d new : RowView) (item : Record) (ops : List Op)
     → AreRows p rows rs → i < 256 → row ≡ get_or rows i d → item ≡ records.Sub i k op n → ops ≡ p op
@@ -124,12 +148,12 @@ sub_rows p rows rs i k n op row d new item ops known small at is all grown =
     ∙ ap (λ (xs : List Op). record { next = width p (submissions rs i) + length xs; requests = numbered p 0 (submissions rs i) ++ (width p (submissions rs i), op) ∷ [] }) all in
     subst (λ (r : Record). AreRows p (set rows i new) (rs ++ r ∷ [])) (sym is) (rows_sub p rows rs i k n op new known small made)
 
-pub answer_records : (p : Op → List Op) (rows : List RowView) (rs : List Record) (i k n : ℕ) (reply : Reply) (row d : RowView) (item : Record) (old new : List Record)
+pub answer_records : (p : Op → List Op) (rows : List RowView) (rs : List Record) (i k n : ℕ) (reply : Reply) (row d : RowView) (item : Record) (old new : TraceView)
     → AreRows p rows rs → i < 256 → row ≡ get_or rows i d → item ≡ records.Ans i k reply n
-    → new ≡ old ++ answers_by p (slice_get row.requests k) i row.next n reply → new ≡ old ++ split p rs item
+    → new ≡ with_more old (answers_by p (slice_get row.requests k) i row.next n reply) → new ≡ with_more old (split p rs item)
 answer_records p rows rs i k n reply row d item old new known small at is grown =
     let there = row_there p rows rs i row d known small at in
-    grown ∙ ap (λ (r : RowView). old ++ answers_by p (slice_get r.requests k) i r.next n reply) there ∙ ap (λ (r : Record). old ++ split p rs r) (sym is)
+    grown ∙ ap (λ (r : RowView). with_more old (answers_by p (slice_get r.requests k) i r.next n reply)) there ∙ ap (λ (r : Record). with_more old (split p rs r)) (sym is)
 
 pub answer_rows : (p : Op → List Op) (rows : List RowView) (rs : List Record) (i k n : ℕ) (reply : Reply) (item : Record) → AreRows p rows rs → item ≡ records.Ans i k reply n → AreRows p rows (rs ++ item ∷ [])
 answer_rows p rows rs i k n reply item known is = subst (λ (r : Record). AreRows p rows (rs ++ r ∷ [])) (sym is) (rows_answer p rows rs i k n reply known)

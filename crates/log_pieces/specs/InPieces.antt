@@ -56,6 +56,10 @@ abbrev pub split_all : (Op → List Op) → List Record → List Record → List
 split_all p before [] = []
 split_all p before (r ∷ rs) = split p before r ++ split_all p (before ++ r ∷ []) rs
 
+-- the log with these records behind its own
+abbrev pub with_more : TraceView → List Record → TraceView
+with_more t rs = record t { records = t.records ++ rs }
+
 -- a log in pieces of so many bytes
 abbrev pub cut_log : ℕ → TraceView → TraceView
 cut_log bytes t = record t { records = split_all (pieces bytes (observed t)) [] t.records }

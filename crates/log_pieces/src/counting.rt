@@ -11,21 +11,22 @@ use crate::Granularity;
 use crate::cutting::Splitter;
 use crate::rows::{Row, rows};
 use crate::splitting::bytes_of;
-use history_words::{Record, Trace};
+use history_words::RecordRef;
 use log_runs::laws::prefix_is_explainable;
 use std::alloc::{AllocError, Global};
-use tlp_core::Op;
+use tlp_core::OpRef;
+use trace_store::{RecordStore, Records};
 
 /// So many pieces of a submission are counted, which its requester's row gets. Fails where its requester has no
 /// numbers left for them.
 fn count_submission<'a>(
     row: &mut Row<'a>,
     number: u32,
-    op: &'a Op,
+    op: OpRef<'a>,
     count: usize,
 ) -> Result<usize, AllocError>
     ensures count { IfOk result (λ all. all ≡ count) }
-    ensures row { OnOk result (row.new ≡ record { next = row.old.next + count; requests = row.old.requests ++ (row.old.next, op.now) ∷ [] }) }
+    ensures row { OnOk result (row.new ≡ record { next = row.old.next + count; requests = row.old.requests ++ (row.old.next, op.entry) ∷ [] }) }
 {
     let Some(first) = row.start(number) else {
         return Err(AllocError);
@@ -46,7 +47,7 @@ fn count_answer(row: &Row<'_>, cut: &Splitter, number: u32) -> usize
 {
     match row.request(number) {
         None => 1,
-        Some(request) => cut.count(request.op),
+        Some(request) => cut.count(&request.op),
     }
 }
 
@@ -54,32 +55,32 @@ fn count_answer(row: &Row<'_>, cut: &Splitter, number: u32) -> usize
 fn count_record<'a>(
     rows: &mut [Row<'a>],
     cut: &Splitter,
-    item: &'a Record,
+    item: RecordRef<'a>,
 ) -> Result<usize, AllocError>
     requires len { length rows.old ≡ 256 }
     requires some { 4 ≤ cut.now.bytes }
     requires few { cut.now.bytes ≤ 64 }
     ensures count { IfOk result (λ count. (before : List Record) → AreRows (pieces cut.now.bytes cut.now.extent) rows.old before →
-        count ≡ length (spec.split (pieces cut.now.bytes cut.now.extent) before item.now)) }
+        count ≡ length (spec.split (pieces cut.now.bytes cut.now.extent) before item.entry)) }
     ensures rows { OnOk result ((before : List Record) → AreRows (pieces cut.now.bytes cut.now.extent) rows.old before →
-        AreRows (pieces cut.now.bytes cut.now.extent) rows.new (before ++ item.now ∷ [])) }
+        AreRows (pieces cut.now.bytes cut.now.extent) rows.new (before ++ item.entry ∷ [])) }
     ensures len { length rows.new ≡ 256 }
 {
     match item {
-        Record::Sub {
+        RecordRef::Sub {
             requester,
             number,
             op,
             ..
         } => {
-            let pieces = cut.count(op);
-            count_submission(&mut rows[usize::from(*requester)], *number, op, pieces)
+            let pieces = cut.count(&op);
+            count_submission(&mut rows[usize::from(requester)], number, op, pieces)
         }
-        Record::Ans {
+        RecordRef::Ans {
             requester,
             number,
             ..
-        } => Ok(count_answer(&rows[usize::from(*requester)], cut, *number)),
+        } => Ok(count_answer(&rows[usize::from(requester)], cut, number)),
     }
 }
 
@@ -97,7 +98,7 @@ fn sum(count: usize, more: usize) -> Result<usize, AllocError>
 fn reach(
     alloc: Global,
     cut: &Splitter,
-    records: &[Record],
+    records: &Records<'_>,
     count: usize,
 ) -> Result<usize, AllocError>
     requires some { 4 ≤ cut.now.bytes }
@@ -113,7 +114,10 @@ fn reach(
         if count <= so_far {
             return Ok(at);
         }
-        let more = count_record(&mut table, cut, &records[at])?;
+        let Some(item) = records.get(at) else {
+            unreachable!()
+        };
+        let more = count_record(&mut table, cut, item)?;
         let all = sum(so_far, more)?;
         so_far = all;
     }
@@ -121,7 +125,7 @@ fn reach(
 }
 
 /// How many pieces the records up to each one have.
-fn ends(alloc: Global, cut: &Splitter, records: &[Record]) -> Result<Vec<usize>, AllocError>
+fn ends(alloc: Global, cut: &Splitter, records: &Records<'_>) -> Result<Vec<usize>, AllocError>
     requires some { 4 ≤ cut.now.bytes }
     requires few { cut.now.bytes ≤ 64 }
     ensures len { IfOk result (λ v. length v.items ≡ length records.now) }
@@ -131,7 +135,10 @@ fn ends(alloc: Global, cut: &Splitter, records: &[Record]) -> Result<Vec<usize>,
     let mut so_far = 0;
     let mut ends = Vec::new(alloc);
     let mut table = rows(alloc)?;
-    for item in records {
+    for at in 0..records.len() {
+        let Some(item) = records.get(at) else {
+            unreachable!()
+        };
         let more = count_record(&mut table, cut, item)?;
         let all = sum(so_far, more)?;
         so_far = all;
@@ -144,21 +151,21 @@ fn ends(alloc: Global, cut: &Splitter, records: &[Record]) -> Result<Vec<usize>,
 /// each record is one. Fails where [`in_pieces`] does.
 pub fn ends_of(
     alloc: Global,
-    trace: &Trace,
+    log: &RecordStore,
     granularity: Granularity,
 ) -> Result<Option<Vec<usize>>, AllocError>
-    ensures len { IfOk result (λ o. IfSome o (λ v. length v.items ≡ length trace.now.records)) }
-    ensures each { IfOk result (λ o. IfSome o (λ v. (a : ℕ) → a < length trace.now.records →
-        slice_get v.items a ≡ Some (length (spec.in_pieces granularity (prefix (a + 1) trace.now)).records))) }
+    ensures len { IfOk result (λ o. IfSome o (λ v. length v.items ≡ length log.now.records)) }
+    ensures each { IfOk result (λ o. IfSome o (λ v. (a : ℕ) → a < length log.now.records →
+        slice_get v.items a ≡ Some (length (spec.in_pieces granularity (prefix (a + 1) log.now)).records))) }
     ensures whole { IfOk result (λ o. IfNone o (granularity ≡ Granularity.Whole)) }
 {
     match bytes_of(granularity) {
         Some(bytes) => {
             let cut = Splitter {
                 bytes,
-                extent: trace.extent,
+                extent: log.extent(),
             };
-            Ok(Some(ends(alloc, &cut, &trace.records)?))
+            Ok(Some(ends(alloc, &cut, &log.records())?))
         }
         None => Ok(None),
     }
@@ -168,25 +175,25 @@ pub fn ends_of(
 /// If those have no history, these have none in pieces.
 pub fn records_of(
     alloc: Global,
-    trace: &Trace,
+    log: &RecordStore,
     granularity: Granularity,
     count: usize,
 ) -> Result<usize, AllocError>
-    requires { count ≤ length (spec.in_pieces granularity trace.now).records }
-    ensures within { IfOk result (λ n. n ≤ length trace.now.records) }
-    ensures reaches { IfOk result (λ n. count ≤ length (spec.in_pieces granularity (prefix n trace.now)).records) }
-    ensures least { IfOk result (λ n. (m : ℕ) → m < n → length (spec.in_pieces granularity (prefix m trace.now)).records < count) }
-    ensures unexplained { IfOk result (λ n. (IsExplainable (prefix count (spec.in_pieces granularity trace.now)) → ⊥) →
-        spec.IsExplainableIn granularity (prefix n trace.now) → ⊥) }
+    requires { count ≤ length (spec.in_pieces granularity log.now).records }
+    ensures within { IfOk result (λ n. n ≤ length log.now.records) }
+    ensures reaches { IfOk result (λ n. count ≤ length (spec.in_pieces granularity (prefix n log.now)).records) }
+    ensures least { IfOk result (λ n. (m : ℕ) → m < n → length (spec.in_pieces granularity (prefix m log.now)).records < count) }
+    ensures unexplained { IfOk result (λ n. (IsExplainable (prefix count (spec.in_pieces granularity log.now)) → ⊥) →
+        spec.IsExplainableIn granularity (prefix n log.now) → ⊥) }
 {
     prefix_is_explainable();
     match bytes_of(granularity) {
         Some(bytes) => {
             let cut = Splitter {
                 bytes,
-                extent: trace.extent,
+                extent: log.extent(),
             };
-            reach(alloc, &cut, &trace.records, count)
+            reach(alloc, &cut, &log.records(), count)
         }
         None => Ok(count),
     }

@@ -5,11 +5,11 @@ ghost use Rattle.tlp_core.specs.Operation.{address_of, count_of};
 ghost use Rattle.op_pieces.specs.Pieces as spec;
 ghost use Rattle.log_pieces.specs.Pieces.{pieces, count_if_served};
 
-use op_pieces::{back, cut, dw_of, dw_to, front};
-use search_undo::refusal_lent;
+use op_pieces::{back, cut, dw_of, dw_to, front, whole};
+use search_undo::refusal;
 use seq_memory::Extent;
 use std::alloc::{AllocError, Global};
-use tlp_core::{Op, OpRef, copy_of};
+use tlp_core::OpRef;
 
 /// Pieces of at most so many bytes, of accesses to a memory of that extent.
 #[derive(Drop)]
@@ -22,14 +22,14 @@ fn is_served(extent: Extent, op: &OpRef<'_>) -> bool
     ensures value { result ≡ spec.is_served extent op.now }
     ensures fits { IsTrue result → address_of op.now + count_of op.now ≤ 2 ^ 64 }
 {
-    refusal_lent(extent.base(), extent.block(), extent.size(), op).is_none()
+    refusal(extent.base(), extent.block(), extent.size(), op).is_none()
 }
 
-fn are_served(extent: Extent, ops: &[Op]) -> bool
+fn are_served(extent: Extent, ops: &[OpRef<'_>]) -> bool
     ensures { result ≡ list_all (spec.is_served extent) ops.now }
 {
     for op in ops {
-        if !is_served(extent, &op.lend()) {
+        if !is_served(extent, op) {
             return false;
         }
     }
@@ -37,11 +37,11 @@ fn are_served(extent: Extent, ops: &[Op]) -> bool
 }
 
 /// The operation alone.
-fn whole(alloc: Global, op: &Op) -> Result<Vec<Op>, AllocError>
+fn alone<'a>(alloc: Global, op: &OpRef<'a>) -> Result<Vec<OpRef<'a>>, AllocError>
     ensures { IfOk result (λ v. v.items ≡ op.now ∷ []) }
 {
     let mut pieces = Vec::new(alloc);
-    pieces.push(copy_of(op))?;
+    pieces.push(whole(op))?;
     Ok(pieces)
 }
 
@@ -57,13 +57,13 @@ fn with_last(extent: Extent, before: u16, last: &OpRef<'_>) -> Option<usize>
 }
 
 /// How many pieces [`cut`] makes, if each is served. They are not kept.
-fn count_served(extent: Extent, bytes: u64, op: &Op) -> Option<usize>
+fn count_served(extent: Extent, bytes: u64, op: &OpRef<'_>) -> Option<usize>
     requires some { 4 ≤ bytes }
     requires few { bytes ≤ 128 }
     requires fits { address_of op.now + count_of op.now ≤ 2 ^ 64 }
     ensures { result ≡ count_if_served extent (spec.cut bytes (spec.dw_of op.now) op.now) }
 {
-    let mut rest = op.lend();
+    let mut rest = whole(op);
     let all = dw_of(&rest);
     for turn in 0..all {
         let dw = dw_to(bytes, rest.address());
@@ -80,28 +80,32 @@ fn count_served(extent: Extent, bytes: u64, op: &Op) -> Option<usize>
 
 impl Splitter {
     /// The pieces of an operation.
-    pub(crate) fn pieces(&self, alloc: Global, op: &Op) -> Result<Vec<Op>, AllocError>
+    pub(crate) fn pieces<'a>(
+        &self,
+        alloc: Global,
+        op: &OpRef<'a>,
+    ) -> Result<Vec<OpRef<'a>>, AllocError>
         requires some { 4 ≤ self.now.bytes }
         requires few { self.now.bytes ≤ 64 }
         ensures { IfOk result (λ v. v.items ≡ pieces self.now.bytes self.now.extent op.now) }
     {
-        if !is_served(self.extent, &op.lend()) {
-            return whole(alloc, op);
+        if !is_served(self.extent, op) {
+            return alone(alloc, op);
         }
         let pieces = cut(alloc, self.bytes, op)?;
         if are_served(self.extent, &pieces) {
             return Ok(pieces);
         }
-        whole(alloc, op)
+        alone(alloc, op)
     }
 
     /// How many pieces an operation has.
-    pub(crate) fn count(&self, op: &Op) -> usize
+    pub(crate) fn count(&self, op: &OpRef<'_>) -> usize
         requires some { 4 ≤ self.now.bytes }
         requires few { self.now.bytes ≤ 64 }
         ensures { result ≡ length (pieces self.now.bytes self.now.extent op.now) }
     {
-        if !is_served(self.extent, &op.lend()) {
+        if !is_served(self.extent, op) {
             return 1;
         }
         match count_served(self.extent, self.bytes, op) {

@@ -2,8 +2,8 @@
 ghost use Rattle.std.specs.Prelude.{◌≡◌, min};
 ghost use Rattle.op_pieces.specs.Pieces as spec;
 
-use seq_memory::Reply;
-use tlp_core::payload_of;
+use seq_memory::ReplyRef;
+use tlp_core::PayloadRef;
 
 /// The lesser of the two.
 fn within(count: usize, all: usize) -> usize
@@ -13,31 +13,33 @@ fn within(count: usize, all: usize) -> usize
 }
 
 /// The first so many bytes of data, or else the reply.
-pub(crate) fn front_of(count: usize, reply: &Reply) -> Reply
+pub(crate) fn front_of<'a>(count: usize, reply: &ReplyRef<'a>) -> ReplyRef<'a>
     ensures { result ≡ spec.front_of count reply.now }
 {
     match reply {
-        Reply::Data(bytes) => {
+        ReplyRef::Data(bytes) => {
+            let bytes = bytes.as_slice();
             let end = within(count, bytes.len());
-            Reply::Data(payload_of(&bytes.as_slice()[..end]))
+            ReplyRef::Data(PayloadRef::new(&bytes[..end]))
         }
-        Reply::Done => Reply::Done,
-        Reply::Unsupported => Reply::Unsupported,
-        Reply::Aborted => Reply::Aborted,
+        ReplyRef::Done => ReplyRef::Done,
+        ReplyRef::Unsupported => ReplyRef::Unsupported,
+        ReplyRef::Aborted => ReplyRef::Aborted,
     }
 }
 
 /// All but the first so many bytes of data, or else the reply.
-pub(crate) fn back_of(count: usize, reply: &Reply) -> Reply
+pub(crate) fn back_of<'a>(count: usize, reply: &ReplyRef<'a>) -> ReplyRef<'a>
     ensures { result ≡ spec.back_of count reply.now }
 {
     match reply {
-        Reply::Data(bytes) => {
+        ReplyRef::Data(bytes) => {
+            let bytes = bytes.as_slice();
             let end = within(count, bytes.len());
-            Reply::Data(payload_of(&bytes.as_slice()[end..]))
+            ReplyRef::Data(PayloadRef::new(&bytes[end..]))
         }
-        Reply::Done => Reply::Done,
-        Reply::Unsupported => Reply::Unsupported,
-        Reply::Aborted => Reply::Aborted,
+        ReplyRef::Done => ReplyRef::Done,
+        ReplyRef::Unsupported => ReplyRef::Unsupported,
+        ReplyRef::Aborted => ReplyRef::Aborted,
     }
 }

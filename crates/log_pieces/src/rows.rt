@@ -4,13 +4,13 @@ ghost use Rattle.log_pieces.specs.InPieces.{next_number};
 
 use std::alloc::{AllocError, Global};
 use std::marker::Model;
-use tlp_core::Op;
+use tlp_core::OpRef;
 
 /// A request, and the number of its first piece.
-#[derive(Clone, Copy)]
+#[derive(Drop)]
 pub(crate) struct Request<'a> {
     pub(crate) number: u32,
-    pub(crate) op: &'a Op,
+    pub(crate) op: OpRef<'a>,
 }
 
 /// What one requester has submitted.
@@ -26,7 +26,7 @@ impl<'a> Model for Row<'a> {
 
     ghost Value = { RowView };
 
-    ghost view = { λ m. record { next = m.next; requests = map (λ r. (r.number, r.op.now)) m.requests.items } };
+    ghost view = { λ m. record { next = m.next; requests = map (λ r. (r.number, r.op)) m.requests.items } };
 }
 
 impl<'a> Row<'a> {
@@ -57,15 +57,15 @@ impl<'a> Row<'a> {
     }
 
     /// The request of that number.
-    pub(crate) fn request(&self, number: u32) -> Option<Request<'a>>
-        ensures { option_map (λ r. (r.number, r.op.now)) result ≡ slice_get self.now.requests number }
+    pub(crate) fn request(&self, number: u32) -> Option<&Request<'a>>
+        ensures { option_map (λ r. (r.now.number, r.now.op)) result ≡ slice_get self.now.requests number }
     {
-        self.requests.get(number as usize).copied()
+        self.requests.get(number as usize)
     }
 
     /// One request more, in so many pieces.
-    pub(crate) fn add(&mut self, op: &'a Op, count: usize) -> Result<(), AllocError>
-        ensures { OnOk result (self.new ≡ record { next = self.old.next + count; requests = self.old.requests ++ (self.old.next, op.now) ∷ [] }) }
+    pub(crate) fn add(&mut self, op: OpRef<'a>, count: usize) -> Result<(), AllocError>
+        ensures { OnOk result (self.new ≡ record { next = self.old.next + count; requests = self.old.requests ++ (self.old.next, op.entry) ∷ [] }) }
     {
         let Ok(count) = u32::try_from(count) else {
             return Err(AllocError);

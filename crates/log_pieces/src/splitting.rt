@@ -12,10 +12,11 @@ use crate::Granularity;
 use crate::cutting::Splitter;
 use crate::replies::{back_of, front_of};
 use crate::rows::{Row, rows};
-use history_words::{Record, Trace};
-use seq_memory::Reply;
+use history_words::RecordRef;
+use seq_memory::ReplyRef;
 use std::alloc::{AllocError, Global};
-use tlp_core::{Op, copy_of};
+use tlp_core::OpRef;
+use trace_store::RecordStore;
 
 /// Whose records they are, the number of the first, and its `n`.
 #[derive(Clone, Copy)]
@@ -26,27 +27,22 @@ struct Of {
 }
 
 /// A reply, and whose it is.
-#[derive(Clone, Copy)]
+#[derive(Drop)]
 struct Answered<'a> {
     of: Of,
-    reply: &'a Reply,
+    reply: ReplyRef<'a>,
 }
 
 /// Adds submissions of these operations, under numbers that follow each other.
-fn put_subs(records: &mut Vec<Record>, of: Of, ops: &[Op]) -> Result<(), AllocError>
-    ensures { OnOk result (records.new.items ≡ records.old.items ++ spec.subs of.requester of.number of.n ops.now) }
+fn put_subs(records: &mut RecordStore, of: Of, ops: &[OpRef<'_>]) -> Result<(), AllocError>
+    ensures { OnOk result (records.new ≡ spec.with_more records.old (spec.subs of.requester of.number of.n ops.now)) }
 {
     let mut number = of.number;
     for op in ops {
         let Some(next) = number.checked_add(1) else {
             return Err(AllocError);
         };
-        records.push(Record::Sub {
-            requester: of.requester,
-            number,
-            op: copy_of(op),
-            n: of.n,
-        })?;
+        records.submitted(of.requester, number, of.n, op)?;
         number = next;
     }
     Ok(())
@@ -54,12 +50,12 @@ fn put_subs(records: &mut Vec<Record>, of: Of, ops: &[Op]) -> Result<(), AllocEr
 
 /// Adds answers to these pieces of one request, under numbers that follow each other.
 fn put_answers(
-    records: &mut Vec<Record>,
+    records: &mut RecordStore,
     of: Of,
-    ops: &[Op],
-    reply: &Reply,
+    ops: &[OpRef<'_>],
+    reply: &ReplyRef<'_>,
 ) -> Result<(), AllocError>
-    ensures { OnOk result (records.new.items ≡ records.old.items ++ spec.answers of.requester of.number of.n (parts ops.now reply.now)) }
+    ensures { OnOk result (records.new ≡ spec.with_more records.old (spec.answers of.requester of.number of.n (parts ops.now reply.now))) }
 {
     if ops.is_empty() {
         return Ok(());
@@ -71,35 +67,24 @@ fn put_answers(
             return Err(AllocError);
         };
         let count = ops[at].size() as usize;
-        records.push(Record::Ans {
-            requester: of.requester,
-            number,
-            reply: front_of(count, &rest),
-            n: of.n,
-        })?;
+        records.answered(of.requester, number, of.n, &front_of(count, &rest))?;
         rest = back_of(count, &rest);
         number = next;
     }
-    records.push(Record::Ans {
-        requester: of.requester,
-        number,
-        reply: rest,
-        n: of.n,
-    })?;
-    Ok(())
+    records.answered(of.requester, number, of.n, &rest)
 }
 
 /// Adds the pieces of a submission.
 fn submit<'a>(
-    records: &mut Vec<Record>,
+    records: &mut RecordStore,
     row: &mut Row<'a>,
     of: Of,
-    op: &'a Op,
-    ops: &[Op],
+    op: OpRef<'a>,
+    ops: &[OpRef<'_>],
 ) -> Result<(), AllocError>
-    ensures records { OnOk result (records.new.items ≡ records.old.items ++
-        spec.subs of.requester (next_number (of.number == length row.old.requests) row.old.next) of.n ops.now) }
-    ensures row { OnOk result (row.new ≡ record { next = row.old.next + length ops.now; requests = row.old.requests ++ (row.old.next, op.now) ∷ [] }) }
+    ensures records { OnOk result (records.new ≡
+        spec.with_more records.old (spec.subs of.requester (next_number (of.number == length row.old.requests) row.old.next) of.n ops.now)) }
+    ensures row { OnOk result (row.new ≡ record { next = row.old.next + length ops.now; requests = row.old.requests ++ (row.old.next, op.entry) ∷ [] }) }
 {
     let Some(number) = row.start(of.number) else {
         return Err(AllocError);
@@ -111,118 +96,97 @@ fn submit<'a>(
 /// Adds the answers to the pieces of a request.
 fn answer(
     alloc: Global,
-    records: &mut Vec<Record>,
+    records: &mut RecordStore,
     row: &Row<'_>,
     cut: &Splitter,
-    answered: Answered,
+    answered: Answered<'_>,
 ) -> Result<(), AllocError>
     requires some { 4 ≤ cut.now.bytes }
     requires few { cut.now.bytes ≤ 64 }
-    ensures { OnOk result (records.new.items ≡ records.old.items ++
-        spec.answers_by (pieces cut.now.bytes cut.now.extent) (slice_get row.now.requests answered.entry.of.number) answered.entry.of.requester row.now.next answered.entry.of.n answered.entry.reply.now) }
+    ensures { OnOk result (records.new ≡ spec.with_more records.old
+        (spec.answers_by (pieces cut.now.bytes cut.now.extent) (slice_get row.now.requests answered.entry.of.number) answered.entry.of.requester row.now.next answered.entry.of.n answered.entry.reply)) }
 {
     let Answered { of, reply } = answered;
     match row.request(of.number) {
-        None => records.push(Record::Ans {
-            requester: of.requester,
-            number: row.next(),
-            reply: back_of(0, reply),
-            n: of.n,
-        })?,
+        None => records.answered(of.requester, row.next(), of.n, &reply),
         Some(request) => {
-            let ops = cut.pieces(alloc, request.op)?;
+            let ops = cut.pieces(alloc, &request.op)?;
             let of = Of {
                 number: request.number,
                 ..of
             };
-            put_answers(records, of, &ops, reply)?;
+            put_answers(records, of, &ops, &reply)
         }
     }
-    Ok(())
 }
 
 /// Adds a record in pieces, behind those whose rows these are.
 fn add<'a>(
     alloc: Global,
-    records: &mut Vec<Record>,
+    records: &mut RecordStore,
     rows: &mut [Row<'a>],
     cut: &Splitter,
-    item: &'a Record,
+    item: RecordRef<'a>,
 ) -> Result<(), AllocError>
     requires len { length rows.old ≡ 256 }
     requires some { 4 ≤ cut.now.bytes }
     requires few { cut.now.bytes ≤ 64 }
     ensures records { OnOk result ((before : List Record) → AreRows (pieces cut.now.bytes cut.now.extent) rows.old before →
-        records.new.items ≡ records.old.items ++ spec.split (pieces cut.now.bytes cut.now.extent) before item.now) }
+        records.new ≡ spec.with_more records.old (spec.split (pieces cut.now.bytes cut.now.extent) before item.entry)) }
     ensures rows { OnOk result ((before : List Record) → AreRows (pieces cut.now.bytes cut.now.extent) rows.old before →
-        AreRows (pieces cut.now.bytes cut.now.extent) rows.new (before ++ item.now ∷ [])) }
+        AreRows (pieces cut.now.bytes cut.now.extent) rows.new (before ++ item.entry ∷ [])) }
     ensures len { length rows.new ≡ 256 }
 {
     match item {
-        Record::Sub {
+        RecordRef::Sub {
             requester,
             number,
             op,
             n,
         } => {
             let of = Of {
-                requester: *requester,
-                number: *number,
-                n: *n,
+                requester,
+                number,
+                n,
             };
-            let ops = cut.pieces(alloc, op)?;
-            submit(records, &mut rows[usize::from(*requester)], of, op, &ops)
+            let ops = cut.pieces(alloc, &op)?;
+            submit(records, &mut rows[usize::from(requester)], of, op, &ops)
         }
-        Record::Ans {
+        RecordRef::Ans {
             requester,
             number,
             reply,
             n,
         } => {
             let of = Of {
-                requester: *requester,
-                number: *number,
-                n: *n,
+                requester,
+                number,
+                n,
             };
             let answered = Answered { of, reply };
-            answer(
-                alloc,
-                records,
-                &rows[usize::from(*requester)],
-                cut,
-                answered,
-            )
+            answer(alloc, records, &rows[usize::from(requester)], cut, answered)
         }
     }
 }
 
-fn split_all(alloc: Global, cut: &Splitter, records: &[Record]) -> Result<Vec<Record>, AllocError>
-    requires some { 4 ≤ cut.now.bytes }
-    requires few { cut.now.bytes ≤ 64 }
-    ensures { IfOk result (λ v. v.items ≡ spec.split_all (pieces cut.now.bytes cut.now.extent) [] records.now) }
-{
-    let mut pieces = Vec::new(alloc);
-    let mut table = rows(alloc)?;
-    for item in records {
-        add(alloc, &mut pieces, &mut table, cut, item)?;
-    }
-    Ok(pieces)
-}
-
 /// The log in pieces of so many bytes.
-fn cut_log(alloc: Global, bytes: u64, trace: &Trace) -> Result<Trace, AllocError>
+fn cut_log(alloc: Global, bytes: u64, log: &RecordStore) -> Result<RecordStore, AllocError>
     requires some { 4 ≤ bytes }
     requires few { bytes ≤ 64 }
-    ensures { IfOk result (λ t. t ≡ spec.cut_log bytes trace.now) }
+    ensures { IfOk result (λ t. t ≡ spec.cut_log bytes log.now) }
 {
-    let cut = Splitter {
-        bytes,
-        extent: trace.extent,
-    };
-    Ok(Trace {
-        extent: trace.extent,
-        records: split_all(alloc, &cut, &trace.records)?,
-    })
+    let extent = log.extent();
+    let cut = Splitter { bytes, extent };
+    let mut pieces = RecordStore::new(alloc, extent);
+    let mut table = rows(alloc)?;
+    let records = log.records();
+    for at in 0..records.len() {
+        let Some(item) = records.get(at) else {
+            unreachable!()
+        };
+        add(alloc, &mut pieces, &mut table, &cut, item)?;
+    }
+    Ok(pieces)
 }
 
 /// How many bytes a piece has; none of whole requests.
@@ -244,14 +208,14 @@ pub(crate) fn bytes_of(granularity: Granularity) -> Option<u64>
 /// allocated, and where a requester has 2^32 - 1 pieces or more.
 pub fn in_pieces(
     alloc: Global,
-    trace: &Trace,
+    log: &RecordStore,
     granularity: Granularity,
-) -> Result<Option<Trace>, AllocError>
-    ensures pieces { IfOk result (λ o. IfSome o (λ t. t ≡ spec.in_pieces granularity trace.now)) }
+) -> Result<Option<RecordStore>, AllocError>
+    ensures pieces { IfOk result (λ o. IfSome o (λ t. t ≡ spec.in_pieces granularity log.now)) }
     ensures whole { IfOk result (λ o. IfNone o (granularity ≡ Granularity.Whole)) }
 {
     match bytes_of(granularity) {
-        Some(bytes) => Ok(Some(cut_log(alloc, bytes, trace)?)),
+        Some(bytes) => Ok(Some(cut_log(alloc, bytes, log)?)),
         None => Ok(None),
     }
 }

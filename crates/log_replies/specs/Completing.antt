@@ -24,8 +24,3 @@ waits e (records.Ans i k replies.Done n) = is_request i k e
 waits e (records.Ans i k (replies.Data bytes) n) = false
 waits e (records.Ans i k replies.Unsupported n) = false
 waits e (records.Ans i k replies.Aborted n) = false
-
--- the record with that reply, if it is an answer
-abbrev pub with_reply : Record → Reply → Record
-with_reply (records.Sub i k op n) reply = records.Sub i k op n
-with_reply (records.Ans i k told n) reply = records.Ans i k reply n

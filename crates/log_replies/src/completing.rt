@@ -1,68 +1,80 @@
 //! The replies of a run, where a log has only that requests were done.
-ghost use Rattle.std.specs.Prelude.{◌≡◌, ◌∷◌, IfOk, OnErr, OnOk, List, None, Some, map, option_and_then, replicate, set, slice_get, ℕ};
+ghost use Rattle.std.specs.Prelude.{◌≡◌, ◌∷◌, IfNone, IfOk, IfSome, OnErr, OnOk, List, Some, false, map, option_and_then, replicate, slice_get, take, true, ℕ};
 ghost use Rattle.std.specs.List.{list_any};
+ghost use Rattle.seq_memory.specs.Step.{after, answer};
+ghost use Rattle.history_words.specs.Flaws.{at_place};
 ghost use Rattle.history_words.specs.Records.{Record};
 ghost use Rattle.log_events.specs.Joined.{ArePartners};
-ghost use Rattle.log_runs.specs.Histories.{completed, history_of, submitted, with_answer, with_replies};
+ghost use Rattle.log_runs.specs.Histories.{completed, history_of, submitted, with_replies};
 ghost use Rattle.log_runs.specs.Tasks.{IsWellFormed};
 ghost use Rattle.log_runs.specs.declared.Step.{Step};
 ghost use Rattle.log_replies.specs.Completing as spec;
+ghost use Rattle.trace_store.specs.Changes.{seen_by};
 
-use history_words::{Record, Trace};
+use history_words::RecordRef;
 use log_events::{Partners, form_of};
 use log_runs::Step;
-use seq_memory::{Entry, Extent, Reply, perform};
+use seq_memory::{EntryRef, Extent, ReplyData, ReplyRef, perform_lent};
 use std::alloc::{AllocError, Global};
-use tlp_core::copy_of;
+use tlp_core::OpRef;
+use trace_store::{Records, TraceStore};
 
-/// The request that the record submits.
-fn submitted(item: &Record) -> Option<Entry>
-    ensures { result ≡ submitted item.now }
+/// Performs the operation on the memory's bytes. The reply's data is put into the room.
+pub fn perform<'r>(
+    extent: Extent,
+    bytes: &mut [u8],
+    op: &OpRef<'_>,
+    room: &'r mut ReplyData,
+) -> ReplyRef<'r>
+    ensures bytes { bytes.new ≡ after extent.base extent.block bytes.old op.now }
+    ensures reply { result ≡ answer extent.base extent.block bytes.old op.now }
 {
-    match item {
-        Record::Sub {
+    if op.fault().is_some() {
+        return ReplyRef::Aborted;
+    }
+    perform_lent(extent.base(), extent.block(), bytes, op, room)
+}
+
+/// The request that is submitted at the place.
+fn entry_at<'a>(records: &Records<'a>, place: usize) -> Option<EntryRef<'a>>
+    ensures { result ≡ option_and_then submitted (slice_get records.now place) }
+{
+    match records.get(place) {
+        Some(
+            RecordRef::Sub {
+                requester,
+                number,
+                op,
+                ..
+            },
+        ) => Some(EntryRef {
             requester,
             number,
             op,
-            ..
-        } => Some(Entry {
-            requester: *requester,
-            number: *number,
-            op: copy_of(op),
         }),
-        Record::Ans { .. } => None,
+        _ => None,
     }
 }
 
-/// The request that is submitted there.
-fn entry_at(records: &[Record], b: usize) -> Option<Entry>
-    ensures { result ≡ option_and_then submitted (slice_get records.now b) }
-{
-    match records.get(b) {
-        Some(item) => submitted(item),
-        None => None,
-    }
-}
-
-/// The record has only that a request was done.
-fn lacks_reply(item: &Record) -> bool
-    ensures { result ≡ spec.lacks_reply item.now }
+/// The record at the place has only that a request was done.
+fn lacks_reply(records: &Records<'_>, place: usize) -> bool
+    ensures { result ≡ at_place spec.lacks_reply records.now place }
 {
     matches!(
-        item,
-        Record::Ans {
-            reply: Reply::Done,
+        records.get(place),
+        Some(RecordRef::Ans {
+            reply: ReplyRef::Done,
             ..
-        }
+        })
     )
 }
 
 /// One of the records has only that a request was done.
-fn lack_replies(records: &[Record]) -> bool
+fn lack_replies(records: &Records<'_>) -> bool
     ensures { result ≡ list_any spec.lacks_reply records.now }
 {
-    for record in records {
-        if lacks_reply(record) {
+    for place in 0..records.len() {
+        if lacks_reply(records, place) {
             return true;
         }
     }
@@ -70,58 +82,30 @@ fn lack_replies(records: &[Record]) -> bool
 }
 
 /// The record has only that the entry's request was done.
-fn waits(item: &Record, entry: &Entry) -> bool
+fn waits(item: &RecordRef<'_>, entry: &EntryRef<'_>) -> bool
     ensures { result ≡ spec.waits entry.now item.now }
 {
     match item {
-        Record::Ans {
+        RecordRef::Ans {
             requester,
             number,
-            reply: Reply::Done,
+            reply: ReplyRef::Done,
             ..
         } => *requester == entry.requester && *number == entry.number,
         _ => false,
     }
 }
 
-/// Sets the reply of an answer.
-fn set_reply(item: &mut Record, made: Reply)
-    ensures { item.new ≡ spec.with_reply item.old made }
+/// The place, if the record there has only that the entry's request was done.
+fn waiting_at(records: &Records<'_>, at: Option<usize>, entry: &EntryRef<'_>) -> Option<usize>
+    ensures some { IfSome result (λ a. (r : Record) × (at ≡ Some a) × (slice_get records.now a ≡ Some r) × (spec.waits entry.now r ≡ true)) }
+    ensures none { IfNone result ((a : ℕ) (r : Record) → at ≡ Some a → slice_get records.now a ≡ Some r → spec.waits entry.now r ≡ false) }
 {
-    if let Record::Ans { reply, .. } = item {
-        *reply = made;
-    }
-}
-
-/// The record with that reply, if it has only that the entry's request was done.
-#[tactic(auto, using(crate::proofs::Filling::when_waiting, crate::proofs::Filling::when_not_waiting))]
-fn answer(item: &mut Record, entry: &Entry, made: Reply)
-    ensures { item.new ≡ with_answer entry.now made item.old }
-{
-    if waits(item, entry) {
-        set_reply(item, made);
-    }
-}
-
-/// The same of the record at the place, if there is one.
-fn answer_there(records: &mut Vec<Record>, place: usize, entry: &Entry, made: Reply)
-    ensures some { (r : Record) → slice_get records.old.items place ≡ Some r → records.new.items ≡ set records.old.items place (with_answer entry.now made r) }
-    ensures none { slice_get records.old.items place ≡ None → records.new.items ≡ records.old.items }
-{
-    if let Some(item) = records.get_mut(place) {
-        answer(item, entry, made);
-    }
-}
-
-/// The same of the record at the place, if one is told.
-fn answer_at(records: &mut Vec<Record>, at: Option<usize>, entry: &Entry, made: Reply)
-    ensures some { (a : ℕ) (r : Record) → at ≡ Some a → slice_get records.old.items a ≡ Some r →
-        records.new.items ≡ set records.old.items a (with_answer entry.now made r) }
-    ensures past { (a : ℕ) → at ≡ Some a → slice_get records.old.items a ≡ None → records.new.items ≡ records.old.items }
-    ensures none { at ≡ None → records.new.items ≡ records.old.items }
-{
-    if let Some(place) = at {
-        answer_there(records, place, entry, made);
+    let place = at?;
+    if waits(&records.get(place)?, entry) {
+        Some(place)
+    } else {
+        None
     }
 }
 
@@ -134,42 +118,69 @@ struct Memory<'a> {
 }
 
 /// The request at the place acts: its answer has its reply, if it has only that it was done.
-fn act(records: &mut Vec<Record>, bytes: &mut [u8], memory: &Memory<'_>, b: usize)
-    requires { ArePartners memory.now.partners.now records.old.items }
-    ensures records { (ys : List Step) →
-        map (completed memory.now.extent bytes.old (history_of records.old.items (Step.Act b ∷ ys))) records.old.items ≡
-        map (completed memory.now.extent bytes.new (history_of records.new.items ys)) records.new.items }
-    ensures partners { ArePartners memory.now.partners.now records.new.items }
+fn act(
+    store: &mut TraceStore,
+    bytes: &mut [u8],
+    memory: &Memory<'_>,
+    b: usize,
+) -> Result<(), AllocError>
+    requires { ArePartners memory.now.partners.now store.old.records }
+    ensures memory { store.new.memory ≡ store.old.memory }
+    ensures records { OnOk result ((ys : List Step) →
+        map (completed memory.now.extent bytes.old (history_of store.old.records (Step.Act b ∷ ys))) store.old.records ≡
+        map (completed memory.now.extent bytes.new (history_of store.new.records ys)) store.new.records) }
+    ensures partners { OnOk result (ArePartners memory.now.partners.now store.new.records) }
+    ensures err { OnErr result (store.new.records ≡ store.old.records) }
 {
-    if let Some(entry) = entry_at(records, b) {
-        let extent = memory.extent;
-        let made = perform(extent.base(), extent.block(), bytes, &entry.op);
-        answer_at(records, memory.partners.of(b), &entry, made);
+    let records = store.seen().records();
+    let Some(entry) = entry_at(&records, b) else {
+        return Ok(());
+    };
+    let mut room = ReplyData::new();
+    let made = perform(memory.extent, bytes, &entry.op, &mut room);
+    match waiting_at(&records, memory.partners.of(b), &entry) {
+        Some(place) => store.set_reply(place, &made),
+        None => Ok(()),
     }
 }
 
 /// Does the step.
-fn step_on(records: &mut Vec<Record>, bytes: &mut [u8], memory: &Memory<'_>, step: Step)
-    requires { ArePartners memory.now.partners.now records.old.items }
-    ensures records { (ys : List Step) →
-        map (completed memory.now.extent bytes.old (history_of records.old.items (step ∷ ys))) records.old.items ≡
-        map (completed memory.now.extent bytes.new (history_of records.new.items ys)) records.new.items }
-    ensures partners { ArePartners memory.now.partners.now records.new.items }
+fn step_on(
+    store: &mut TraceStore,
+    bytes: &mut [u8],
+    memory: &Memory<'_>,
+    step: Step,
+) -> Result<(), AllocError>
+    requires { ArePartners memory.now.partners.now store.old.records }
+    ensures memory { store.new.memory ≡ store.old.memory }
+    ensures records { OnOk result ((ys : List Step) →
+        map (completed memory.now.extent bytes.old (history_of store.old.records (step ∷ ys))) store.old.records ≡
+        map (completed memory.now.extent bytes.new (history_of store.new.records ys)) store.new.records) }
+    ensures partners { OnOk result (ArePartners memory.now.partners.now store.new.records) }
+    ensures err { OnErr result (store.new.records ≡ store.old.records) }
 {
     match step {
-        Step::Pass => {}
-        Step::Act(b) => act(records, bytes, memory, b),
+        Step::Pass => Ok(()),
+        Step::Act(b) => act(store, bytes, memory, b),
     }
 }
 
-/// Does the steps: the records have the replies of their history.
-fn complete_all(records: &mut Vec<Record>, bytes: &mut [u8], memory: &Memory<'_>, steps: &[Step])
-    requires { ArePartners memory.now.partners.now records.old.items }
-    ensures { records.new.items ≡ map (completed memory.now.extent bytes.old (history_of records.old.items steps.now)) records.old.items }
+/// Does the steps: the records have the replies of their history, or of that of the first so many steps.
+fn complete_all(
+    store: &mut TraceStore,
+    bytes: &mut [u8],
+    memory: &Memory<'_>,
+    steps: &[Step],
+) -> Result<(), AllocError>
+    requires { ArePartners memory.now.partners.now store.old.records }
+    ensures memory { store.new.memory ≡ store.old.memory }
+    ensures ok { OnOk result (store.new.records ≡ map (completed memory.now.extent bytes.old (history_of store.old.records steps.now)) store.old.records) }
+    ensures err { OnErr result ((n : ℕ) × (store.new.records ≡ map (completed memory.now.extent bytes.old (history_of store.old.records (take n steps.now))) store.old.records)) }
 {
     for at in 0..steps.len() {
-        step_on(records, bytes, memory, steps[at]);
+        step_on(store, bytes, memory, steps[at])?;
     }
+    Ok(())
 }
 
 fn zero_bytes(alloc: Global, size: usize) -> Result<Vec<u8>, AllocError>
@@ -178,37 +189,23 @@ fn zero_bytes(alloc: Global, size: usize) -> Result<Vec<u8>, AllocError>
     vec![in alloc; 0u8; size]
 }
 
-/// What [`complete`] does, to the records over that memory.
-fn complete_records(
-    alloc: Global,
-    extent: Extent,
-    records: &mut Vec<Record>,
-    steps: &[Step],
-) -> Result<(), AllocError>
-    requires { IsWellFormed records.old.items }
-    ensures ok { OnOk result (records.new.items ≡ map (completed extent (replicate extent.size 0) (history_of records.old.items steps.now)) records.old.items) }
-    ensures err { OnErr result (records.new.items ≡ records.old.items) }
+/// Gives the answers that have only that a request was done the replies of the history that the steps are. If memory can't be
+/// allocated, they have those of the first so many steps.
+pub fn complete(alloc: Global, store: &mut TraceStore, steps: &[Step]) -> Result<(), AllocError>
+    requires { IsWellFormed store.old.records }
+    ensures memory { store.new.memory ≡ store.old.memory }
+    ensures ok { OnOk result (seen_by store.new ≡ with_replies (history_of store.old.records steps.now) (seen_by store.old)) }
+    ensures err { OnErr result ((n : ℕ) × (seen_by store.new ≡ with_replies (history_of store.old.records (take n steps.now)) (seen_by store.old))) }
 {
-    if !lack_replies(records) {
+    if !lack_replies(&store.seen().records()) {
         return Ok(());
     }
-    let form = form_of(alloc, records)?;
+    let form = form_of(alloc, &store.seen().records())?;
+    let extent = store.seen().extent();
     let mut bytes = zero_bytes(alloc, extent.size())?;
     let memory = Memory {
         extent,
         partners: &form.partners,
     };
-    complete_all(records, &mut bytes, &memory, steps);
-    Ok(())
-}
-
-/// Gives the answers that have only that a request was done the replies of the history that the steps are. Nothing changes
-/// if memory can't be allocated.
-pub fn complete(alloc: Global, trace: &mut Trace, steps: &[Step]) -> Result<(), AllocError>
-    requires { IsWellFormed trace.old.records }
-    ensures ok { OnOk result (trace.new ≡ with_replies (history_of trace.old.records steps.now) trace.old) }
-    ensures err { OnErr result (trace.new ≡ trace.old) }
-{
-    let extent = trace.extent;
-    complete_records(alloc, extent, &mut trace.records, steps)
+    complete_all(store, &mut bytes, &memory, steps)
 }

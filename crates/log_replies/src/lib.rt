@@ -3,4 +3,4 @@
 
 mod completing;
 
-pub use completing::complete;
+pub use completing::{complete, perform};

@@ -2,7 +2,9 @@
 #![tactic(auto)]
 
 mod prefix;
+mod replies;
 mod requests;
 
 pub use prefix::Prefix;
+pub use replies::reply_at;
 pub use requests::{Request, Requests};

@@ -5,11 +5,12 @@ ghost use Rattle.history_words.specs.declared.record.RecordOf.TheVariants as kin
 ghost use Rattle.log_requests.specs.Asked.{IsSubmitted, IsOf, IsAnswered};
 
 use crate::prefix::Prefix;
-use history_words::Record;
+use history_words::RecordRef;
 use log_events::form_of;
-use seq_memory::{Extent, Reply};
+use seq_memory::{Extent, ReplyRef};
 use std::alloc::{AllocError, Global};
-use tlp_core::Op;
+use tlp_core::OpRef;
+use trace_store::Records;
 
 /// A request, by the places of its records.
 #[derive(Clone, Copy, Debug)]
@@ -49,12 +50,12 @@ impl Firsts {
 
 /// The request that a record submits, later ones being noted.
 fn request_of(
-    record: &Record,
+    record: &RecordRef<'_>,
     place: usize,
     answer: Option<usize>,
     firsts: &mut Firsts,
 ) -> Option<Request> {
-    let Record::Sub { requester, op, .. } = record else {
+    let RecordRef::Sub { requester, op, .. } = record else {
         return None;
     };
     let due = if op.is_posted() {
@@ -75,13 +76,13 @@ fn request_of(
 pub struct Requests<'a> {
     pub extent: Extent,
     /// All records of the log.
-    pub records: &'a [Record],
+    pub records: Records<'a>,
     /// The last one first.
     pub all: Vec<Request>,
 }
 
 /// The requests of the records, the last one first.
-fn requests_of(alloc: Global, records: &[Record]) -> Result<Vec<Request>, AllocError> {
+fn requests_of(alloc: Global, records: &Records<'_>) -> Result<Vec<Request>, AllocError> {
     let form = form_of(alloc, records)?;
     let mut requests = Vec::new(alloc);
     let mut firsts = Firsts {
@@ -89,7 +90,9 @@ fn requests_of(alloc: Global, records: &[Record]) -> Result<Vec<Request>, AllocE
     };
     for place in (0..records.len()).rev() {
         let answer = form.partners.of(place);
-        if let Some(request) = request_of(&records[place], place, answer, &mut firsts) {
+        if let Some(record) = records.get(place)
+            && let Some(request) = request_of(&record, place, answer, &mut firsts)
+        {
             requests.push(request)?;
         }
     }
@@ -97,49 +100,49 @@ fn requests_of(alloc: Global, records: &[Record]) -> Result<Vec<Request>, AllocE
 }
 
 /// The operation that the record submits.
-fn op_of(item: &Record) -> Option<&Op>
-    ensures { IfSome result (λ op. (i : ℕ) × (k : ℕ) × (n : ℕ) × (item.now ≡ kinds.Sub i k op.now n)) }
+fn op_of(item: RecordRef<'_>) -> Option<OpRef<'_>>
+    ensures { IfSome result (λ op. (i : ℕ) × (k : ℕ) × (n : ℕ) × (item.entry ≡ kinds.Sub i k op n)) }
 {
     match item {
-        Record::Sub { op, .. } => Some(op),
-        Record::Ans { .. } => None,
+        RecordRef::Sub { op, .. } => Some(op),
+        RecordRef::Ans { .. } => None,
     }
 }
 
 /// The requester whose submission the record is.
-fn requester_of(item: &Record) -> Option<u8>
+fn requester_of(item: &RecordRef<'_>) -> Option<u8>
     ensures { IfSome result (λ i. (k : ℕ) × (op : Op) × (n : ℕ) × (item.now ≡ kinds.Sub i k op n)) }
 {
     match item {
-        Record::Sub { requester, .. } => Some(*requester),
-        Record::Ans { .. } => None,
+        RecordRef::Sub { requester, .. } => Some(*requester),
+        RecordRef::Ans { .. } => None,
     }
 }
 
 /// The reply that the record is, if it is known: that a request was done says nothing of its reply.
-fn reply_of(item: &Record) -> Option<&Reply>
-    ensures { IfSome result (λ reply. (i : ℕ) × (k : ℕ) × (n : ℕ) × (item.now ≡ kinds.Ans i k reply.now n)) }
+fn reply_of(item: RecordRef<'_>) -> Option<ReplyRef<'_>>
+    ensures { IfSome result (λ reply. (i : ℕ) × (k : ℕ) × (n : ℕ) × (item.entry ≡ kinds.Ans i k reply n)) }
 {
     match item {
-        Record::Sub { .. }
-        | Record::Ans {
-            reply: Reply::Done,
+        RecordRef::Sub { .. }
+        | RecordRef::Ans {
+            reply: ReplyRef::Done,
             ..
         } => None,
-        Record::Ans { reply, .. } => Some(reply),
+        RecordRef::Ans { reply, .. } => Some(reply),
     }
 }
 
 impl<'a> Requests<'a> {
     /// The requests of the first records. Where a form is wrong, those of the records before it are joined with their answers.
     pub fn of(alloc: Global, prefix: Prefix<'a>) -> Result<Requests<'a>, AllocError>
-        ensures records { IfOk result (λ r. r.records.now ≡ prefix.entry.trace.now.records) }
+        ensures records { IfOk result (λ r. r.records ≡ prefix.entry.seen.now.records) }
     {
-        let trace = prefix.trace;
-        let all = requests_of(alloc, prefix.records())?;
+        let seen = prefix.seen;
+        let all = requests_of(alloc, &prefix.records())?;
         Ok(Requests {
-            extent: trace.extent,
-            records: &trace.records,
+            extent: seen.extent(),
+            records: seen.records(),
             all,
         })
     }
@@ -155,8 +158,8 @@ impl<'a> Requests<'a> {
     }
 
     /// The operation of the request, as its submission has it.
-    pub fn op(&self, request: &Request) -> Option<&'a Op>
-        ensures { IfSome result (λ op. IsSubmitted self.now.records.now request.now.submission op.now) }
+    pub fn op(&self, request: &Request) -> Option<OpRef<'a>>
+        ensures { IfSome result (λ op. IsSubmitted self.now.records request.now.submission op) }
     {
         match self.records.get(request.submission) {
             Some(record) => op_of(record),
@@ -166,17 +169,17 @@ impl<'a> Requests<'a> {
 
     /// The requester of the request, as its submission has it.
     pub fn requester(&self, request: &Request) -> Option<u8>
-        ensures { IfSome result (IsOf self.now.records.now request.now.submission) }
+        ensures { IfSome result (IsOf self.now.records request.now.submission) }
     {
         match self.records.get(request.submission) {
-            Some(record) => requester_of(record),
+            Some(record) => requester_of(&record),
             None => None,
         }
     }
 
     /// The reply to the request, as its answer has it; none if that has only that the request was done.
-    pub fn reply(&self, request: &Request) -> Option<&'a Reply>
-        ensures { IfSome result (λ reply. (a : ℕ) × (request.now.answer ≡ Some a) × IsAnswered self.now.records.now a reply.now) }
+    pub fn reply(&self, request: &Request) -> Option<ReplyRef<'a>>
+        ensures { IfSome result (λ reply. (a : ℕ) × (request.now.answer ≡ Some a) × IsAnswered self.now.records a reply) }
     {
         let answer = request.answer?;
         match self.records.get(answer) {

@@ -1,5 +1,5 @@
 -- Records with the replies of a history.
-use Rattle.std.proofs.Common.{◌≡◌, ◌∙◌, ℕ, zero, suc, ◌<◌, Bool, true, false, List, [], ◌∷◌, map, take, fold, Option, Some, None, refl, sym, ap, subst, inl, inr}
+use Rattle.std.proofs.Common.{◌≡◌, ◌∙◌, ℕ, zero, suc, Bool, true, false, List, [], ◌∷◌, map, take, fold, Option, Some, None, refl, sym, ap, subst, inl, inr}
 use Rattle.std.specs.Prelude.{slice_get, ◌||◌, cond, option_map}
 use Rattle.std.proofs.lemmas.Option.{slice_get-map, same_Some}
 use Rattle.tlp_core.specs.Ops.{Op}
@@ -19,7 +19,8 @@ use Rattle.history_words.specs.Trace.{is_request, stands}
 use Rattle.log_runs.specs.declared.Step.{Step}
 use Rattle.log_runs.specs.declared.Step.TheVariants as steps
 use Rattle.log_runs.specs.Explainable.{MayBe, IsSeenAs, AreSeenAs}
-use Rattle.log_runs.specs.Histories.{with_n, timed_from, with_answer, completed}
+use Rattle.log_runs.specs.Histories.{timed_from, with_answer, completed}
+use Rattle.trace_store.specs.Changes.{with_n}
 use Rattle.log_runs.specs.Tasks.{known}
 use Rattle.log_runs.proofs.ButN.{without_n}
 

@@ -1,8 +1,8 @@
 -- A run is a history that explains the log.
-use Rattle.std.proofs.Common.{◌≡◌, ◌∙◌, ◌⊎◌, ℕ, zero, suc, ◌+◌, ◌<◌, ◌≤◌, true, false, List, [], ◌∷◌, ◌++◌, Option, Some, None, take, drop, length, map, refl, sym, ap, subst, arith, inl, inr, add-one, append_assoc, length-append}
+use Rattle.std.proofs.Common.{◌≡◌, ◌∙◌, ℕ, suc, ◌+◌, ◌<◌, ◌≤◌, true, false, List, [], ◌∷◌, ◌++◌, Option, Some, None, take, drop, length, map, refl, sym, ap, subst, arith, inl, inr, add-one, append_assoc, length-append}
 use Rattle.std.specs.Prelude.{slice_get, option_map, option_and_then, replicate}
 use Rattle.std.specs.List.{list_any, cons_option}
-use Rattle.std.proofs.lemmas.Bool.{cases_lt, cases_eq, cases_Bool, eq-eqb, eqb-true, and_parts}
+use Rattle.std.proofs.lemmas.Bool.{cases_lt, cases_eq, cases_Bool, eq-eqb}
 use Rattle.std.proofs.lemmas.List.{append-nil, take-append-le, map-append}
 use Rattle.std.proofs.Math.Seq.{take-append_seam, take-length, drop-length}
 use Rattle.std.proofs.lemmas.Option.{slice_get_within, same_Some}
@@ -11,9 +11,8 @@ use Rattle.tlp_core.specs.Operation.{is_posted}
 use Rattle.seq_memory.specs.Entries.{Entry}
 use Rattle.seq_memory.specs.Entries.{Reply}
 use Rattle.seq_memory.specs.declared.reply.ReplyOf.TheVariants as replies
-use Rattle.seq_memory.specs.Limits.{Extent}
 use Rattle.seq_memory.specs.Step.{answer}
-use Rattle.seq_memory.specs.History.{contents, contents_at, reply_at}
+use Rattle.seq_memory.specs.History.{contents, contents_at}
 use Rattle.history_words.specs.Records.{Record}
 use Rattle.history_words.specs.declared.record.RecordOf.TheVariants as records
 use Rattle.history_words.specs.TraceView.{TraceView, observed}
@@ -26,10 +25,11 @@ use Rattle.log_runs.specs.EventView as events
 use Rattle.log_runs.specs.declared.Step.{Step}
 use Rattle.log_runs.specs.declared.Step.TheVariants as steps
 use Rattle.log_runs.specs.LogView.{LogView}
-use Rattle.log_runs.specs.Explainable.{MayBe, AreSeenAs, SeenAlike}
-use Rattle.log_runs.specs.Histories.{submitted, history_of, with_n, timed_from, timed, completed, with_replies}
+use Rattle.log_runs.specs.Explainable.{AreSeenAs, SeenAlike}
+use Rattle.log_runs.specs.Histories.{submitted, history_of, timed_from, timed, completed, with_replies}
+use Rattle.trace_store.specs.Changes.{with_n}
 use Rattle.log_runs.specs.Runs.{State, MayPass, MayAct, Allowed, Leads, Live, start, next, has_acted, reply_of}
-use Rattle.log_runs.specs.Tasks.{known, Says, AreEvents, AreAllEvents, IsMisformed, IsWellFormed}
+use Rattle.log_runs.specs.Tasks.{known, Says, AreAllEvents, IsWellFormed}
 use Rattle.log_runs.proofs.Lists.{some_at, take_more_at, from_take, to_take}
 use Rattle.log_runs.proofs.ButN as but
 use Rattle.log_runs.proofs.ButN.{without_n, ans_alike}
@@ -38,7 +38,7 @@ use Rattle.log_runs.proofs.Completing.{of_sub, of_known, of_answer, of_done, sam
 use Rattle.log_runs.proofs.Numbers.{number_rises, unique, listed, located}
 use Rattle.log_runs.proofs.Standing.{stands_at}
 use Rattle.log_runs.proofs.Matching.{Matches, matches_start, matches_act}
-use Rattle.log_runs.proofs.Ends.{front_or_last, get_front, drop_at, stood, Stood, find_asked, Asked}
+use Rattle.log_runs.proofs.Ends.{front_or_last, get_front, drop_at, stood, find_asked, Asked}
 
 module _ (t : TraceView) (es : List EventView) (formed : IsWellFormed t.records) (all : AreAllEvents t.records es) where
   abbrev rs : List Record

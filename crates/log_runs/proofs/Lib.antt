@@ -11,3 +11,4 @@ pub mod Prefixes
 pub mod Fewer
 pub mod Ends
 pub mod HistoryOf
+pub mod Placed

@@ -6,7 +6,7 @@ use Rattle.seq_memory.specs.declared.reply.ReplyOf.TheVariants as replies
 use Rattle.history_words.specs.Records.{Record}
 use Rattle.history_words.specs.declared.record.RecordOf.TheVariants as records
 use Rattle.history_words.specs.TraceView.{TraceView}
-use Rattle.history_words.specs.Claim.{Claim, claim_of}
+use Rattle.history_words.specs.Claim.{claim_of}
 use Rattle.history_words.specs.Clocks.{IsClocked}
 use Rattle.history_words.specs.Trace.{Explains}
 

@@ -10,6 +10,7 @@ use Rattle.history_words.specs.Records.{Record}
 use Rattle.history_words.specs.declared.record.RecordOf.TheVariants as records
 use Rattle.history_words.specs.Trace.{is_request}
 use Rattle.history_words.specs.TraceView.{TraceView, observed}
+use Rattle.trace_store.specs.Changes.{with_n}
 use Rattle.log_runs.specs.declared.Step.{Step}
 use Rattle.log_runs.specs.declared.Step.TheVariants as steps
 
@@ -23,11 +24,6 @@ abbrev pub history_of : List Record → List Step → List Entry
 history_of rs [] = []
 history_of rs (steps.Pass ∷ xs) = history_of rs xs
 history_of rs (steps.Act b ∷ xs) = cons_option (option_and_then submitted (slice_get rs b)) (history_of rs xs)
-
--- the record, but with that n
-abbrev pub with_n : ℕ → Record → Record
-with_n n (records.Sub i k op m) = records.Sub i k op n
-with_n n (records.Ans i k reply m) = records.Ans i k reply n
 
 -- each record that is passed with the number of requests that acted before, so many of them before these steps
 abbrev pub timed_from : ℕ → List Step → List Record → List Record

@@ -19,6 +19,7 @@ use Rattle.record_text.specs.Forms as fields
 use Rattle.record_text.specs.RecordReaderView.{RecordReaderView}
 use Rattle.record_text.specs.RecordReaderView as reads
 use Rattle.trace_text.specs.Tellable.{IsRequest, IsTellableRecord, IsTellable}
+use Rattle.trace_store.specs.Changes.{seen_by}
 use Rattle.trace_text.specs.TraceReaderView as traces
 use Rattle.log_text.specs.declared.line.LogLine.{LogLine}
 use Rattle.log_text.specs.declared.line.LogLine.TheVariants as lines
@@ -28,7 +29,7 @@ use Rattle.log_text.specs.Told.{IsToldLog}
 use Rattle.log_text.specs.declared.line.Version.{Version}
 use Rattle.log_text.specs.declared.line.Version.TheVariants as versions
 use Rattle.told_laws.specs.Told.{IsToldSub}
-use Rattle.log_text.specs.LogReaderView.{LogFormView, no_log, kept, log_grammar, log_read, log_in, log_of, seen_in, without_history, is_head, or_trace, seen_of}
+use Rattle.log_text.specs.LogReaderView.{LogFormView, no_log, kept, log_grammar, log_read, log_in, log_of, without_history, is_head, or_trace, seen_of}
 
 -- ---- what the fields of a line are
 
@@ -194,7 +195,7 @@ module _ (known : Fields) where
   seen-told (Err f) t told e = absurd (cc e)
   seen-told (Ok c) t told e =
       let x = told c refl in
-      let same : seen_in c ≡ t = cc e in
+      let same : seen_by c ≡ t = cc e in
       subst IsToldLog same (record { limits = x.limits; submissions = subs-of c.records x.records_are })
 
   pub can-be-told : ((text : List ℕ) (c : Claim) → traces.read_of text ≡ Ok c → IsTellable c) → (text : List ℕ) (t : TraceView) → seen_of text ≡ Ok t → IsToldLog t

@@ -9,6 +9,7 @@ use Rattle.record_text.specs.declared.fault.ReadFaultKind.{ReadFaultKind}
 use Rattle.record_text.specs.declared.fault.ReadFaultKind.TheVariants as faults
 use Rattle.record_text.specs.Grammar.{Grammar}
 use Rattle.record_text.specs.RecordReaderView as reads
+use Rattle.trace_store.specs.Changes.{seen_by}
 use Rattle.trace_text.specs.TraceReaderView as traces
 use Rattle.log_text.specs.declared.line.LogLine.{LogLine}
 use Rattle.log_text.specs.declared.line.LogLine.TheVariants as lines
@@ -63,12 +64,9 @@ Tells text f = (log_of text ≡ Err f) ⊎ IsRefused text f
 -- ---- a log or a trace
 
 -- a trace without its history
-abbrev pub seen_in : Claim → TraceView
-seen_in c = record { base = c.memory.base; size = c.memory.size; block = c.memory.block; records = c.records }
-
 abbrev pub without_history : Result Claim ReadFault → Result TraceView ReadFault
 without_history (Err f) = Err f
-without_history (Ok c) = Ok (seen_in c)
+without_history (Ok c) = Ok (seen_by c)
 
 abbrev pub is_head : ReadFaultKind → Bool
 is_head faults.Head = true

@@ -4,13 +4,13 @@ ghost use Rattle.log_text.specs.LogReaderView as reads;
 ghost use Rattle.log_text.specs.Forms as forms;
 
 use crate::line::{LogLine, Version, read_line};
-use history_words::{Record, Trace};
 use operation_text::Expected;
 use record_text::{Form, Section, Taken};
 use seq_memory::{Extent, MIN_SIZE};
 use std::alloc::{AllocError, Global};
 use std::marker::Model;
 use tlp_core::MAX_PAYLOAD;
+use trace_store::RecordStore;
 
 /// The head of a log, or of a trace, which may stand in its place.
 const HEAD: Expected = Expected::Of(
@@ -31,18 +31,18 @@ const NOTHING: Expected = Expected::Named("the text's end");
 #[derive(Drop)]
 pub(crate) struct LogForm {
     version: Version,
-    extent: Extent,
-    records: Vec<Record>,
+    seen: RecordStore,
     /// Room for the bytes of a line: what it holds does not count.
     room: [u8; MAX_PAYLOAD],
 }
 
 impl Model for LogForm {
+    ghost use Rattle.history_words.specs.TraceView.{observed};
     ghost use Rattle.log_text.specs.LogReaderView.{LogFormView};
 
     ghost Value = { LogFormView };
 
-    ghost view = { λ l. record { version = l.version; extent = l.extent; records = l.records.items } };
+    ghost view = { λ l. record { version = l.version; extent = observed l.seen; records = l.seen.records } };
 }
 
 impl LogForm {
@@ -52,20 +52,16 @@ impl LogForm {
     {
         LogForm {
             version: Version::One,
-            extent: Extent::new(0, MIN_SIZE, 64).unwrap(),
-            records: Vec::new(alloc),
+            seen: RecordStore::new(alloc, Extent::new(0, MIN_SIZE, 64).unwrap()),
             room: [0; MAX_PAYLOAD],
         }
     }
 
     /// The log.
-    pub(crate) fn trace(self) -> Trace
+    pub(crate) fn log(self) -> RecordStore
         ensures { result ≡ reads.log_read self }
     {
-        Trace {
-            extent: self.extent,
-            records: self.records,
-        }
+        self.seen
     }
 }
 
@@ -100,8 +96,8 @@ impl Form for LogForm {
         };
         match line {
             LogLine::FirstLine(version) => self.version = version,
-            LogLine::Memory(extent) => self.extent = extent,
-            LogLine::Record(record) => self.records.push(record.to_owned())?,
+            LogLine::Memory(extent) => self.seen.set_extent(extent),
+            LogLine::Record(record) => self.seen.push(&record)?,
             LogLine::End => {}
         }
         Ok(Taken::Kept(after))

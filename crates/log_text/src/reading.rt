@@ -4,18 +4,18 @@ ghost use Rattle.trace_text.specs.TraceReaderView.{read_of, IsRefused};
 ghost use Rattle.log_text.specs.LogReaderView.{log_of, seen_of, is_head, without_history, Tells, SeenTells};
 
 use crate::form::LogForm;
-use history_words::Trace;
 use record_text::{Cause, Misread, ReadFault, ReadFaultKind, read_records};
 use std::alloc::Global;
-use trace_text::read_owned_trace;
+use trace_store::RecordStore;
+use trace_text::read_trace_with_cause;
 
 /// What [`read_log`] returns, with the cause of a fault.
-fn read_log_with_cause(alloc: Global, text: &[u8]) -> Result<Trace, Misread>
+fn read_log_with_cause(alloc: Global, text: &[u8]) -> Result<RecordStore, Misread>
     ensures ok { IfOk result (λ t. log_of text.now ≡ Ok t) }
     ensures err { IfErr result (λ e. Tells text.now e.fault) }
 {
     match read_records(LogForm::new(alloc), text) {
-        Ok(form) => Ok(form.trace()),
+        Ok(form) => Ok(form.log()),
         Err(misread) => Err(misread),
     }
 }
@@ -24,7 +24,7 @@ fn read_log_with_cause(alloc: Global, text: &[u8]) -> Result<Trace, Misread>
 /// and one carriage return before a line feed is ignored. Each n of its records is 0. A fault of kind
 /// `Memory` tells that a growth was refused, for a record behind no fault. Nothing is read behind the
 /// first fault.
-pub fn read_log(alloc: Global, text: &[u8]) -> Result<Trace, ReadFault>
+pub fn read_log(alloc: Global, text: &[u8]) -> Result<RecordStore, ReadFault>
     ensures ok { IfOk result (λ t. log_of text.now ≡ Ok t) }
     ensures err { IfErr result (Tells text.now) }
 {
@@ -51,19 +51,19 @@ fn told_by(misread: Misread, head: Cause) -> Misread
 }
 
 /// The trace that the text spells, without its history. In the head of a log this was wrong.
-fn read_seen_trace(alloc: Global, text: &[u8], head: Cause) -> Result<Trace, Misread>
+fn read_seen_trace(alloc: Global, text: &[u8], head: Cause) -> Result<RecordStore, Misread>
     ensures ok { IfOk result (λ t. without_history (read_of text.now) ≡ Ok t) }
     ensures err { IfErr result (λ e. (without_history (read_of text.now) ≡ Err e.fault) ⊎ IsRefused text.now e.fault) }
 {
-    match read_owned_trace(alloc, text) {
-        Ok((trace, _)) => Ok(trace),
+    match read_trace_with_cause(alloc, text) {
+        Ok(read) => Ok(read.into_seen()),
         Err(misread) => Err(told_by(misread, head)),
     }
 }
 
 /// What [`read_seen`] returns, with the cause of a fault: if neither a log's head nor a trace's is there,
 /// that one is expected.
-pub fn read_seen_with_cause(alloc: Global, text: &[u8]) -> Result<Trace, Misread>
+pub fn read_seen_with_cause(alloc: Global, text: &[u8]) -> Result<RecordStore, Misread>
     ensures ok { IfOk result (λ t. seen_of text.now ≡ Ok t) }
     ensures err { IfErr result (λ e. SeenTells text.now e.fault) }
 {
@@ -79,7 +79,7 @@ pub fn read_seen_with_cause(alloc: Global, text: &[u8]) -> Result<Trace, Misread
 /// What was seen: the log that the text spells, or else the trace, of version 1 or 2, without its history;
 /// or the first fault, of a trace if the head is none of a log. A fault of kind `Memory` tells that a growth
 /// was refused.
-pub fn read_seen(alloc: Global, text: &[u8]) -> Result<Trace, ReadFault>
+pub fn read_seen(alloc: Global, text: &[u8]) -> Result<RecordStore, ReadFault>
     ensures ok { IfOk result (λ t. seen_of text.now ≡ Ok t) }
     ensures err { IfErr result (SeenTells text.now) }
 {

@@ -5,6 +5,7 @@ use fabric_core::Config;
 use fault_plan::Plan;
 use fc_credit::LaneCredits;
 use history_check::check;
+use history_words::Claim;
 use line_loop::EngineFault;
 use std::alloc::{AllocError, Global};
 use std::sync::Wait;
@@ -99,7 +100,11 @@ fn mixed_plan(alloc: Global, each: u64) -> Result<RunPlan, AllocError> {
 /// Whether `check` says `ok` to the text of the report's trace and history.
 fn is_ok_as_text(alloc: Global, report: &Report) -> Result<bool, EngineFault> {
     let mut text = Vec::new(alloc);
-    tell_trace(alloc, &report.trace, report.fabric.history(), &mut text)?;
+    let claim = Claim {
+        trace: &report.trace,
+        history: report.fabric.history(),
+    };
+    tell_trace(alloc, &claim, &mut text)?;
     let mut reader = text.as_slice();
     let mut answer = Vec::new(alloc);
     let status = run_check(alloc, &mut reader, &mut answer)?;

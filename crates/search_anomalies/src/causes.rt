@@ -4,7 +4,7 @@ use crate::sums::{Sum, wrong_sum};
 use crate::tallies::Question;
 use crate::words::Word;
 use log_requests::{Prefix, Requests};
-use seq_memory::Reply;
+use seq_memory::ReplyRef;
 use std::alloc::{AllocError, Global};
 
 /// Why a word isn't there where a request acts that was answered it.
@@ -62,11 +62,12 @@ fn word_cause(question: &Question<'_>, word: Word) -> WordCause {
 /// Why the request isn't answered so, by the words that its reply shows.
 fn answer_cause(question: &Question<'_>) -> WordCause {
     let mut cause = WordCause::NoOrder;
-    let Reply::Data(data) = question.reply else {
+    let ReplyRef::Data(data) = &question.reply else {
         return cause;
     };
+    let data = data.as_slice();
     for dw in 0..data.len() / 4 {
-        let word = Word::shown_by(question.op, data.as_slice(), 4 * dw);
+        let word = Word::shown_by(&question.op, data, 4 * dw);
         if word.is_some() {
             cause = cause.or(word_cause(question, word));
         }

@@ -2,10 +2,9 @@
 //!
 //! Requests are left out that change nothing which an answer shows: reads that aren't answered there, and what is on other
 //! DW. What an AtomicOp leaves depends on all that it reads, so its DW count, too. Nothing rests on this choice.
-use history_words::Record;
 use log_requests::{Prefix, Request, Requests};
 use std::alloc::{AllocError, Global};
-use tlp_core::Op;
+use tlp_core::OpRef;
 
 /// How often the DW of AtomicOps are added, at most.
 const ROUNDS: usize = 16;
@@ -18,7 +17,7 @@ pub struct Kept {
 }
 
 /// The address of a DW that the operation names.
-fn word_of(op: &Op, dw: u32) -> u64 {
+fn word_of(op: &OpRef<'_>, dw: u32) -> u64 {
     (op.address() / 4 + u64::from(dw)).saturating_mul(4)
 }
 
@@ -56,7 +55,7 @@ impl<'a> Core<'a> {
     }
 
     /// A DW of the operation counts.
-    fn counts(&self, op: &Op) -> bool {
+    fn counts(&self, op: &OpRef<'_>) -> bool {
         for dw in 0..op.size() / 4 {
             if self.words.contains(&word_of(op, dw)) {
                 return true;
@@ -66,7 +65,7 @@ impl<'a> Core<'a> {
     }
 
     /// The DW of the operation count; whether one didn't.
-    fn add(&mut self, op: &Op) -> Result<bool, AllocError> {
+    fn add(&mut self, op: &OpRef<'_>) -> Result<bool, AllocError> {
         let mut is_new = false;
         for dw in 0..op.size() / 4 {
             let word = word_of(op, dw);
@@ -86,7 +85,7 @@ impl<'a> Core<'a> {
         let Some(op) = self.requests.op(request) else {
             return false;
         };
-        request.submission < self.end && !matches!(op, Op::Read { .. }) && self.counts(op)
+        request.submission < self.end && !matches!(op, OpRef::Read { .. }) && self.counts(&op)
     }
 
     /// The DW of a request count that is answered or an AtomicOp, if it is kept; whether one didn't.
@@ -95,7 +94,7 @@ impl<'a> Core<'a> {
             return Ok(false);
         };
         if self.is_answered(request) || !op.is_posted() && self.keeps(request) {
-            return self.add(op);
+            return self.add(&op);
         }
         Ok(false)
     }
@@ -140,16 +139,15 @@ pub fn core_of<'a>(
     prefix: Prefix<'a>,
     answers: &'a [usize],
 ) -> Result<Vec<Kept>, AllocError> {
-    let trace = prefix.trace;
     let mut core = Core::of(alloc, prefix, answers)?;
     core.close()?;
     let mut counts = Counts { counts: [0; 256] };
     let mut kept = Vec::new(alloc);
     for request in core.requests.all.as_slice().iter().rev() {
-        if let Some(Record::Sub { requester, .. }) = trace.records.get(request.submission)
+        if let Some(requester) = core.requests.requester(request)
             && core.keeps(request)
         {
-            let number = counts.next(*requester);
+            let number = counts.next(requester);
             kept.push(Kept {
                 place: request.submission,
                 number,

@@ -8,9 +8,9 @@ use crate::links::Edge;
 use crate::words::{Sight, Word};
 use log_requests::{Request, Requests};
 use search_effects::{is_needed, left};
-use seq_memory::Reply;
+use seq_memory::ReplyRef;
 use std::alloc::{AllocError, Global};
-use tlp_core::Op;
+use tlp_core::OpRef;
 
 /// How many of the requests that are behind a posted write are looked at.
 const BEHIND: usize = 32;
@@ -34,7 +34,7 @@ enum Origin {
 }
 
 /// The operation's reply has all bytes of the word that are looked at.
-fn has_all(op: &Op, word: &Word) -> bool {
+fn has_all(op: &OpRef<'_>, word: &Word) -> bool {
     let from = word.address.saturating_sub(op.address()) as usize;
     for place in 0..4usize {
         if word.bytes[place].is_some() && !is_needed(op, from.saturating_add(place)) {
@@ -115,7 +115,7 @@ impl<'a> Reach<'a> {
     fn effect(&self, sight: &Sight, request: &Request) -> Effect {
         let extent = self.requests.extent;
         match self.requests.op(request) {
-            Some(op) => effect_by(extent, sight, op, self.requests.reply(request)),
+            Some(op) => effect_by(extent, sight, &op, self.requests.reply(request).as_ref()),
             None => Effect::Unknown,
         }
     }
@@ -164,9 +164,11 @@ impl<'a> Reach<'a> {
 
     /// The first request is a posted write of the second one's requester, and submitted before it.
     fn is_posted_before(&self, one: &Request, other: &Request) -> bool {
-        let is_posted = self.requests.op(one).is_some_and(|op| op.is_posted());
+        let Some(op) = self.requests.op(one) else {
+            return false;
+        };
         let is_own = self.requests.requester(one) == self.requests.requester(other);
-        is_posted && is_own && one.submission < other.submission
+        op.is_posted() && is_own && one.submission < other.submission
     }
 
     /// Goes to those that overwrote the word, which the request's answer shows.
@@ -210,8 +212,8 @@ impl<'a> Reach<'a> {
             if let Some(request) = self.at(other)
                 && other != place
                 && let Some(op) = self.requests.op(&request)
-                && has_all(op, &word)
-                && shows(&sight, op, self.requests.reply(&request))
+                && has_all(&op, &word)
+                && shows(&sight, &op, self.requests.reply(&request).as_ref())
             {
                 self.add(
                     other,
@@ -231,11 +233,12 @@ impl<'a> Reach<'a> {
         let Some(op) = requests.op(request) else {
             return Ok(());
         };
-        let Some(Reply::Data(data)) = requests.reply(request) else {
+        let Some(ReplyRef::Data(data)) = requests.reply(request) else {
             return Ok(());
         };
+        let data = data.as_slice();
         for dw in 0..data.len() / 4 {
-            let word = Word::shown_by(op, data.as_slice(), 4 * dw);
+            let word = Word::shown_by(&op, data, 4 * dw);
             if word.is_some() && self.looks > 0 {
                 self.follow_overwritten(place, word)?;
             }
@@ -249,9 +252,13 @@ impl<'a> Reach<'a> {
         let Some(op) = requests.op(request) else {
             return Ok(());
         };
-        let new = left(requests.extent.block(), op, requests.reply(request));
+        let new = left(
+            requests.extent.block(),
+            &op,
+            requests.reply(request).as_ref(),
+        );
         for dw in 0..new.len() / 4 {
-            let word = Word::put_by(op, new.as_slice(), 4 * dw);
+            let word = Word::put_by(&op, new.as_slice(), 4 * dw);
             if word.is_some() && self.looks > 0 {
                 self.follow_shown(place, word)?;
             }

@@ -3,9 +3,9 @@ use crate::causes::WordCause;
 use crate::tallies::Question;
 use crate::words::Word;
 use log_requests::{Request, Requests};
-use seq_memory::Reply;
+use seq_memory::ReplyRef;
 use std::alloc::{AllocError, Global};
-use tlp_core::Op;
+use tlp_core::OpRef;
 
 /// How many pairs of answers are looked at, at most.
 const PAIRS: usize = 32;
@@ -24,13 +24,13 @@ fn number_of(bytes: &[u8; 4]) -> u32 {
 /// What the request was answered, if it is an AtomicOp.
 fn taken_by(requests: &Requests<'_>, request: &Request) -> Option<Taken> {
     let op = requests.op(request)?;
-    if matches!(op, Op::Read { .. } | Op::Write { .. }) {
+    if matches!(op, OpRef::Read { .. } | OpRef::Write { .. }) {
         return None;
     }
-    let Reply::Data(data) = requests.reply(request)? else {
+    let ReplyRef::Data(data) = requests.reply(request)? else {
         return None;
     };
-    let word = Word::shown_by(op, data.as_slice(), 0);
+    let word = Word::shown_by(&op, data.as_slice(), 0);
     Some((word.address, number_of(&word.shown()), request.answer?))
 }
 
@@ -49,11 +49,12 @@ fn all_taken(alloc: Global, requests: &Requests<'_>) -> Result<Vec<Taken>, Alloc
 /// Whether what the answer shows was taken twice.
 fn twice(requests: &Requests<'_>, answer: usize) -> Option<WordCause> {
     let question = Question::new(requests, answer)?;
-    let Reply::Data(data) = question.reply else {
+    let ReplyRef::Data(data) = &question.reply else {
         return None;
     };
+    let data = data.as_slice();
     for dw in 0..data.len() / 4 {
-        let word = Word::shown_by(question.op, data.as_slice(), 4 * dw);
+        let word = Word::shown_by(&question.op, data, 4 * dw);
         if let Some((first, second)) = question.tally(word).taken_twice() {
             return Some(WordCause::Twice(word, first, second));
         }

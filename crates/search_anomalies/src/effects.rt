@@ -6,8 +6,8 @@ use search_effects::{
     are_apart, breaks, clashes, is_put, is_quiet, left, never_gives, never_puts, spans,
 };
 use search_undo::refusal;
-use seq_memory::{Extent, Reply};
-use tlp_core::Op;
+use seq_memory::{Extent, ReplyRef};
+use tlp_core::OpRef;
 
 /// What becomes of a word by a request.
 #[derive(Clone, Copy, Debug, PartialEq, Eq)]
@@ -23,7 +23,7 @@ pub(crate) enum Effect {
 }
 
 /// No byte of the word is put there by the request.
-fn puts_none(block: u16, sight: &Sight, op: &Op, told: Option<&Reply>) -> bool
+fn puts_none(block: u16, sight: &Sight, op: &OpRef<'_>, told: Option<&ReplyRef<'_>>) -> bool
     requires { IsBlock block }
 {
     for place in 0..4usize {
@@ -38,7 +38,7 @@ fn puts_none(block: u16, sight: &Sight, op: &Op, told: Option<&Reply>) -> bool
 }
 
 /// All bytes of the word are put there by the request, which has their addresses.
-fn puts_all(block: u16, sight: &Sight, op: &Op, told: Option<&Reply>) -> bool
+fn puts_all(block: u16, sight: &Sight, op: &OpRef<'_>, told: Option<&ReplyRef<'_>>) -> bool
     requires { IsBlock block }
 {
     let new = left(block, op, told);
@@ -55,13 +55,18 @@ fn puts_all(block: u16, sight: &Sight, op: &Op, told: Option<&Reply>) -> bool
 }
 
 /// What becomes of the word by a request that is served.
-fn effect_where_served(block: u16, sight: &Sight, op: &Op, told: Option<&Reply>) -> Effect
+fn effect_where_served(
+    block: u16,
+    sight: &Sight,
+    op: &OpRef<'_>,
+    told: Option<&ReplyRef<'_>>,
+) -> Effect
     requires { IsBlock block }
 {
     if is_quiet(block, op, told) {
         return Effect::Keeps;
     }
-    if breaks(block, op, told, &sight.read, &sight.reply) {
+    if breaks(block, op, told, &sight.read, &sight.reply()) {
         return Effect::Overwrites;
     }
     if puts_none(block, sight, op, told) {
@@ -74,7 +79,12 @@ fn effect_where_served(block: u16, sight: &Sight, op: &Op, told: Option<&Reply>)
 }
 
 /// What becomes of the word by a request, which was answered `told` or not at all.
-pub(crate) fn effect_by(extent: Extent, sight: &Sight, op: &Op, told: Option<&Reply>) -> Effect {
+pub(crate) fn effect_by(
+    extent: Extent,
+    sight: &Sight,
+    op: &OpRef<'_>,
+    told: Option<&ReplyRef<'_>>,
+) -> Effect {
     if are_apart(op, &sight.read) {
         return Effect::Keeps;
     }
@@ -85,14 +95,14 @@ pub(crate) fn effect_by(extent: Extent, sight: &Sight, op: &Op, told: Option<&Re
 }
 
 /// The request was answered the word.
-pub(crate) fn shows(sight: &Sight, op: &Op, told: Option<&Reply>) -> bool {
+pub(crate) fn shows(sight: &Sight, op: &OpRef<'_>, told: Option<&ReplyRef<'_>>) -> bool {
     let Some(reply) = told else {
         return false;
     };
-    let Reply::Data(data) = reply else {
+    let ReplyRef::Data(data) = reply else {
         return false;
     };
     spans(op, &sight.read)
         && !never_gives(op, data.as_slice())
-        && !clashes(op, reply, &sight.read, &sight.reply)
+        && !clashes(op, reply, &sight.read, &sight.reply())
 }

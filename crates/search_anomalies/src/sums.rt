@@ -3,8 +3,8 @@ use crate::tallies::Question;
 use log_requests::Request;
 use search_effects::{are_apart, is_needed, is_quiet};
 use search_undo::refusal;
-use seq_memory::Reply;
-use tlp_core::{Op, Width};
+use seq_memory::ReplyRef;
+use tlp_core::{OpRef, Width};
 
 /// What additions make, which is not what an answer shows.
 #[derive(Clone, Copy, Debug, PartialEq, Eq)]
@@ -47,12 +47,12 @@ fn number_of(bytes: &[u8]) -> u64 {
 
 /// The bytes that the answer shows from a place of its data on.
 fn cell_at(question: &Question<'_>, place: usize, width: Width) -> Option<Cell> {
-    let Reply::Data(data) = question.reply else {
+    let ReplyRef::Data(data) = &question.reply else {
         return None;
     };
     let count = usize::from(width.size());
     for at in 0..count {
-        if !is_needed(question.op, place.saturating_add(at)) {
+        if !is_needed(&question.op, place.saturating_add(at)) {
             return None;
         }
     }
@@ -66,9 +66,9 @@ fn cell_at(question: &Question<'_>, place: usize, width: Width) -> Option<Cell> 
 
 impl Cell {
     /// The read of its bytes.
-    fn read(&self) -> Op {
+    fn read(&self) -> OpRef<'static> {
         let is_wide = self.width == Width::Eight;
-        Op::Read {
+        OpRef::Read {
             address: self.address,
             dw: if is_wide { 2 } else { 1 },
             first: 15,
@@ -77,9 +77,9 @@ impl Cell {
     }
 
     /// What the operation adds, if it is an addition to these bytes.
-    fn addend(&self, op: &Op) -> Option<u64> {
+    fn addend(&self, op: &OpRef<'_>) -> Option<u64> {
         match op {
-            Op::FetchAdd {
+            OpRef::FetchAdd {
                 address,
                 width,
                 operand,
@@ -107,23 +107,25 @@ struct Sums {
 
 impl<'a> Question<'a> {
     /// The request may change bytes that the read reads.
-    fn may_change(&self, read: &Op, request: &Request, op: &Op) -> bool {
+    fn may_change(&self, read: &OpRef<'_>, request: &Request, op: &OpRef<'_>) -> bool {
         let extent = self.requests.extent;
-        if are_apart(op, read) || is_quiet(extent.block(), op, self.requests.reply(request)) {
+        if are_apart(op, read)
+            || is_quiet(extent.block(), op, self.requests.reply(request).as_ref())
+        {
             return false;
         }
         refusal(extent.base(), extent.block(), extent.size(), op).is_none()
     }
 
     /// Takes a request into account; false if it may change the bytes otherwise than by an addition to them.
-    fn add(&self, cell: &Cell, read: &Op, request: &Request, sums: &mut Sums) -> bool {
+    fn add(&self, cell: &Cell, read: &OpRef<'_>, request: &Request, sums: &mut Sums) -> bool {
         let Some(op) = self.requests.op(request) else {
             return false;
         };
-        if !self.may_change(read, request, op) {
+        if !self.may_change(read, request, &op) {
             return true;
         }
-        let Some(addend) = cell.addend(op) else {
+        let Some(addend) = cell.addend(&op) else {
             return false;
         };
         sums.most = sums.most.saturating_add(addend);

@@ -2,8 +2,8 @@
 use crate::effects::{Effect, effect_by, shows};
 use crate::words::{Sight, Word};
 use log_requests::{Request, Requests};
-use seq_memory::Reply;
-use tlp_core::Op;
+use seq_memory::ReplyRef;
+use tlp_core::OpRef;
 
 /// What a log has to say of a word that an answer shows.
 #[derive(Clone, Copy)]
@@ -79,12 +79,12 @@ impl Tally {
 }
 
 /// An answer of a log, and what is known of its request.
-#[derive(Clone, Copy)]
+#[derive(Drop)]
 pub(crate) struct Question<'a> {
     pub(crate) requests: &'a Requests<'a>,
     pub(crate) asked: Request,
-    pub(crate) op: &'a Op,
-    pub(crate) reply: &'a Reply,
+    pub(crate) op: OpRef<'a>,
+    pub(crate) reply: ReplyRef<'a>,
 }
 
 impl<'a> Question<'a> {
@@ -135,13 +135,13 @@ impl<'a> Question<'a> {
             return;
         };
         let reply = self.requests.reply(request);
-        match effect_by(self.requests.extent, sight, op, reply) {
+        match effect_by(self.requests.extent, sight, &op, reply.as_ref()) {
             Effect::Keeps => {}
             Effect::Unknown => tally.is_known = false,
             Effect::Puts => tally.put(request.due),
             Effect::Overwrites => {
                 if let Some(answer) = self.answer_of(request)
-                    && shows(sight, op, reply)
+                    && shows(sight, &op, reply.as_ref())
                 {
                     tally.take(answer);
                 }

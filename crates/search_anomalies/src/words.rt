@@ -1,8 +1,7 @@
 //! Bytes of the memory that an answer shows.
-use arrayvec::ArrayVec;
 use search_effects::{is_needed, is_put};
-use seq_memory::Reply;
-use tlp_core::Op;
+use seq_memory::ReplyRef;
+use tlp_core::{OpRef, PayloadRef};
 
 /// Bytes of one DW of the memory, as many of them as are looked at.
 #[derive(Clone, Copy, Debug, PartialEq, Eq)]
@@ -14,7 +13,7 @@ pub struct Word {
 
 impl Word {
     /// What the data of a reply show of the DW at that offset: the bytes that the operation needs.
-    pub(crate) fn shown_by(op: &Op, data: &[u8], offset: usize) -> Word {
+    pub(crate) fn shown_by(op: &OpRef<'_>, data: &[u8], offset: usize) -> Word {
         let mut bytes = [None; 4];
         for place in 0..4usize {
             let at = offset.saturating_add(place);
@@ -30,7 +29,7 @@ impl Word {
 
     /// What the operation leaves of the DW at that offset of its range, where these bytes are there behind it: the bytes that
     /// it writes.
-    pub(crate) fn put_by(op: &Op, bytes: &[u8], offset: usize) -> Word {
+    pub(crate) fn put_by(op: &OpRef<'_>, bytes: &[u8], offset: usize) -> Word {
         let mut put = [None; 4];
         for place in 0..4usize {
             let at = offset.saturating_add(place);
@@ -77,20 +76,13 @@ impl Word {
     }
 
     /// The read that looks at the bytes.
-    fn read(&self) -> Op {
-        Op::Read {
+    fn read(&self) -> OpRef<'static> {
+        OpRef::Read {
             address: self.address,
             dw: 1,
             first: self.enables(),
             last: 0,
         }
-    }
-
-    /// The reply to that read where the bytes are there.
-    fn reply(&self) -> Reply {
-        let mut data = ArrayVec::new();
-        let _ = data.try_extend_from_slice(&self.shown());
-        Reply::Data(data)
     }
 }
 
@@ -98,8 +90,9 @@ impl Word {
 #[derive(Drop)]
 pub(crate) struct Sight {
     pub(crate) word: Word,
-    pub(crate) read: Op,
-    pub(crate) reply: Reply,
+    pub(crate) read: OpRef<'static>,
+    /// The bytes that it shows.
+    shown: [u8; 4],
 }
 
 impl Sight {
@@ -107,7 +100,12 @@ impl Sight {
         Sight {
             word,
             read: word.read(),
-            reply: word.reply(),
+            shown: word.shown(),
         }
+    }
+
+    /// The reply to the read where the word is there.
+    pub(crate) fn reply(&self) -> ReplyRef<'_> {
+        ReplyRef::Data(PayloadRef::new(&self.shown))
     }
 }

@@ -1,10 +1,10 @@
 //! Which requests may be alike. Nothing rests on what this says.
 use log_runs::{Event, Log};
 use search_others::Others;
-use seq_memory::Reply;
+use seq_memory::ReplyRef;
 use std::alloc::{AllocError, Global};
 use std::collections::HashMap;
-use tlp_core::Op;
+use tlp_core::OpRef;
 
 /// Of each request the one before it of those that seem to be alike.
 #[derive(Drop)]
@@ -29,20 +29,20 @@ fn mix_wide(mark: u64, number: u128) -> u64 {
 }
 
 /// A number that depends on the operation; None if it isn't an AtomicOp.
-fn mark_of(op: &Op) -> Option<u64> {
+fn mark_of(op: &OpRef<'_>) -> Option<u64> {
     match op {
-        Op::Read { .. } | Op::Write { .. } => None,
-        Op::FetchAdd {
+        OpRef::Read { .. } | OpRef::Write { .. } => None,
+        OpRef::FetchAdd {
             address,
             operand,
             ..
         } => Some(mix_wide(mix(1, *address), *operand)),
-        Op::Swap {
+        OpRef::Swap {
             address,
             operand,
             ..
         } => Some(mix_wide(mix(2, *address), *operand)),
-        Op::Cas {
+        OpRef::Cas {
             address,
             compare,
             swap,
@@ -52,9 +52,9 @@ fn mark_of(op: &Op) -> Option<u64> {
 }
 
 /// A number that depends on the first mark and on the reply.
-fn mark_with(mark: u64, reply: Option<&Reply>) -> u64 {
+fn mark_with(mark: u64, reply: Option<&ReplyRef<'_>>) -> u64 {
     match reply {
-        Some(Reply::Data(data)) => {
+        Some(ReplyRef::Data(data)) => {
             let mut mark = mix(mark, 1);
             for byte in data.as_slice() {
                 mark = mix(mark, u64::from(*byte));
@@ -68,7 +68,7 @@ fn mark_with(mark: u64, reply: Option<&Reply>) -> u64 {
 /// A number that depends on what the request asks for, and was answered; None if it isn't an AtomicOp.
 fn mark_at(log: &Log, b: usize) -> Option<u64> {
     match log.event(b) {
-        Some(Event::Sub { op, reply, .. }) => Some(mark_with(mark_of(op)?, reply)),
+        Some(Event::Sub { op, reply, .. }) => Some(mark_with(mark_of(&op)?, reply.as_ref())),
         _ => None,
     }
 }

@@ -19,7 +19,7 @@ use search_places::laws::who_is_left_is_pending;
 use search_rules::laws::the_first_of_alike_requests_acts_first;
 use search_rules::never_brings;
 use std::alloc::{AllocError, Global};
-use tlp_core::Op;
+use tlp_core::OpRef;
 
 /// What says which steps are tried first, and which requests may be alike.
 #[derive(Clone, Copy)]
@@ -79,7 +79,7 @@ struct Aim {
 }
 
 /// The operations have a byte in common.
-fn meet(one: &Op, other: &Op) -> bool {
+fn meet(one: &OpRef<'_>, other: &OpRef<'_>) -> bool {
     let (a, b) = (one.address(), other.address());
     if a <= b {
         b - a < u64::from(one.size())
@@ -109,7 +109,7 @@ fn rank_beside(log: &Log, target: usize, b: usize) -> Rank {
     if reply.is_none() && !op.is_posted() {
         return Rank::Open;
     }
-    if !meet(one, op) {
+    if !meet(&one, &op) {
         return Rank::Far;
     }
     if op.is_posted() {

@@ -12,8 +12,8 @@ use log_runs::{Event, Log};
 use search_effects::breaks;
 use search_effects::laws::what_is_needed_is_there;
 use search_rules::{is_served, never_brings};
-use seq_memory::Reply;
-use tlp_core::Op;
+use seq_memory::ReplyRef;
+use tlp_core::OpRef;
 
 /// What a request does to what another one found.
 #[derive(Clone, Copy, Debug, PartialEq, Eq)]
@@ -26,25 +26,30 @@ pub enum Role {
     MayPut,
 }
 
-fn is_atomic(op: &Op) -> bool
+fn is_atomic(op: &OpRef<'_>) -> bool
     ensures { result ≡ effects.is_atomic op.now }
 {
     match op {
-        Op::Read { .. } | Op::Write { .. } => false,
+        OpRef::Read { .. } | OpRef::Write { .. } => false,
         _ => true,
     }
 }
 
 /// AtomicOps at the same bytes that were answered the same data: wherever the memory answers the one so, it
 /// answers the other so, if it is served.
-fn finds_alike(one: &Op, told: &Reply, other: &Op, asked: &Reply) -> bool
+fn finds_alike(
+    one: &OpRef<'_>,
+    told: &ReplyRef<'_>,
+    other: &OpRef<'_>,
+    asked: &ReplyRef<'_>,
+) -> bool
     ensures { IsTrue result → (base block : ℕ) (m : List ℕ) → refusal base (length m) block other.now ≡ None → answer base block m one.now ≡ told.now →
         answer base block m other.now ≡ asked.now }
 {
-    let Reply::Data(old) = told else {
+    let ReplyRef::Data(old) = told else {
         return false;
     };
-    let Reply::Data(need) = asked else {
+    let ReplyRef::Data(need) = asked else {
         return false;
     };
     if !is_atomic(one) {
@@ -63,7 +68,13 @@ fn finds_alike(one: &Op, told: &Reply, other: &Op, asked: &Reply) -> bool
 }
 
 /// The operation finds what request `q` found, by the replies, and takes it away.
-fn takes_by(log: &Log, one: &Op, told: Option<&Reply>, other: &Op, asked: Option<&Reply>) -> bool
+fn takes_by(
+    log: &Log,
+    one: &OpRef<'_>,
+    told: Option<&ReplyRef<'_>>,
+    other: &OpRef<'_>,
+    asked: Option<&ReplyRef<'_>>,
+) -> bool
     ensures finds { IsTrue result → (m : List ℕ) → length m ≡ log.now.extent.size → Answers log.now.extent m one.now (told_of told.entry) →
         Answers log.now.extent m other.now (told_of asked.entry) }
     ensures leaves { IsTrue result → (m : List ℕ) → length m ≡ log.now.extent.size → Answers log.now.extent m one.now (told_of told.entry) →
@@ -88,14 +99,14 @@ fn takes_by(log: &Log, one: &Op, told: Option<&Reply>, other: &Op, asked: Option
 }
 
 /// The operation finds what request `q` found, and takes it away.
-fn takes_from(log: &Log, one: &Op, told: Option<&Reply>, q: usize) -> bool
+fn takes_from(log: &Log, one: &OpRef<'_>, told: Option<&ReplyRef<'_>>, q: usize) -> bool
     ensures finds { IsTrue result → (m : List ℕ) → length m ≡ log.now.extent.size → Answers log.now.extent m one.now (told_of told.entry) →
         Suits log.now.extent m (slice_get log.now.events q) }
     ensures leaves { IsTrue result → (m : List ℕ) → length m ≡ log.now.extent.size → Answers log.now.extent m one.now (told_of told.entry) →
         Suits log.now.extent (bytes_after log.now.extent m one.now) (slice_get log.now.events q) → ⊥ }
 {
     match log.event(q) {
-        Some(Event::Sub { op, reply, .. }) => takes_by(log, one, told, op, reply),
+        Some(Event::Sub { op, reply, .. }) => takes_by(log, one, told, &op, reply.as_ref()),
         _ => false,
     }
 }
@@ -108,7 +119,7 @@ fn takes(log: &Log, b: usize, q: usize) -> bool
         Suits log.now.extent (acted_on log.now.extent m (slice_get log.now.events b)) (slice_get log.now.events q) → ⊥ }
 {
     match log.event(b) {
-        Some(Event::Sub { op, reply, .. }) => takes_from(log, op, reply, q),
+        Some(Event::Sub { op, reply, .. }) => takes_from(log, &op, reply.as_ref(), q),
         _ => false,
     }
 }
@@ -149,14 +160,14 @@ fn has_byte(bytes: &[u8]) -> bool
 }
 
 /// Zeros don't answer the operation so.
-fn changes_zeros(op: &Op, told: Option<&Reply>) -> bool
+fn changes_zeros(op: &OpRef<'_>, told: Option<&ReplyRef<'_>>) -> bool
     ensures { IsTrue result → (base block n : ℕ) → Agrees base block (replicate n 0) op.now (told_of told.entry) → ⊥ }
 {
     what_is_needed_is_there();
     let Some(reply) = told else {
         return false;
     };
-    let Reply::Data(data) = reply else {
+    let ReplyRef::Data(data) = reply else {
         return false;
     };
     if !is_atomic(op) {
@@ -171,7 +182,11 @@ pub(crate) fn first_of(log: &Log, q: usize) -> usize
     ensures few { result ≤ 1 }
 {
     match log.event(q) {
-        Some(Event::Sub { op, reply, .. }) => if changes_zeros(op, reply) { 0 } else { 1 },
+        Some(Event::Sub { op, reply, .. }) => if changes_zeros(&op, reply.as_ref()) {
+            0
+        } else {
+            1
+        },
         _ => 1,
     }
 }

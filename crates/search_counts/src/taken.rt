@@ -1,8 +1,8 @@
 //! What AtomicOps were answered. Nothing rests on what these functions say.
 use log_runs::{Event, Log};
-use seq_memory::Reply;
+use seq_memory::ReplyRef;
 use std::alloc::{AllocError, Global};
-use tlp_core::Op;
+use tlp_core::OpRef;
 
 /// An AtomicOp that was answered: its address, the number that the first bytes of its data are, the place of the answer,
 /// and its own.
@@ -22,10 +22,10 @@ fn taken_by(log: &Log, b: usize, place: usize) -> Option<Taken> {
     let Some(Event::Sub { op, reply, .. }) = log.event(b) else {
         return None;
     };
-    if matches!(op, Op::Read { .. } | Op::Write { .. }) {
+    if matches!(op, OpRef::Read { .. } | OpRef::Write { .. }) {
         return None;
     }
-    let Reply::Data(data) = reply? else {
+    let ReplyRef::Data(data) = reply? else {
         return None;
     };
     Some((op.address(), number_of(data.as_slice()), place, b))

@@ -9,16 +9,16 @@ ghost use Rattle.search_effects.specs.Effects.{AreSameBut};
 
 use crate::ranges::is_put;
 use seq_memory::laws::only_the_place_changes;
-use tlp_core::Op;
+use tlp_core::OpRef;
 
-fn is_write(op: &Op) -> bool
+fn is_write(op: &OpRef<'_>) -> bool
     ensures { IsTrue result → (a : ℕ) × (f : ℕ) × (l : ℕ) × (bytes : ArrayVec ℕ) × (op.now ≡ ops.Write a f l bytes) }
 {
-    matches!(op, Op::Write { .. })
+    matches!(op, OpRef::Write { .. })
 }
 
 /// The operation writes each byte of its range.
-fn puts_all(op: &Op) -> bool
+fn puts_all(op: &OpRef<'_>) -> bool
     ensures { IsTrue result → (at : ℕ) → at < count_of op.now → effects.is_put op.now at ≡ true }
 {
     for at in 0..op.size() as usize {
@@ -30,7 +30,7 @@ fn puts_all(op: &Op) -> bool
 }
 
 /// The first has all addresses of the second.
-pub fn spans(one: &Op, other: &Op) -> bool
+pub fn spans(one: &OpRef<'_>, other: &OpRef<'_>) -> bool
     ensures low { IsTrue result → address_of one.now ≤ address_of other.now }
     ensures high { IsTrue result → address_of other.now + count_of other.now ≤ address_of one.now + count_of one.now }
 {
@@ -41,7 +41,7 @@ pub fn spans(one: &Op, other: &Op) -> bool
 
 /// The first is a write of all bytes of the second: where it is served, it makes no difference what
 /// stood there.
-pub fn covers(one: &Op, other: &Op) -> bool
+pub fn covers(one: &OpRef<'_>, other: &OpRef<'_>) -> bool
     ensures { IsTrue result → (base block : ℕ) (m n : List ℕ) → refusal base (length m) block one.now ≡ None → AreSameBut base other.now m n →
         after base block n one.now ≡ after base block m one.now }
 {

@@ -10,12 +10,12 @@ ghost use Rattle.search_effects.specs.Effects.{Agrees, AreSameAt, told_of};
 use crate::laws::{apart_requests_commute, what_is_needed_is_there};
 use crate::puts::{is_quiet, is_read, left};
 use crate::ranges::{are_apart, is_needed, is_put, place_in};
-use seq_memory::Reply;
+use seq_memory::ReplyRef;
 use seq_memory::laws::{only_the_place_changes, refused_and_read_change_nothing};
-use tlp_core::Op;
+use tlp_core::OpRef;
 
 /// The first operation puts another byte at the place of the second than the second needs.
-fn puts_other(one: &Op, new: &[u8], other: &Op, need: &[u8], at: usize) -> bool
+fn puts_other(one: &OpRef<'_>, new: &[u8], other: &OpRef<'_>, need: &[u8], at: usize) -> bool
     ensures { IsTrue result →
         (i : ℕ) × (address_of one.now + i ≡ address_of other.now + at) × (i < length new.now) × (effects.is_put one.now i ≡ true) × (at < length need.now) ×
         (effects.is_needed other.now at ≡ true) × (slice_index new.now i ≢ slice_index need.now at) × (i < count_of one.now) }
@@ -32,7 +32,7 @@ fn puts_other(one: &Op, new: &[u8], other: &Op, need: &[u8], at: usize) -> bool
 }
 
 /// It does so at some place.
-fn some_put_other(one: &Op, new: &[u8], other: &Op, need: &[u8]) -> bool
+fn some_put_other(one: &OpRef<'_>, new: &[u8], other: &OpRef<'_>, need: &[u8]) -> bool
     ensures { IsTrue result →
         (at : ℕ) × (i : ℕ) × (address_of one.now + i ≡ address_of other.now + at) × (i < length new.now) × (effects.is_put one.now i ≡ true) ×
         (at < length need.now) × (effects.is_needed other.now at ≡ true) × (slice_index new.now i ≢ slice_index need.now at) × (i < count_of one.now) }
@@ -47,13 +47,19 @@ fn some_put_other(one: &Op, new: &[u8], other: &Op, need: &[u8]) -> bool
 
 /// After `one`, which is served and was answered `told` or not at all, the memory doesn't answer
 /// `reply` to `other` while the bytes in the range of `one` are as it left them.
-pub fn breaks(block: u16, one: &Op, told: Option<&Reply>, other: &Op, reply: &Reply) -> bool
+pub fn breaks(
+    block: u16,
+    one: &OpRef<'_>,
+    told: Option<&ReplyRef<'_>>,
+    other: &OpRef<'_>,
+    reply: &ReplyRef<'_>,
+) -> bool
     requires { IsBlock block }
     ensures { IsTrue result → (base : ℕ) (m n : List ℕ) → refusal base (length m) block one.now ≡ None → Agrees base block m one.now (told_of told.entry) →
         AreSameAt base one.now (after base block m one.now) n → answer base block n other.now ≡ reply.now → ⊥ }
 {
     what_is_needed_is_there();
-    let Reply::Data(need) = reply else {
+    let ReplyRef::Data(need) = reply else {
         return false;
     };
     let new = left(block, one, told);
@@ -61,7 +67,7 @@ pub fn breaks(block: u16, one: &Op, told: Option<&Reply>, other: &Op, reply: &Re
 }
 
 /// The operations need different bytes at that place of the second.
-fn needs_other(one: &Op, old: &[u8], other: &Op, need: &[u8], at: usize) -> bool
+fn needs_other(one: &OpRef<'_>, old: &[u8], other: &OpRef<'_>, need: &[u8], at: usize) -> bool
     ensures { IsTrue result →
         (i : ℕ) × (address_of one.now + i ≡ address_of other.now + at) × (i < length old.now) × (effects.is_needed one.now i ≡ true) ×
         (at < length need.now) × (effects.is_needed other.now at ≡ true) × (slice_index old.now i ≢ slice_index need.now at) }
@@ -77,7 +83,7 @@ fn needs_other(one: &Op, old: &[u8], other: &Op, need: &[u8], at: usize) -> bool
 }
 
 /// They do so at some place.
-fn some_need_other(one: &Op, old: &[u8], other: &Op, need: &[u8]) -> bool
+fn some_need_other(one: &OpRef<'_>, old: &[u8], other: &OpRef<'_>, need: &[u8]) -> bool
     ensures { IsTrue result →
         (at : ℕ) × (i : ℕ) × (address_of one.now + i ≡ address_of other.now + at) × (i < length old.now) × (effects.is_needed one.now i ≡ true) ×
         (at < length need.now) × (effects.is_needed other.now at ≡ true) × (slice_index old.now i ≢ slice_index need.now at) }
@@ -91,14 +97,19 @@ fn some_need_other(one: &Op, old: &[u8], other: &Op, need: &[u8]) -> bool
 }
 
 /// No bytes give both replies.
-pub fn clashes(one: &Op, told: &Reply, other: &Op, reply: &Reply) -> bool
+pub fn clashes(
+    one: &OpRef<'_>,
+    told: &ReplyRef<'_>,
+    other: &OpRef<'_>,
+    reply: &ReplyRef<'_>,
+) -> bool
     ensures { IsTrue result → (base block : ℕ) (m : List ℕ) → answer base block m one.now ≡ told.now → answer base block m other.now ≡ reply.now → ⊥ }
 {
     what_is_needed_is_there();
-    let Reply::Data(old) = told else {
+    let ReplyRef::Data(old) = told else {
         return false;
     };
-    let Reply::Data(need) = reply else {
+    let ReplyRef::Data(need) = reply else {
         return false;
     };
     some_need_other(one, old.as_slice(), other, need.as_slice())
@@ -106,7 +117,13 @@ pub fn clashes(one: &Op, told: &Reply, other: &Op, reply: &Reply) -> bool
 
 /// Right after `one`, which was answered `told` or not at all, the memory answers `reply` to `other`
 /// only if it did before.
-pub fn never_brings(block: u16, one: &Op, told: Option<&Reply>, other: &Op, reply: &Reply) -> bool
+pub fn never_brings(
+    block: u16,
+    one: &OpRef<'_>,
+    told: Option<&ReplyRef<'_>>,
+    other: &OpRef<'_>,
+    reply: &ReplyRef<'_>,
+) -> bool
     requires { IsBlock block }
     ensures { IsTrue result → (base : ℕ) (m : List ℕ) → Agrees base block m one.now (told_of told.entry) →
         answer base block (after base block m one.now) other.now ≡ reply.now → answer base block m other.now ≡ reply.now }
@@ -123,7 +140,12 @@ pub fn never_brings(block: u16, one: &Op, told: Option<&Reply>, other: &Op, repl
 }
 
 /// The read wasn't answered, or no bytes give both replies.
-fn read_yields(one: &Op, told: Option<&Reply>, other: &Op, reply: &Reply) -> bool
+fn read_yields(
+    one: &OpRef<'_>,
+    told: Option<&ReplyRef<'_>>,
+    other: &OpRef<'_>,
+    reply: &ReplyRef<'_>,
+) -> bool
     ensures { IsTrue result →
         (told_of told.entry ≡ None) ⊎
         ((base block : ℕ) (m : List ℕ) → Agrees base block m one.now (told_of told.entry) → answer base block m other.now ≡ reply.now → ⊥) }
@@ -135,18 +157,18 @@ fn read_yields(one: &Op, told: Option<&Reply>, other: &Op, reply: &Reply) -> boo
 }
 
 /// A request that isn't served is answered so.
-fn is_refusal(reply: &Reply) -> bool
+fn is_refusal(reply: &ReplyRef<'_>) -> bool
     ensures { IsTrue result → (reply.now ≡ replies.Unsupported) ⊎ (reply.now ≡ replies.Aborted) }
 {
     match reply {
-        Reply::Unsupported => true,
-        Reply::Aborted => true,
+        ReplyRef::Unsupported => true,
+        ReplyRef::Aborted => true,
         _ => false,
     }
 }
 
 /// The request wasn't served, as its reply tells.
-fn was_refused(told: Option<&Reply>) -> bool
+fn was_refused(told: Option<&ReplyRef<'_>>) -> bool
     ensures { IsTrue result → (told_of told.entry ≡ Some replies.Unsupported) ⊎ (told_of told.entry ≡ Some replies.Aborted) }
 {
     match told {
@@ -157,7 +179,13 @@ fn was_refused(told: Option<&Reply>) -> bool
 
 /// [`never_brings`]; and where the memory answers both so, it doesn't answer `reply` to `other` right
 /// after `one`, or their order makes no difference.
-pub fn yields(block: u16, one: &Op, told: Option<&Reply>, other: &Op, reply: &Reply) -> bool
+pub fn yields(
+    block: u16,
+    one: &OpRef<'_>,
+    told: Option<&ReplyRef<'_>>,
+    other: &OpRef<'_>,
+    reply: &ReplyRef<'_>,
+) -> bool
     requires { IsBlock block }
     ensures brings { IsTrue result → (base : ℕ) (m : List ℕ) → Agrees base block m one.now (told_of told.entry) →
         answer base block (after base block m one.now) other.now ≡ reply.now → answer base block m other.now ≡ reply.now }

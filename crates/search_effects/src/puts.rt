@@ -10,32 +10,33 @@ ghost use Rattle.search_effects.specs.Effects.{Agrees, told_of};
 
 use crate::laws::what_is_not_put_stays;
 use crate::ranges::is_put;
+use search_undo::act;
+use seq_memory::ReplyRef;
 use seq_memory::laws::{only_the_place_changes, refused_and_read_change_nothing};
-use seq_memory::{Reply, perform};
-use tlp_core::{Op, Payload, Width, payload_of};
+use tlp_core::{OpRef, Payload, PayloadRef, Width, payload_of};
 
 /// What an operation leaves of the bytes at its place.
-fn changed(block: u16, op: &Op, old: &[u8]) -> Payload
+fn changed(block: u16, op: &OpRef<'_>, old: &[u8]) -> Payload
     requires block { IsBlock block }
     requires few { length old.now ≤ 128 }
     ensures { result.items ≡ after (address_of op.now) block old.now op.now }
 {
     let mut new = payload_of(old);
-    let _ = perform(op.address(), block, new.as_mut_slice(), op);
+    act(op.address(), block, new.as_mut_slice(), op);
     new
 }
 
-fn is_atomic(op: &Op) -> bool
+fn is_atomic(op: &OpRef<'_>) -> bool
     ensures { result ≡ effects.is_atomic op.now }
 {
     match op {
-        Op::Read { .. } | Op::Write { .. } => false,
+        OpRef::Read { .. } | OpRef::Write { .. } => false,
         _ => true,
     }
 }
 
 /// What an AtomicOp leaves where it was answered with those bytes.
-fn left_by_atomic(block: u16, op: &Op, old: &Payload) -> Payload
+fn left_by_atomic(block: u16, op: &OpRef<'_>, old: &PayloadRef<'_>) -> Payload
     requires { IsBlock block }
     ensures { (base at : ℕ) (m : List ℕ) → at < length result.items → refusal base (length m) block op.now ≡ None →
         answer base block m op.now ≡ replies.Data old.now →
@@ -57,7 +58,7 @@ fn zeros(width: Width) -> Payload
 }
 
 /// What a Swap leaves, whatever it meets.
-fn left_by_swap(block: u16, op: &Op, width: Width) -> Payload
+fn left_by_swap(block: u16, op: &OpRef<'_>, width: Width) -> Payload
     requires block { IsBlock block }
     requires swap { (a : ℕ) × (x : ℕ) × (op.now ≡ ops.Swap a width x) }
     ensures { (base at : ℕ) (m : List ℕ) → at < length result.items → refusal base (length m) block op.now ≡ None →
@@ -69,34 +70,34 @@ fn left_by_swap(block: u16, op: &Op, width: Width) -> Payload
 }
 
 /// What a request leaves, if that is the same whatever it meets: a write or a Swap.
-fn left_by_write(block: u16, op: &Op) -> Payload
+fn left_by_write(block: u16, op: &OpRef<'_>) -> Payload
     requires { IsBlock block }
     ensures { (base at : ℕ) (m : List ℕ) → at < length result.items → effects.is_put op.now at ≡ true → refusal base (length m) block op.now ≡ None →
         slice_index (after base block m op.now) (address_of op.now - base + at) ≡ slice_index result.items at }
 {
     only_the_place_changes();
     match op {
-        Op::Write { bytes, .. } => payload_of(bytes.as_slice()),
-        Op::Swap { width, .. } => left_by_swap(block, op, *width),
+        OpRef::Write { bytes, .. } => payload_of(bytes.as_slice()),
+        OpRef::Swap { width, .. } => left_by_swap(block, op, *width),
         _ => Payload::new(),
     }
 }
 
 /// What a request leaves that was answered so.
-fn left_by_reply(block: u16, op: &Op, reply: &Reply) -> Payload
+fn left_by_reply(block: u16, op: &OpRef<'_>, reply: &ReplyRef<'_>) -> Payload
     requires { IsBlock block }
     ensures { (base at : ℕ) (m : List ℕ) → at < length result.items → effects.is_put op.now at ≡ true → refusal base (length m) block op.now ≡ None →
         answer base block m op.now ≡ reply.now → slice_index (after base block m op.now) (address_of op.now - base + at) ≡ slice_index result.items at }
 {
     match reply {
-        Reply::Data(old) => left_by_atomic(block, op, old),
+        ReplyRef::Data(old) => left_by_atomic(block, op, old),
         _ => Payload::new(),
     }
 }
 
 /// The bytes in the request's range right after it acted, where it writes them, if that is known by
 /// what it was answered; else nothing.
-pub fn left(block: u16, op: &Op, told: Option<&Reply>) -> Payload
+pub fn left(block: u16, op: &OpRef<'_>, told: Option<&ReplyRef<'_>>) -> Payload
     requires { IsBlock block }
     ensures { (base at : ℕ) (m : List ℕ) → at < length result.items → effects.is_put op.now at ≡ true → refusal base (length m) block op.now ≡ None →
         Agrees base block m op.now (told_of told.entry) →
@@ -109,7 +110,7 @@ pub fn left(block: u16, op: &Op, told: Option<&Reply>) -> Payload
 }
 
 /// The AtomicOp, which was answered with those bytes, leaves them.
-fn is_kept(block: u16, op: &Op, old: &Payload) -> bool
+fn is_kept(block: u16, op: &OpRef<'_>, old: &PayloadRef<'_>) -> bool
     requires { IsBlock block }
     ensures { IsTrue result → (base : ℕ) (m : List ℕ) → answer base block m op.now ≡ replies.Data old.now → after base block m op.now ≡ m }
 {
@@ -120,29 +121,29 @@ fn is_kept(block: u16, op: &Op, old: &Payload) -> bool
     changed(block, op, old.as_slice()).as_slice() == old.as_slice()
 }
 
-pub(crate) fn is_read(op: &Op) -> bool
+pub(crate) fn is_read(op: &OpRef<'_>) -> bool
     ensures { IsTrue result → (a : ℕ) × (d : ℕ) × (f : ℕ) × (l : ℕ) × (op.now ≡ ops.Read a d f l) }
 {
-    matches!(op, Op::Read { .. })
+    matches!(op, OpRef::Read { .. })
 }
 
 /// The AtomicOp, which was answered so, leaves what it was answered, or wasn't served.
-fn is_kept_by(block: u16, op: &Op, reply: &Reply) -> bool
+fn is_kept_by(block: u16, op: &OpRef<'_>, reply: &ReplyRef<'_>) -> bool
     requires { IsBlock block }
     ensures { IsTrue result → (base : ℕ) (m : List ℕ) → answer base block m op.now ≡ reply.now → after base block m op.now ≡ m }
 {
     refused_and_read_change_nothing();
     match reply {
-        Reply::Data(old) => is_kept(block, op, old),
-        Reply::Done => false,
-        Reply::Unsupported => true,
-        Reply::Aborted => true,
+        ReplyRef::Data(old) => is_kept(block, op, old),
+        ReplyRef::Done => false,
+        ReplyRef::Unsupported => true,
+        ReplyRef::Aborted => true,
     }
 }
 
 /// Wherever the request may act, it changes nothing: a read, an AtomicOp that leaves what it was
 /// answered, or a request that wasn't served.
-pub fn is_quiet(block: u16, op: &Op, told: Option<&Reply>) -> bool
+pub fn is_quiet(block: u16, op: &OpRef<'_>, told: Option<&ReplyRef<'_>>) -> bool
     requires { IsBlock block }
     ensures { IsTrue result → (base : ℕ) (m : List ℕ) → Agrees base block m op.now (told_of told.entry) → after base block m op.now ≡ m }
 {
@@ -157,7 +158,7 @@ pub fn is_quiet(block: u16, op: &Op, told: Option<&Reply>) -> bool
 }
 
 /// The place of the address in the operation's range.
-pub(crate) fn place_of(op: &Op, address: u64) -> Option<usize>
+pub(crate) fn place_of(op: &OpRef<'_>, address: u64) -> Option<usize>
     ensures some { IfSome result (λ i. address_of op.now + i ≡ address) }
     ensures none { IfNone result ((address < address_of op.now) ⊎ (address_of op.now + count_of op.now ≤ address)) }
 {
@@ -173,7 +174,13 @@ pub(crate) fn place_of(op: &Op, address: u64) -> Option<usize>
 }
 
 /// Where the request has acted, which is served, another byte than `value` is at that place of its range.
-fn leaves_other(block: u16, op: &Op, told: Option<&Reply>, at: usize, value: u8) -> bool
+fn leaves_other(
+    block: u16,
+    op: &OpRef<'_>,
+    told: Option<&ReplyRef<'_>>,
+    at: usize,
+    value: u8,
+) -> bool
     requires { IsBlock block }
     ensures { IsTrue result → effects.is_put op.now at ≡ true → (base : ℕ) (m : List ℕ) → refusal base (length m) block op.now ≡ None →
         Agrees base block m op.now (told_of told.entry) → slice_index (after base block m op.now) (address_of op.now - base + at) ≢ value }
@@ -184,7 +191,13 @@ fn leaves_other(block: u16, op: &Op, told: Option<&Reply>, at: usize, value: u8)
 
 /// Right after the request, which was answered `told` or not at all, the byte at the address is `value`
 /// only if it was before.
-pub fn never_puts(block: u16, op: &Op, told: Option<&Reply>, address: u64, value: u8) -> bool
+pub fn never_puts(
+    block: u16,
+    op: &OpRef<'_>,
+    told: Option<&ReplyRef<'_>>,
+    address: u64,
+    value: u8,
+) -> bool
     requires { IsBlock block }
     ensures { IsTrue result → (base k : ℕ) (m : List ℕ) → base + k ≡ address → Agrees base block m op.now (told_of told.entry) →
         slice_index (after base block m op.now) k ≡ value → slice_index m k ≡ value }

@@ -6,7 +6,7 @@ ghost use Rattle.seq_memory.specs.Step as step;
 ghost use Rattle.search_effects.specs.Effects as effects;
 ghost use Rattle.std.specs.Prelude.{slice_index_or, false};
 
-use tlp_core::Op;
+use tlp_core::OpRef;
 
 /// Bit `at` of a DW's enables.
 fn is_enabled_in(enables: u8, at: usize) -> bool
@@ -40,39 +40,39 @@ fn is_enabled(dw: usize, first: u8, last: u8, at: usize) -> bool
 }
 
 /// The byte at that place in the operation's range is in the data of its reply.
-pub fn is_needed(op: &Op, at: usize) -> bool
+pub fn is_needed(op: &OpRef<'_>, at: usize) -> bool
     ensures { result ≡ effects.is_needed op.now at }
 {
     match op {
-        Op::Read {
+        OpRef::Read {
             dw,
             first,
             last,
             ..
         } => is_enabled(usize::from(*dw), *first, *last, at),
-        Op::Write { .. } => false,
+        OpRef::Write { .. } => false,
         _ => true,
     }
 }
 
 /// The operation writes the byte at that place in its range.
-pub fn is_put(op: &Op, at: usize) -> bool
+pub fn is_put(op: &OpRef<'_>, at: usize) -> bool
     ensures { result ≡ effects.is_put op.now at }
 {
     match op {
-        Op::Read { .. } => false,
-        Op::Write {
+        OpRef::Read { .. } => false,
+        OpRef::Write {
             first,
             last,
             bytes,
             ..
-        } => is_enabled(bytes.len() / 4, *first, *last, at),
+        } => is_enabled(bytes.as_slice().len() / 4, *first, *last, at),
         _ => true,
     }
 }
 
 /// The operations have no address in common.
-pub fn are_apart(one: &Op, other: &Op) -> bool
+pub fn are_apart(one: &OpRef<'_>, other: &OpRef<'_>) -> bool
     ensures { IsTrue result → effects.AreApart one.now other.now }
 {
     let (a, b) = (one.address(), other.address());
@@ -84,7 +84,7 @@ pub fn are_apart(one: &Op, other: &Op) -> bool
 }
 
 /// The place in the first range of what is at place `at` of the second.
-pub(crate) fn place_in(one: &Op, other: &Op, at: usize) -> Option<usize>
+pub(crate) fn place_in(one: &OpRef<'_>, other: &OpRef<'_>, at: usize) -> Option<usize>
     ensures { IfSome result (λ i. address_of one.now + i ≡ address_of other.now + at) }
 {
     let (a, b) = (one.address(), other.address());
@@ -96,7 +96,7 @@ pub(crate) fn place_in(one: &Op, other: &Op, at: usize) -> Option<usize>
 }
 
 /// The index of what is at place `at` of the range, in the memory whose bytes begin at `base`.
-pub(crate) fn index_of(base: u64, op: &Op, at: usize) -> Option<usize>
+pub(crate) fn index_of(base: u64, op: &OpRef<'_>, at: usize) -> Option<usize>
     ensures { IfSome result (λ k. (base ≤ address_of op.now) × (k ≡ address_of op.now - base + at)) }
 {
     let a = op.address();

@@ -10,11 +10,11 @@ ghost use Rattle.search_effects.specs.Effects.{AreSameBut};
 use crate::puts::{is_read, place_of};
 use crate::ranges::is_needed;
 use seq_memory::laws::refused_and_read_change_nothing;
-use tlp_core::Op;
+use tlp_core::OpRef;
 
 /// The first operation needs the byte at that place of its range, and the second has it, as far as that
 /// is known.
-fn needs_there(one: &Op, other: &Op, at: usize) -> bool
+fn needs_there(one: &OpRef<'_>, other: &OpRef<'_>, at: usize) -> bool
     ensures { result ≡ false → effects.is_needed one.now at ≡ true →
         (address_of one.now + at < address_of other.now) ⊎ (address_of other.now + count_of other.now ≤ address_of one.now + at) }
 {
@@ -31,7 +31,7 @@ fn needs_there(one: &Op, other: &Op, at: usize) -> bool
 }
 
 /// The first operation needs no byte of the second.
-fn needs_none(one: &Op, other: &Op) -> bool
+fn needs_none(one: &OpRef<'_>, other: &OpRef<'_>) -> bool
     ensures { IsTrue result → (at : ℕ) → at < count_of one.now → effects.is_needed one.now at ≡ true →
         (address_of one.now + at < address_of other.now) ⊎ (address_of other.now + count_of other.now ≤ address_of one.now + at) }
 {
@@ -44,7 +44,7 @@ fn needs_none(one: &Op, other: &Op) -> bool
 }
 
 /// The first is a read that needs no byte of the second: whatever stands there, it is answered the same.
-pub fn sees_none(one: &Op, other: &Op) -> bool
+pub fn sees_none(one: &OpRef<'_>, other: &OpRef<'_>) -> bool
     ensures read { IsTrue result → (base block : ℕ) (m : List ℕ) → after base block m one.now ≡ m }
     ensures answer { IsTrue result → (base block : ℕ) (m n : List ℕ) → AreSameBut base other.now m n →
         answer base block n one.now ≡ answer base block m one.now }
@@ -57,7 +57,7 @@ pub fn sees_none(one: &Op, other: &Op) -> bool
 }
 
 /// The data have a byte other than 0 that the operation doesn't need.
-fn has_needless(op: &Op, bytes: &[u8]) -> bool
+fn has_needless(op: &OpRef<'_>, bytes: &[u8]) -> bool
     ensures { IsTrue result → (at : ℕ) × (at < length bytes.now) × (effects.is_needed op.now at ≡ false) × (slice_index bytes.now at ≡ 0 → ⊥) }
 {
     for at in 0..bytes.len() {
@@ -69,7 +69,7 @@ fn has_needless(op: &Op, bytes: &[u8]) -> bool
 }
 
 /// No memory answers the operation with these data.
-pub fn never_gives(op: &Op, bytes: &[u8]) -> bool
+pub fn never_gives(op: &OpRef<'_>, bytes: &[u8]) -> bool
     ensures { IsTrue result → (base block : ℕ) (m : List ℕ) (d : ArrayVec ℕ) → d.items ≡ bytes.now → answer base block m op.now ≡ replies.Data d → ⊥ }
 {
     if bytes.len() != op.size() as usize {

@@ -7,19 +7,19 @@ ghost use Rattle.search_effects.specs.Effects.{Agrees, AreSameAt, told_of};
 
 use crate::laws::what_is_needed_is_there;
 use crate::ranges::{index_of, is_needed, place_in};
-use seq_memory::Reply;
-use tlp_core::Op;
+use seq_memory::ReplyRef;
+use tlp_core::OpRef;
 
 /// An operation that is answered with data.
 #[derive(Clone, Copy)]
 struct Answered<'a> {
-    op: &'a Op,
+    op: &'a OpRef<'a>,
     reply: &'a [u8],
 }
 
 /// At place `at` of the first operation, which is in the second's range, stands another byte than the
 /// first needs.
-fn differs(base: u64, bytes: &[u8], first: Answered<'_>, other: &Op, at: usize) -> bool
+fn differs(base: u64, bytes: &[u8], first: Answered<'_>, other: &OpRef<'_>, at: usize) -> bool
     ensures { IsTrue result →
         (base ≤ address_of first.entry.op.now) × (address_of other.now ≤ address_of first.entry.op.now + at) ×
         (address_of first.entry.op.now + at < address_of other.now + count_of other.now) × (at < length first.entry.reply.now) ×
@@ -44,7 +44,7 @@ fn differs(base: u64, bytes: &[u8], first: Answered<'_>, other: &Op, at: usize) 
 }
 
 /// It does so at some place.
-fn some_differs(base: u64, bytes: &[u8], first: Answered<'_>, other: &Op) -> bool
+fn some_differs(base: u64, bytes: &[u8], first: Answered<'_>, other: &OpRef<'_>) -> bool
     ensures { IsTrue result →
         (at : ℕ) × (base ≤ address_of first.entry.op.now) × (address_of other.now ≤ address_of first.entry.op.now + at) ×
         (address_of first.entry.op.now + at < address_of other.now + count_of other.now) × (at < length first.entry.reply.now) ×
@@ -60,11 +60,17 @@ fn some_differs(base: u64, bytes: &[u8], first: Answered<'_>, other: &Op) -> boo
 }
 
 /// The memory doesn't answer so while the bytes in the second's range are these.
-fn waits_for(base: u64, bytes: &[u8], one: &Op, reply: &Reply, other: &Op) -> bool
+fn waits_for(
+    base: u64,
+    bytes: &[u8],
+    one: &OpRef<'_>,
+    reply: &ReplyRef<'_>,
+    other: &OpRef<'_>,
+) -> bool
     ensures { IsTrue result → (block : ℕ) (n : List ℕ) → AreSameAt base other.now bytes.now n → answer base block n one.now ≡ reply.now → ⊥ }
 {
     what_is_needed_is_there();
-    let Reply::Data(old) = reply else {
+    let ReplyRef::Data(old) = reply else {
         return false;
     };
     let first = Answered {
@@ -76,7 +82,13 @@ fn waits_for(base: u64, bytes: &[u8], one: &Op, reply: &Reply, other: &Op) -> bo
 
 /// The memory doesn't answer the first request what it was answered while the bytes in the second's
 /// range are these.
-pub fn waits(base: u64, bytes: &[u8], one: &Op, told: Option<&Reply>, other: &Op) -> bool
+pub fn waits<'o>(
+    base: u64,
+    bytes: &[u8],
+    one: &OpRef<'o>,
+    told: Option<&ReplyRef<'_>>,
+    other: &OpRef<'o>,
+) -> bool
     ensures { IsTrue result → (block : ℕ) (n : List ℕ) → AreSameAt base other.now bytes.now n → Agrees base block n one.now (told_of told.entry) → ⊥ }
 {
     match told {

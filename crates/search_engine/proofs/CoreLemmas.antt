@@ -12,16 +12,16 @@ use Rattle.search_engine.specs.Search.{IsAnswerTo, IsUnexplainedText}
 -- where the log that was read has no history
 pub core_answers : (core : Bool) (size : Granularity) (bounds : Bounds) (r : Result TraceView ReadFault) (f : Finding) (text : List ℕ)
     → IsFinding size bounds r f → IsNoneFinding f → core ≡ true → IsUnexplainedText text → IsAnswerTo core size bounds r text 1
-core_answers core size bounds (Ok t) (findings.None trace count pieces) text h none asked few =
+core_answers core size bounds (Ok t) (findings.None seen count pieces) text h none asked few =
     inr (h.0, inr (inr (inr (record { asked = asked; count = count; within = h.1.within; unexplained = h.1.unexplained; says = few; tells = refl }))))
-core_answers core size bounds (Ok t) (findings.Found trace history) text h none asked few = absurd none
-core_answers core size bounds (Ok t) (findings.Limit trace ending far pieces) text h none asked few = absurd none
-core_answers core size bounds (Ok t) (findings.Flaw trace flaw) text h none asked few = absurd none
+core_answers core size bounds (Ok t) (findings.Found store) text h none asked few = absurd none
+core_answers core size bounds (Ok t) (findings.Limit seen ending far pieces) text h none asked few = absurd none
+core_answers core size bounds (Ok t) (findings.Flaw seen flaw) text h none asked few = absurd none
 core_answers core size bounds (Ok t) (findings.Fault g) text h none asked few = absurd none
-core_answers core size bounds (Err f) (findings.None trace count pieces) text h none asked few = absurd h
-core_answers core size bounds (Err f) (findings.Found trace history) text h none asked few = absurd none
-core_answers core size bounds (Err f) (findings.Limit trace ending far pieces) text h none asked few = absurd none
-core_answers core size bounds (Err f) (findings.Flaw trace flaw) text h none asked few = absurd none
+core_answers core size bounds (Err f) (findings.None seen count pieces) text h none asked few = absurd h
+core_answers core size bounds (Err f) (findings.Found store) text h none asked few = absurd none
+core_answers core size bounds (Err f) (findings.Limit seen ending far pieces) text h none asked few = absurd none
+core_answers core size bounds (Err f) (findings.Flaw seen flaw) text h none asked few = absurd none
 core_answers core size bounds (Err f) (findings.Fault g) text h none asked few = absurd none
 
 -- what is an answer where none is asked for is one

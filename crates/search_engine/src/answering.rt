@@ -1,7 +1,6 @@
 //! What is answered to a text.
 ghost use Rattle.std.specs.Prelude.{◌≡◌, false, IfOk, OnErr, None, Result, Ok};
 ghost use Rattle.log_pieces.specs.declared.Granularity.{Granularity};
-ghost use Rattle.history_words.specs.Claim.{claim_of};
 ghost use Rattle.history_words.specs.TraceView.{TraceView};
 ghost use Rattle.record_text.specs.declared.fault.ReadFault.{ReadFault};
 ghost use Rattle.trace_text.specs.Texts.{trace_text};
@@ -19,14 +18,14 @@ use crate::outcomes::{fault_outcome, flaw_outcome, given_up_outcome};
 use crate::stages::{NoClock, Progress};
 use crate::telling::tell;
 use arrayvec::ArrayString;
-use history_words::{Flaw, Trace};
+use history_words::{AsClaim, Flaw};
 use log_text::{no_fault_is_out_of_memory, read_seen_with_cause};
 use record_text::{Misread, ReadFaultKind};
 use search_history::{Bounds, Sought, Spot, search_watched};
-use seq_memory::Entry;
 use std::alloc::{AllocError, Global};
 use std::io::{Write, sink};
 use std::time::Clock;
+use trace_store::{RecordStore, TraceStore};
 use trace_text::write_trace;
 
 /// The exit status of a search that was given up.
@@ -35,28 +34,27 @@ pub const LIMIT_STATUS: u8 = 3;
 /// What came of a text.
 #[derive(Drop)]
 pub(crate) enum Finding {
-    /// A log that this history explains, with n's.
+    /// A log with n's, and a history that explains it.
     Found {
-        trace: Trace,
-        history: Vec<Entry>,
+        store: TraceStore,
     },
     /// A log of which so many records have no history, and where it was searched in pieces, those.
     None {
-        trace: Trace,
+        seen: RecordStore,
         prefix: usize,
         pieces: Option<Pieces>,
     },
     /// A log of which nothing is known, what ended the search, the farthest choice that was looked at, and the pieces that
     /// were searched.
     Limit {
-        trace: Trace,
+        seen: RecordStore,
         ending: Ending,
         far: Option<Spot>,
         pieces: Option<Pieces>,
     },
     /// A log with a bookkeeping mistake, and the first one.
     Flaw {
-        trace: Trace,
+        seen: RecordStore,
         flaw: Flaw,
     },
     /// A text that can't be read.
@@ -91,11 +89,11 @@ pub struct Outcome {
 }
 
 /// Nothing is known of the log.
-fn given_up(trace: Trace, ending: Ending, far: Option<Spot>) -> Finding
-    ensures { result ≡ Finding.Limit trace ending far None }
+fn given_up(seen: RecordStore, ending: Ending, far: Option<Spot>) -> Finding
+    ensures { result ≡ Finding.Limit seen ending far None }
 {
     Finding::Limit {
-        trace,
+        seen,
         ending,
         far,
         pieces: None,
@@ -105,27 +103,31 @@ fn given_up(trace: Trace, ending: Ending, far: Option<Spot>) -> Finding
 /// Looks for a history.
 pub(crate) fn sought<C: Clock, E: Write>(
     alloc: Global,
-    mut trace: Trace,
+    seen: RecordStore,
     demand: SearchDemand,
     clock: &C,
     errors: &mut E,
 ) -> Result<Finding, AllocError>
-    ensures { IfOk result (IsFindingOf Granularity.Whole (bounds_of demand) trace) }
+    ensures { IfOk result (IsFindingOf Granularity.Whole (bounds_of demand) seen) }
 {
-    let records = trace.records.len();
-    let mut progress = Progress::new(demand, records, clock, errors);
+    let mut progress = Progress::new(demand, seen.len(), clock, errors);
     let bounds = demand.bounds();
-    let (sought, choices) = search_watched(alloc, &mut trace, bounds, &mut progress)?;
+    let mut store = TraceStore::of(alloc, seen);
+    let (sought, choices) = search_watched(alloc, &mut store, bounds, &mut progress)?;
     progress.end(choices);
     let far = progress.far();
     match sought {
-        Sought::Found(history) => Ok(Finding::Found { trace, history }),
+        Sought::Found => {
+            // Their number has 64 bits, so each n has.
+            let _entries = store.entries();
+            Ok(Finding::Found { store })
+        }
         Sought::None { prefix } => Ok(Finding::None {
-            trace,
+            seen: store.into_seen(),
             prefix,
             pieces: None,
         }),
-        Sought::Limit(bound) => Ok(given_up(trace, Ending { bound, choices }, far)),
+        Sought::Limit(bound) => Ok(given_up(store.into_seen(), Ending { bound, choices }, far)),
     }
 }
 
@@ -148,17 +150,17 @@ pub(crate) fn find<C: Clock, E: Write>(
 {
     no_fault_is_out_of_memory();
     match read_seen_with_cause(alloc, text) {
-        Ok(trace) => judged(alloc, trace, demand, clock, errors),
+        Ok(seen) => judged(alloc, seen, demand, clock, errors),
         Err(misread) if is_memory(misread.fault.kind) => Err(AllocError),
         Err(misread) => Ok(Finding::Fault(misread)),
     }
 }
 
 /// The text of a trace and its history.
-fn found_text(alloc: Global, trace: &Trace, history: &[Entry]) -> Result<Vec<u8>, AllocError>
-    ensures { IfOk result (λ v. v.items ≡ trace_text (claim_of trace.now history.now)) }
+fn found_text(alloc: Global, store: &TraceStore) -> Result<Vec<u8>, AllocError>
+    ensures { IfOk result (λ v. v.items ≡ trace_text store.now) }
 {
-    let text = write_trace(alloc, trace, history)?;
+    let text = write_trace(alloc, store)?;
     Ok(text.into_bytes())
 }
 
@@ -175,8 +177,8 @@ pub(crate) fn outcome_of(
         IfOk result (λ o. TellsEnding bounds o.ending (text_of o.text) o.status) }
 {
     match finding {
-        Finding::Found { trace, history } => {
-            let text = found_text(alloc, trace, history)?;
+        Finding::Found { store } => {
+            let text = found_text(alloc, store)?;
             Ok(Outcome {
                 text: OutcomeText::Trace(text),
                 status: 0,

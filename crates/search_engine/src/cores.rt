@@ -7,15 +7,16 @@ use crate::answering::Finding;
 use crate::options::SearchDemand;
 use crate::telling::case_of;
 use arrayvec::ArrayString;
-use history_words::{Record, Trace};
+use history_words::RecordRef;
 use log_text::read_seen;
 use operation_text::{write_hexadecimal, write_op, write_reply};
 use search_history::{Sought, Unwatched, search_watched};
 use search_reasons::{Case, Kept, Why, core_of, reasons_of};
-use seq_memory::Reply;
+use seq_memory::ReplyRef;
 use std::alloc::{AllocError, Global};
 use std::fmt::Display;
 use std::io::Write;
+use trace_store::{RecordStore, TraceStore};
 
 /// Adds a line.
 fn put_line<D: Display + Drop>(out: &mut Vec<u8>, line: D) -> Result<(), AllocError> {
@@ -26,10 +27,10 @@ fn put_line<D: Display + Drop>(out: &mut Vec<u8>, line: D) -> Result<(), AllocEr
 }
 
 /// The version in which a log has that record.
-fn version_of(record: &Record) -> u8 {
+fn version_of(record: &RecordRef<'_>) -> u8 {
     match record {
-        Record::Ans {
-            reply: Reply::Done,
+        RecordRef::Ans {
+            reply: ReplyRef::Done,
             ..
         } => 2,
         _ => 1,
@@ -37,14 +38,16 @@ fn version_of(record: &Record) -> u8 {
 }
 
 /// Adds the head of a log, of version 2 if one of its answers has only that its request was done.
-fn put_head(out: &mut Vec<u8>, trace: &Trace) -> Result<(), AllocError> {
-    let extent = trace.extent;
+fn put_head(out: &mut Vec<u8>, seen: &RecordStore) -> Result<(), AllocError> {
+    let extent = seen.extent();
     let mut text = ArrayString::new();
     write_hexadecimal(extent.base(), &mut text);
     let (base, size, block) = (text.as_str(), extent.size(), extent.block());
     let mut version = 1;
-    for record in trace.records.as_slice() {
-        version = version_of(record).max(version);
+    for place in 0..seen.len() {
+        if let Some(record) = seen.get(place) {
+            version = version_of(&record).max(version);
+        }
     }
     put_line(
         out,
@@ -53,23 +56,23 @@ fn put_head(out: &mut Vec<u8>, trace: &Trace) -> Result<(), AllocError> {
 }
 
 /// Adds the line of a record that is kept.
-fn put_kept(out: &mut Vec<u8>, trace: &Trace, kept: Kept) -> Result<(), AllocError> {
+fn put_kept(out: &mut Vec<u8>, seen: &RecordStore, kept: Kept) -> Result<(), AllocError> {
     let number = kept.number;
     let mut text = ArrayString::new();
-    match trace.records.get(kept.place) {
-        Some(Record::Sub { requester, op, .. }) => {
-            write_op(&op.lend(), &mut text);
+    match seen.get(kept.place) {
+        Some(RecordRef::Sub { requester, op, .. }) => {
+            write_op(&op, &mut text);
             let shown = text.as_str();
             put_line(out, format_args!("sub {requester} {number} {shown}"))
         }
         Some(
-            Record::Ans {
+            RecordRef::Ans {
                 requester,
                 reply,
                 ..
             },
         ) => {
-            write_reply(&reply.lend(), &mut text);
+            write_reply(&reply, &mut text);
             let shown = text.as_str();
             put_line(out, format_args!("ans {requester} {number} {shown}"))
         }
@@ -79,12 +82,12 @@ fn put_kept(out: &mut Vec<u8>, trace: &Trace, kept: Kept) -> Result<(), AllocErr
 
 /// The text of a log of these answers, and of the requests that have to do with them.
 fn text_of_few(alloc: Global, case: Case<'_>, answers: &[usize]) -> Result<Vec<u8>, AllocError> {
-    let trace = case.searched.trace;
+    let seen = case.searched.seen;
     let kept = core_of(alloc, case.searched, answers)?;
     let mut out = Vec::new(alloc);
-    put_head(&mut out, trace)?;
+    put_head(&mut out, seen)?;
     for record in kept.as_slice() {
-        put_kept(&mut out, trace, *record)?;
+        put_kept(&mut out, seen, *record)?;
     }
     put_line(&mut out, format_args!("end"))?;
     Ok(out)
@@ -107,10 +110,11 @@ fn few_of(alloc: Global, case: Case<'_>, limit: u64) -> Result<Option<Vec<u8>>, 
 fn is_unexplained(alloc: Global, text: &[u8], demand: SearchDemand) -> Result<bool, AllocError>
     ensures { IfOk result (λ yes. yes ≡ true → IsUnexplainedText text.now) }
 {
-    let Ok(mut log) = read_seen(alloc, text) else {
+    let Ok(log) = read_seen(alloc, text) else {
         return Ok(false);
     };
-    match search_watched(alloc, &mut log, demand.bounds(), &mut Unwatched)? {
+    let mut store = TraceStore::of(alloc, log);
+    match search_watched(alloc, &mut store, demand.bounds(), &mut Unwatched)? {
         (Sought::None { .. }, _) => Ok(true),
         _ => Ok(false),
     }
@@ -146,11 +150,11 @@ pub(crate) fn core_text(
 {
     match finding {
         Finding::None {
-            trace,
+            seen,
             prefix,
             pieces,
         } if demand.has_core => {
-            let text = few_of(alloc, case_of(trace, *prefix, pieces), demand.options.limit)?;
+            let text = few_of(alloc, case_of(seen, *prefix, pieces), demand.options.limit)?;
             let found = confirmed(alloc, text, demand)?;
             Ok(found)
         }

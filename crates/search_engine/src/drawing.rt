@@ -1,6 +1,5 @@
 //! A picture of what a search finds, or of the log in place of `none`.
 ghost use Rattle.std.specs.Prelude.{◌≡◌, ◌-◌, None, Ok, IfOk, OnErr, Result};
-ghost use Rattle.history_words.specs.Claim.{claim_of};
 ghost use Rattle.history_words.specs.TraceView.{TraceView};
 ghost use Rattle.history_picture.specs.Picture.{picture_text};
 ghost use Rattle.record_text.specs.declared.fault.ReadFault.{ReadFault};
@@ -17,31 +16,31 @@ use crate::outcomes::{fault_outcome, flaw_outcome, given_up_outcome};
 use crate::search::{Answer, SearchTask, kept, tell_reason};
 use crate::telling::case_of;
 use history_picture::{Window, put_picture};
-use history_words::Trace;
 use line_loop::{EngineFault, write_out};
 use log_text::read_seen;
 use search_picture::put_scene;
 use search_scene::scene_of;
-use seq_memory::Entry;
 use std::alloc::{AllocError, Global};
 use std::io::{Read, Write};
 use std::time::Clock;
+use trace_store::TraceStore;
 
 /// The picture of a trace and its history.
-fn history_drawn(alloc: Global, trace: &Trace, history: &[Entry]) -> Result<Vec<u8>, AllocError>
-    ensures { IfOk result (λ v. v.items ≡ picture_text whole (claim_of trace.now history.now) None) }
+fn history_drawn(alloc: Global, store: &TraceStore) -> Result<Vec<u8>, AllocError>
+    ensures { IfOk result (λ v. v.items ≡ picture_text whole store.now None) }
 {
+    let (trace, history) = store.to_owned(alloc)?;
     let window = Window {
         from: 0,
         to: u64::MAX,
     };
     let mut picture = Vec::new(alloc);
-    put_picture(alloc, trace, history, None, window, &mut picture)?;
+    put_picture(alloc, &trace, &history, None, window, &mut picture)?;
     Ok(picture)
 }
 
 /// The picture of the log of the text, whose first `count` records have no history, and of which these pieces were searched,
-/// if any. The log is read again: what was searched has other n's.
+/// if any. The log is read again, since a search may set n's.
 fn log_drawn(
     alloc: Global,
     text: &[u8],
@@ -71,8 +70,8 @@ fn outcome_drawn(
         → IfOk result (λ o. IsAnswerDrawn demand.options.granularity (bounds_of demand) text.now r (text_of o.text) o.status) }
 {
     match finding {
-        Finding::Found { trace, history } => {
-            let picture = history_drawn(alloc, trace, history)?;
+        Finding::Found { store } => {
+            let picture = history_drawn(alloc, store)?;
             Ok(Outcome {
                 text: OutcomeText::Trace(picture),
                 status: 0,

@@ -7,16 +7,16 @@ ghost use Rattle.search_engine.specs.Findings.{IsFindingOf};
 
 use crate::answering::{Finding, sought};
 use crate::options::SearchDemand;
-use history_words::Trace;
 use log_pieces::{Granularity, ends_of, in_pieces, records_of};
 use std::alloc::{AllocError, Global};
 use std::io::Write;
 use std::time::Clock;
+use trace_store::RecordStore;
 
 /// A log in pieces, of which so many records are looked at.
 #[derive(Drop)]
 pub(crate) struct Pieces {
-    pub(crate) trace: Trace,
+    pub(crate) seen: RecordStore,
     pub(crate) prefix: usize,
     /// How many records it has of those of the log up to each one.
     pub(crate) ends: Vec<usize>,
@@ -25,14 +25,14 @@ pub(crate) struct Pieces {
 /// The pieces of the log that were searched, of which so many are looked at.
 fn pieces_of(
     alloc: Global,
-    trace: &Trace,
+    seen: &RecordStore,
     granularity: Granularity,
-    searched: Trace,
+    searched: RecordStore,
     prefix: usize,
 ) -> Result<Option<Pieces>, AllocError> {
-    match ends_of(alloc, trace, granularity)? {
+    match ends_of(alloc, seen, granularity)? {
         Some(ends) => Ok(Some(Pieces {
-            trace: searched,
+            seen: searched,
             prefix,
             ends,
         })),
@@ -43,38 +43,38 @@ fn pieces_of(
 /// What came of a log, by what came of it in pieces.
 fn of_records(
     alloc: Global,
-    trace: Trace,
+    seen: RecordStore,
     demand: SearchDemand,
     finding: Finding,
 ) -> Result<Finding, AllocError>
-    requires { IsFindingOf Whole (bounds_of demand) (in_pieces demand.options.granularity trace) finding }
-    ensures { IfOk result (IsFindingOf demand.options.granularity (bounds_of demand) trace) }
+    requires { IsFindingOf Whole (bounds_of demand) (in_pieces demand.options.granularity seen) finding }
+    ensures { IfOk result (IsFindingOf demand.options.granularity (bounds_of demand) seen) }
 {
     let granularity = demand.options.granularity;
     match finding {
         Finding::None {
-            trace: searched,
+            seen: searched,
             prefix: count,
             ..
         } => {
-            let prefix = records_of(alloc, &trace, granularity, count)?;
-            let pieces = pieces_of(alloc, &trace, granularity, searched, count)?;
+            let prefix = records_of(alloc, &seen, granularity, count)?;
+            let pieces = pieces_of(alloc, &seen, granularity, searched, count)?;
             Ok(Finding::None {
-                trace,
+                seen,
                 prefix,
                 pieces,
             })
         }
         Finding::Limit {
-            trace: searched,
+            seen: searched,
             ending,
             far,
             ..
         } => {
-            let count = searched.records.len();
-            let pieces = pieces_of(alloc, &trace, granularity, searched, count)?;
+            let count = searched.len();
+            let pieces = pieces_of(alloc, &seen, granularity, searched, count)?;
             Ok(Finding::Limit {
-                trace,
+                seen,
                 ending,
                 far,
                 pieces,
@@ -87,19 +87,19 @@ fn of_records(
 /// Looks for a history of pieces.
 pub(crate) fn sought_in<C: Clock, E: Write>(
     alloc: Global,
-    trace: Trace,
+    seen: RecordStore,
     demand: SearchDemand,
     clock: &C,
     errors: &mut E,
 ) -> Result<Finding, AllocError>
-    ensures { IfOk result (IsFindingOf demand.options.granularity (bounds_of demand) trace) }
+    ensures { IfOk result (IsFindingOf demand.options.granularity (bounds_of demand) seen) }
 {
     let granularity = demand.options.granularity;
-    match in_pieces(alloc, &trace, granularity)? {
-        None => sought(alloc, trace, demand, clock, errors),
+    match in_pieces(alloc, &seen, granularity)? {
+        None => sought(alloc, seen, demand, clock, errors),
         Some(pieces) => {
             let finding = sought(alloc, pieces, demand, clock, errors)?;
-            of_records(alloc, trace, demand, finding)
+            of_records(alloc, seen, demand, finding)
         }
     }
 }

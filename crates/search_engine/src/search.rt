@@ -68,8 +68,8 @@ fn answered<C: Clock, E: Write>(
     ensures ending { IfOk result (λ a. TellsEnding (bounds_of demand) a.outcome.ending (text_of a.outcome.text) a.outcome.status) }
 {
     let finding = find(alloc, &text, demand, clock, errors)?;
-    let outcome = outcome_with_core(alloc, &finding, demand)?;
     let text = kept(text, &finding);
+    let outcome = outcome_with_core(alloc, &finding, demand)?;
     Ok(Answer {
         outcome,
         finding,

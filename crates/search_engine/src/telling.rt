@@ -4,18 +4,22 @@ ghost use Rattle.std.specs.Prelude.{◌≡◌};
 
 use crate::answering::Finding;
 use crate::granularity::Pieces;
-use history_words::Trace;
 use search_reasons::{Case, GivenUp, Prefix, tell_fault, tell_flaw, tell_given_up, tell_none};
 use std::alloc::Global;
 use std::io::Write;
+use trace_store::RecordStore;
 
 /// A log of which so many records are looked at, and where it was searched in pieces, those.
-pub(crate) fn case_of<'a>(trace: &'a Trace, prefix: usize, pieces: &'a Option<Pieces>) -> Case<'a>
-    ensures trace { result.read.trace.now ≡ trace.now }
+pub(crate) fn case_of<'a>(
+    seen: &'a RecordStore,
+    prefix: usize,
+    pieces: &'a Option<Pieces>,
+) -> Case<'a>
+    ensures seen { result.read.seen.now ≡ seen.now }
     ensures count { result.read.count ≡ prefix }
 {
     let read = Prefix {
-        trace,
+        seen,
         count: prefix,
     };
     match pieces {
@@ -27,7 +31,7 @@ pub(crate) fn case_of<'a>(trace: &'a Trace, prefix: usize, pieces: &'a Option<Pi
         Some(pieces) => Case {
             read,
             searched: Prefix {
-                trace: &pieces.trace,
+                seen: &pieces.seen,
                 count: pieces.prefix,
             },
             ends: Some(&pieces.ends),
@@ -46,23 +50,23 @@ pub(crate) fn tell<E: Write>(
 ) {
     let _ = match finding {
         Finding::None {
-            trace,
+            seen,
             prefix,
             pieces,
-        } => tell_none(alloc, text, case_of(trace, *prefix, pieces), limit, errors),
+        } => tell_none(alloc, text, case_of(seen, *prefix, pieces), limit, errors),
         Finding::Limit {
-            trace,
+            seen,
             far: Some(far),
             pieces,
             ..
         } => {
             let given_up = GivenUp {
-                case: case_of(trace, trace.records.len(), pieces),
+                case: case_of(seen, seen.len(), pieces),
                 spot: *far,
             };
             tell_given_up(alloc, text, given_up, limit, errors)
         }
-        Finding::Flaw { trace, flaw } => tell_flaw(alloc, text, trace, *flaw, errors),
+        Finding::Flaw { seen, flaw } => tell_flaw(alloc, text, seen, *flaw, errors),
         Finding::Fault(misread) => tell_fault(text, *misread, errors),
         _ => Ok(()),
     };

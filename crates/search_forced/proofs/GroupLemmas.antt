@@ -32,15 +32,15 @@ one_less log s t (x ∷ ds) d leads =
 -- ---- requests, one after another
 
 -- P holds of the first and of all others
-pub all_with : (P : ℕ → Type 0) (q : ℕ) (qs : List ℕ) → P q → ((i g : ℕ) → slice_get qs i ≡ Some g → P g) → (i g : ℕ) → slice_get (q ∷ qs) i ≡ Some g → P g
-all_with P q qs first others zero g at = subst P (same_Some q g at) first
-all_with P q qs first others (suc i) g at = others i g at
+pub all_with : (P : ℕ → Type 0) (request : ℕ) (rest : List ℕ) → P request → ((i member : ℕ) → slice_get rest i ≡ Some member → P member) → (i member : ℕ) → slice_get (request ∷ rest) i ≡ Some member → P member
+all_with P request rest first others zero member at = subst P (same_Some request member at) first
+all_with P request rest first others (suc i) member at = others i member at
 
 -- P holds of one more
-pub each_next : (P : ℕ → Type 0) (gs : List ℕ) (n : ℕ) → P (get_or gs n 0) → ((i g : ℕ) → i < n → slice_get gs i ≡ Some g → P g) → (i g : ℕ) → i < n + 1 → slice_get gs i ≡ Some g → P g
-each_next P gs n here before i g l at = elim (cases_eq n i) [
-  | inl same ↦ subst P (ap (λ k. get_or gs k 0) same ∙ get_or_from_slice_get gs i g 0 at) here
-  | inr distinct ↦ before i g (omega (arith, l, distinct)) at
+pub each_next : (P : ℕ → Type 0) (gs : List ℕ) (n : ℕ) → P (get_or gs n 0) → ((i member : ℕ) → i < n → slice_get gs i ≡ Some member → P member) → (i member : ℕ) → i < n + 1 → slice_get gs i ≡ Some member → P member
+each_next P gs n here before i member l at = elim (cases_eq n i) [
+  | inl same ↦ subst P (ap (λ k. get_or gs k 0) same ∙ get_or_from_slice_get gs i member 0 at) here
+  | inr distinct ↦ before i member (omega (arith, l, distinct)) at
 ]
 
 not_in : (c b : ℕ) (cs : List ℕ) → (c ≡ b → ⊥) → ((i : ℕ) → slice_get cs i ≡ Some b → ⊥) → (i : ℕ) → slice_get (c ∷ cs) i ≡ Some b → ⊥
@@ -71,25 +71,15 @@ module _ (log : LogView) where
       let (distinct, was) = gone_by s.acted c b m.once still in
       (was, not_in c b cs distinct out)
 
-  pub begun : (s : State) (q : ℕ) (g : Group) (p : PlaceView) (d : Done) → MayAct log s q → CameBy log s p.state d → d.step ≡ steps.Act q → g.done.items ≡ d ∷ [] → g.others.items ≡ []
-      → IsPlace log p → IsGroup log s q g p
-  begun s q g p d may came is done none place =
-      let e : next log s (steps.Act q) ≡ p.state = ap (next log s) (sym is) ∙ sym came.led in
-      record {
-        may = may;
-        leads = subst (λ bs. Leads log (next log s (steps.Act q)) (acts bs) p.state) (sym none) e;
-        back = subst (λ ds. LeadsBy log s ds p.state) (sym done) (one_more log s s p.state [] d refl came);
-        place = place;
-      }
-
+  -- one more joins the group
   pub joined : (b : ℕ) (g h : Group) (p r : PlaceView) (d : Done) → MayAct log p.state b → CameBy log p.state r.state d → d.step ≡ steps.Act b → h.done.items ≡ g.done.items ++ d ∷ []
-      → h.others.items ≡ g.others.items ++ b ∷ [] → IsPlace log r → (s : State) (q : ℕ) → IsGroup log s q g p → IsGroup log s q h r
-  joined b g h p r d may came is done others place s q group =
+      → h.others.items ≡ g.others.items ++ b ∷ [] → IsPlace log r → (s : State) (request : ℕ) → IsGroup log s request g p → IsGroup log s request h r
+  joined b g h p r d may came is done others place s request group =
       let e : next log p.state (steps.Act b) ≡ r.state = ap (next log p.state) (sym is) ∙ sym came.led in
       record {
         may = group.may;
-        leads = subst (λ bs. Leads log (next log s (steps.Act q)) (acts bs) r.state) (sym others)
-            (subst (Leads log (next log s (steps.Act q)) (acts (g.others.items ++ b ∷ []))) e (acts_more (next log s (steps.Act q)) p.state g.others.items b group.leads may));
+        leads = subst (λ bs. Leads log (next log s (steps.Act request)) (acts bs) r.state) (sym others)
+            (subst (Leads log (next log s (steps.Act request)) (acts (g.others.items ++ b ∷ []))) e (acts_more (next log s (steps.Act request)) p.state g.others.items b group.leads may));
         back = subst (λ ds. LeadsBy log s ds r.state) (sym done) (one_more log s p.state r.state g.done.items d group.back came);
         place = place;
       }
@@ -100,17 +90,18 @@ module _ (log : LogView) where
       let (m, before, came) = one_less log s t ds d leads in
       subst (LeadsBy log s ds) (sym (back m came)) before
 
-  pub over : (s : State) (q : ℕ) (g : Group) (p : PlaceView) → IsGroup log s q g p → length s.bytes ≡ log.extent.size
-      → ((w : ℕ) → Names log q w → (b : ℕ) → (q ≡ b → ⊥) → ((i : ℕ) → slice_get g.others.items i ≡ Some b → ⊥) → slice_get s.acted b ≡ Some false → IsJunkAt log s.bytes b w)
-      → ((i c : ℕ) → slice_get (q ∷ g.others.items) i ≡ Some c → LeavesNothing log p.state q c)
-      → IsOverJunk log s q g.others.items
-  over s q g p group size old new = record {
+  -- what the request and its group overwrite and leave is junk
+  pub over : (s : State) (request : ℕ) (g : Group) (p : PlaceView) → IsGroup log s request g p → length s.bytes ≡ log.extent.size
+      → ((w : ℕ) → Names log request w → (b : ℕ) → (request ≡ b → ⊥) → ((i : ℕ) → slice_get g.others.items i ≡ Some b → ⊥) → slice_get s.acted b ≡ Some false → IsJunkAt log s.bytes b w)
+      → ((i member : ℕ) → slice_get (request ∷ g.others.items) i ≡ Some member → LeavesNothing log p.state request member)
+      → IsOverJunk log s request g.others.items
+  over s request g p group size old new = record {
     last = p.state;
     size = size;
     leads = (group.may, group.leads);
     old = λ w names b left.
-        let (still, out) = left_before g.others.items (next log s (steps.Act q)) p.state b group.leads left in
-        let (distinct, was) = gone_by s.acted q b group.may.once still in
+        let (still, out) = left_before g.others.items (next log s (steps.Act request)) p.state b group.leads left in
+        let (distinct, was) = gone_by s.acted request b group.may.once still in
         old w names b distinct out was;
     new = new;
   }

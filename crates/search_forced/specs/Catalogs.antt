@@ -4,4 +4,4 @@ use Rattle.search_others.specs.Known.{AreOthers}
 use Rattle.search_forced.specs.declared.catalog.Catalog.{Catalog}
 
 abbrev pub IsCatalog : LogView → Catalog → Type 0
-IsCatalog log c = AreOthers log c.others
+IsCatalog log catalog = AreOthers log catalog.others

@@ -9,9 +9,9 @@ use Rattle.search_rules.specs.Rules.{acts}
 use Rattle.search_places.specs.Undo.{LeadsBy}
 use Rattle.search_forced.specs.declared.groups.Group.{Group}
 
--- request q and then the others acted in turn from s, which led to the place
-pub record IsGroup (log : LogView) (s : State) (q : ℕ) (g : Group) (p : PlaceView) : Type 0 where
-  pub may : MayAct log s q
-  pub leads : Leads log (next log s (steps.Act q)) (acts g.others.items) p.state
-  pub back : LeadsBy log s g.done.items p.state
-  pub place : IsPlace log p
+-- the request and then the others acted in turn from s, which led here
+pub record IsGroup (log : LogView) (s : State) (request : ℕ) (group : Group) (here : PlaceView) : Type 0 where
+  pub may : MayAct log s request
+  pub leads : Leads log (next log s (steps.Act request)) (acts group.others.items) here.state
+  pub back : LeadsBy log s group.done.items here.state
+  pub place : IsPlace log here

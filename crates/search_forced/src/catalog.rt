@@ -23,7 +23,7 @@ pub enum Way<'a> {
 #[derive(Drop)]
 pub struct Catalog<'a> {
     pub(crate) others: Others,
-    pub(crate) sketches: Vec<Sketch>,
+    sketches: Vec<Sketch>,
     pub(crate) way: Way<'a>,
     /// Which requests may be alike, once that is noted.
     pub(crate) links: Links,
@@ -52,9 +52,14 @@ pub fn catalog_of<'a>(alloc: Global, log: &Log, way: Way<'a>) -> Result<Catalog<
 }
 
 impl Catalog<'_> {
+    /// What is looked at often of the request.
+    pub(crate) fn sketch(&self, request: usize) -> Option<Sketch> {
+        self.sketches.get(request).copied()
+    }
+
     /// The request changes nothing, as it seems.
-    pub(crate) fn is_quiet(&self, q: usize) -> bool {
-        self.sketches.get(q).is_some_and(|sketch| sketch.is_quiet())
+    pub(crate) fn is_quiet(&self, request: usize) -> bool {
+        self.sketch(request).is_some_and(|sketch| sketch.is_quiet())
     }
 
     /// What is known of the log's requests.

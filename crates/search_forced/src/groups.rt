@@ -3,10 +3,11 @@ ghost use Rattle.std.specs.Prelude.{◌≡◌, ◌<◌, ◌/◌, ℕ, IfOk, OnOk
 ghost use Rattle.log_runs.specs.Runs.{State, MayAct};
 ghost use Rattle.search_places.specs.Places.{IsPlace};
 ghost use Rattle.search_forced.specs.Catalogs.{IsCatalog};
+ghost use Rattle.search_forced.specs.Scenes.{IsScene};
 ghost use Rattle.search_places.specs.Undo.{LeadsBy};
 ghost use Rattle.search_forced.specs.Groups.{IsGroup};
 
-use crate::catalog::Catalog;
+use crate::scene::{AtWord, Known, Scene};
 use log_runs::{Log, Step};
 use search_places::{Done, Place};
 use search_rules::{changes_nothing, is_junk_at, is_within};
@@ -28,123 +29,139 @@ pub(crate) struct Group {
     pub(crate) others: Vec<usize>,
 }
 
-/// Request `b` may act, to which it is something what stands at the word, and changes nothing beside the
-/// bytes of request `q`.
-fn joins(place: &Place, log: &Log, q: usize, word: u64, b: usize) -> bool
-    requires place { IsPlace log.now place.now }
-    requires word { word < log.now.extent.size / 4 }
-    ensures { IsTrue result → MayAct log.now place.now.state b }
-{
-    !is_junk_at(log, place.bytes(), b, word)
-        && (is_within(log, b, q) || changes_nothing(log, b))
-        && place.may_act(log, b)
-}
-
-/// Of the list one that joins the group of request `q`, if one does: one that changes nothing, if there is
-/// such.
-fn joining(place: &Place, log: &Log, q: usize, word: u64, list: &[usize]) -> Option<usize>
-    requires place { IsPlace log.now place.now }
-    requires word { word < log.now.extent.size / 4 }
-    ensures { IfSome result (MayAct log.now place.now.state) }
-{
-    if list.len() > MOST_AT_WORD {
-        return None;
+impl Scene<'_, '_> {
+    /// The other request may act, to which it is something what stands at the word, and changes nothing beside
+    /// the bytes of the request.
+    fn joins(self, at: AtWord, other: usize) -> bool
+        requires scene { IsScene self }
+        requires word { at.word < self.log.now.extent.size / 4 }
+        ensures { IsTrue result → MayAct self.entry.log.now self.entry.place.now.state other }
+    {
+        !is_junk_at(self.log, self.place.bytes(), other, at.word)
+            && (is_within(self.log, other, at.request) || changes_nothing(self.log, other))
+            && self.place.may_act(self.log, other)
     }
-    for b in list {
-        if joins(place, log, q, word, *b) && changes_nothing(log, *b) {
-            return Some(*b);
+
+    /// Of the list one that joins the request's group, if one does: one that changes nothing, if there is such.
+    fn joining(self, at: AtWord, list: &[usize]) -> Option<usize>
+        requires scene { IsScene self }
+        requires word { at.word < self.log.now.extent.size / 4 }
+        ensures { IfSome result (MayAct self.entry.log.now self.entry.place.now.state) }
+    {
+        if list.len() > MOST_AT_WORD {
+            return None;
         }
-    }
-    for b in list {
-        if joins(place, log, q, word, *b) {
-            return Some(*b);
+        for other in list {
+            if self.joins(at, *other) && changes_nothing(self.log, *other) {
+                return Some(*other);
+            }
         }
-    }
-    None
-}
-
-/// The next request that joins the group of request `q`, of those that may need what stands at the word.
-fn next_at(place: &Place, log: &Log, catalog: &Catalog, q: usize, word: u64) -> Option<usize>
-    requires place { IsPlace log.now place.now }
-    requires catalog { IsCatalog log.now catalog.now }
-    requires word { word < log.now.extent.size / 4 }
-    ensures { IfSome result (MayAct log.now place.now.state) }
-{
-    let stretch = Stretch {
-        word,
-        from: place.earliest(),
-        to: place.event(),
-    };
-    let near = near_junk(catalog.others.words(), log, place.bytes(), stretch);
-    for list in [near.known, near.unknown, near.careless, near.wide] {
-        if let Some(b) = joining(place, log, q, word, list) {
-            return Some(b);
+        for other in list {
+            if self.joins(at, *other) {
+                return Some(*other);
+            }
         }
+        None
     }
-    None
-}
 
-/// The next request that joins the group of request `q`.
-fn next_of(place: &Place, log: &Log, catalog: &Catalog, q: usize) -> Option<usize>
-    requires place { IsPlace log.now place.now }
-    requires catalog { IsCatalog log.now catalog.now }
-    ensures { IfSome result (MayAct log.now place.now.state) }
-{
-    let (first, end) = span_of(log, q)?;
-    for word in first..end {
-        if let Some(b) = next_at(place, log, catalog, q, word) {
-            return Some(b);
+    /// The next one that joins the request's group, of those that may need what stands at the word.
+    fn next_at(self, at: AtWord) -> Option<usize>
+        requires scene { IsScene self }
+        requires word { at.word < self.log.now.extent.size / 4 }
+        ensures { IfSome result (MayAct self.entry.log.now self.entry.place.now.state) }
+    {
+        let Scene {
+            place,
+            log,
+            catalog,
+        } = self;
+        let stretch = Stretch {
+            word: at.word,
+            from: place.earliest(),
+            to: place.event(),
+        };
+        let near = near_junk(catalog.others.words(), log, place.bytes(), stretch);
+        for list in [near.known, near.unknown, near.careless, near.wide] {
+            if let Some(other) = self.joining(at, list) {
+                return Some(other);
+            }
         }
+        None
     }
-    None
+
+    /// The next one that joins the request's group.
+    fn next_of(self, request: usize) -> Option<usize>
+        requires { IsScene self }
+        ensures { IfSome result (MayAct self.entry.log.now self.entry.place.now.state) }
+    {
+        let (first, end) = span_of(self.log, request)?;
+        for word in first..end {
+            if let Some(other) = self.next_at(AtWord { request, word }) {
+                return Some(other);
+            }
+        }
+        None
+    }
 }
 
-/// Request `q` acts.
-fn begin(place: &mut Place, alloc: Global, log: &Log, q: usize) -> Result<Group, AllocError>
-    requires place { IsPlace log.now place.old }
-    requires may { MayAct log.now place.old.state q }
-    ensures { IfOk result (λ g. IsGroup log.now place.old.state q g place.new) }
-{
-    let first = place.take(log, Step::Act(q))?;
-    let mut done = Vec::new(alloc);
-    done.push(first)?;
-    Ok(Group {
-        done,
-        others: Vec::new(alloc),
-    })
+impl Group {
+    /// The request acts.
+    fn begin(
+        place: &mut Place,
+        alloc: Global,
+        log: &Log,
+        request: usize,
+    ) -> Result<Group, AllocError>
+        requires place { IsPlace log.now place.old }
+        requires may { MayAct log.now place.old.state request }
+        ensures { IfOk result (λ group. IsGroup log.now place.old.state request group place.new) }
+    {
+        let first = place.take(log, Step::Act(request))?;
+        let mut done = Vec::new(alloc);
+        done.push(first)?;
+        Ok(Group {
+            done,
+            others: Vec::new(alloc),
+        })
+    }
+
+    /// The other request acts.
+    fn join(&mut self, place: &mut Place, log: &Log, other: usize) -> Result<(), AllocError>
+        requires place { IsPlace log.now place.old }
+        requires may { MayAct log.now place.old.state other }
+        ensures { OnOk result ((s : State) (request : ℕ) → IsGroup log.now s request self.old place.old → IsGroup log.now s request self.new place.new) }
+    {
+        let one = place.take(log, Step::Act(other))?;
+        self.done.push(one)?;
+        self.others.push(other)?;
+        Ok(())
+    }
 }
 
-/// Request `b` acts.
-fn join(place: &mut Place, log: &Log, group: &mut Group, b: usize) -> Result<(), AllocError>
-    requires place { IsPlace log.now place.old }
-    requires may { MayAct log.now place.old.state b }
-    ensures { OnOk result ((s : State) (q : ℕ) → IsGroup log.now s q group.old place.old → IsGroup log.now s q group.new place.new) }
-{
-    let one = place.take(log, Step::Act(b))?;
-    group.done.push(one)?;
-    group.others.push(b)?;
-    Ok(())
-}
-
-/// Request `q` acts, and then those that join its group.
+/// The request acts, and then those that join its group.
 pub(crate) fn gather(
     place: &mut Place,
     alloc: Global,
-    log: &Log,
-    catalog: &Catalog,
-    q: usize,
+    known: Known<'_>,
+    request: usize,
 ) -> Result<Group, AllocError>
-    requires place { IsPlace log.now place.old }
-    requires catalog { IsCatalog log.now catalog.now }
-    requires may { MayAct log.now place.old.state q }
-    ensures { IfOk result (λ g. IsGroup log.now place.old.state q g place.new) }
+    requires place { IsPlace known.log.now place.old }
+    requires catalog { IsCatalog known.log.now known.catalog.now }
+    requires may { MayAct known.log.now place.old.state request }
+    ensures { IfOk result (λ group. IsGroup known.entry.log.now place.old.state request group place.new) }
 {
-    let mut group = begin(place, alloc, log, q)?;
+    let Known { log, catalog } = known;
+    let mut group = Group::begin(place, alloc, log, request)?;
     for _turn in 0..MOST_OTHERS {
-        let Some(b) = next_of(place, log, catalog, q) else {
+        let scene = Scene {
+            place,
+            log,
+            catalog,
+        };
+        let Some(other) = scene.next_of(request) else {
             return Ok(group);
         };
-        join(place, log, &mut group, b)?;
+        group.join(place, log, other)?;
     }
     Ok(group)
 }

@@ -6,23 +6,12 @@ ghost use Rattle.search_words.specs.Words.{IsWords};
 
 use crate::catalog::Catalog;
 use crate::groups::MOST_OTHERS;
-use crate::losses::four;
+use crate::scene::{AtWord, Scene};
 use crate::sketches::Sketch;
 use log_runs::{Log, Step};
 use search_places::Place;
 use search_rules::{is_junk_at, is_within, leaves_junk_at};
 use search_words::{Stretch, Words, near_junk, near_left, near_there, span_of};
-
-/// The first bytes that the request needs are there.
-fn may_fit(sketch: Sketch, base: u64, bytes: &[u8]) -> bool {
-    if sketch.mask == 0 {
-        return true;
-    }
-    match sketch.place(base).and_then(|at| four(bytes, at)) {
-        Some(found) => (found ^ sketch.need) & sketch.mask == 0,
-        None => true,
-    }
-}
 
 /// How many requests at a word are looked at one by one.
 const MOST: usize = 256;
@@ -34,31 +23,6 @@ pub enum Look {
     Marked { from: usize, marks: u32 },
     /// This one, if it is pending.
     Only(usize),
-}
-
-/// The request that may act at once after request `b` acted, if that is known: the only one that needs
-/// what stands there now.
-fn next_at(log: &Log, catalog: &Catalog, place: &Place, b: usize) -> Option<Look>
-    requires { IsCatalog log.now catalog.now }
-{
-    let (first, end) = span_of(log, b)?;
-    if first >= end || end - first != 1 {
-        return None;
-    }
-    let stretch = Stretch {
-        word: first,
-        from: place.earliest(),
-        to: place.event(),
-    };
-    let near = near_there(catalog.others.words(), log, place.bytes(), b, stretch);
-    if !near.wide.is_empty() || !near.unknown.is_empty() || !near.careless.is_empty() {
-        return None;
-    }
-    match near.known {
-        [] => Some(Look::none()),
-        [q] => Some(Look::Only(*q)),
-        _ => None,
-    }
 }
 
 impl Look {
@@ -80,7 +44,7 @@ impl Look {
         let pending = place.pending();
         let is_one = pending
             .last()
-            .is_some_and(|b| b.saturating_add(1) == place.event());
+            .is_some_and(|last| last.saturating_add(1) == place.event());
         Look::Marked {
             from: pending.len() - usize::from(is_one),
             marks: u32::MAX,
@@ -100,16 +64,21 @@ impl Look {
     pub fn after(self, log: &Log, catalog: &Catalog, place: &Place, step: Step) -> Look
         requires { IsCatalog log.now catalog.now }
     {
-        let Step::Act(b) = step else {
+        let Step::Act(request) = step else {
             return Look::passed(place);
         };
-        let Some(sketch) = catalog.sketches.get(b).copied() else {
+        let Some(sketch) = catalog.sketch(request) else {
             return Look::all();
+        };
+        let scene = Scene {
+            place,
+            log,
+            catalog,
         };
         let left = self.left();
         if left == 0
             && sketch.writer() == 0
-            && let Some(look) = next_at(log, catalog, place, b)
+            && let Some(look) = scene.look_behind(request)
         {
             return look;
         }
@@ -120,26 +89,20 @@ impl Look {
     }
 }
 
-/// It is worth a look whether the request may act: it has one of the marks, and the first bytes that it
-/// needs are there.
-pub(crate) fn is_worth(marks: u32, sketch: Sketch, base: u64, bytes: &[u8]) -> bool {
-    sketch.marks & marks != 0 && may_fit(sketch, base, bytes)
-}
-
-/// The place behind the last request that needs what request `q` leaves at one of its words, as far as
+/// The place behind the last request that needs what the request leaves at one of its words, as far as
 /// that is known.
-fn calm_from(log: &Log, words: &Words, q: usize) -> u32
+fn calm_from(log: &Log, words: &Words, request: usize) -> u32
     requires { IsWords log.now words.now }
 {
-    let Some((first, end)) = span_of(log, q) else {
+    let Some((first, end)) = span_of(log, request) else {
         return 0;
     };
     let mut calm = 0;
     let to = log.len();
     for word in first..end {
         let stretch = Stretch { word, from: 0, to };
-        if let Some(b) = near_left(words, log, q, stretch).known.last() {
-            calm = calm.max(u32::try_from(b.saturating_add(1)).unwrap_or(0));
+        if let Some(last) = near_left(words, log, request, stretch).known.last() {
+            calm = calm.max(u32::try_from(last.saturating_add(1)).unwrap_or(0));
         }
     }
     calm
@@ -149,111 +112,151 @@ fn calm_from(log: &Log, words: &Words, q: usize) -> u32
 pub(crate) fn note_calm(sketches: &mut [Sketch], log: &Log, words: &Words)
     requires { IsWords log.now words.now }
 {
-    for q in 0..sketches.len() {
-        if !sketches[q].is_quiet() {
-            sketches[q].calm = calm_from(log, words, q);
+    for request in 0..sketches.len() {
+        if !sketches[request].is_quiet() {
+            sketches[request].calm = calm_from(log, words, request);
         }
     }
 }
 
-/// The requesters that wait for posted writes before request `b` that are somewhere else.
-fn writers_before(place: &Place, sketches: &[Sketch], own: Sketch, b: usize) -> u32 {
-    let mut writers = 0u32;
-    for c in place.posts() {
-        if *c >= b {
-            return writers;
+impl Scene<'_, '_> {
+    /// It is worth a look whether the request may act: it has one of the marks, and the first bytes that it
+    /// needs are there.
+    pub(crate) fn is_worth(self, marks: u32, sketch: Sketch) -> bool {
+        sketch.marks & marks != 0 && sketch.may_fit(self.log.extent().base(), self.place.bytes())
+    }
+
+    /// At what a look is worth it right after the request acted, if that is known: at the only one that needs
+    /// what stands there now.
+    fn look_behind(self, request: usize) -> Option<Look>
+        requires { IsCatalog self.log.now self.catalog.now }
+    {
+        let Scene {
+            place,
+            log,
+            catalog,
+        } = self;
+        let (first, end) = span_of(log, request)?;
+        if first >= end || end - first != 1 {
+            return None;
         }
-        if let Some(sketch) = sketches.get(*c)
-            && sketch.is_apart(own)
-        {
-            writers |= sketch.writer();
+        let stretch = Stretch {
+            word: first,
+            from: place.earliest(),
+            to: place.event(),
+        };
+        let near = near_there(catalog.others.words(), log, place.bytes(), request, stretch);
+        if !near.wide.is_empty() || !near.unknown.is_empty() || !near.careless.is_empty() {
+            return None;
+        }
+        match near.known {
+            [] => Some(Look::none()),
+            [only] => Some(Look::Only(*only)),
+            _ => None,
         }
     }
-    writers
-}
 
-/// A request at one of its words.
-#[derive(Clone, Copy)]
-struct Spot {
-    q: usize,
-    word: u64,
-}
-
-/// Request `b` has acted, or is `q`; or it is nothing to it what stands at the word and what `q` leaves
-/// there.
-fn is_aside(place: &Place, log: &Log, spot: Spot, b: usize) -> bool
-    requires { spot.word < log.now.extent.size / 4 }
-{
-    let Spot { q, word } = spot;
-    b == q
-        || place.has_acted(b)
-        || is_junk_at(log, place.bytes(), b, word) && leaves_junk_at(log, b, q, word)
-}
-
-/// Request `b` is pending and may act in turn after `q`.
-fn may_join(place: &Place, log: &Log, sketches: &[Sketch], spot: Spot, b: usize) -> bool
-    requires { spot.word < log.now.extent.size / 4 }
-{
-    let (Some(own), Some(sketch)) = (sketches.get(spot.q), sketches.get(b)) else {
-        return false;
-    };
-    b < place.event()
-        && (sketch.mask == 0 || is_junk_at(log, place.bytes(), b, spot.word))
-        && sketch.requester() & writers_before(place, sketches, *own, b) == 0
-        && (sketch.is_quiet() || is_within(log, b, spot.q))
-}
-
-/// Each of the list, which isn't long, is aside or may join, and no more may join than a group has.
-fn let_act(place: &Place, log: &Log, sketches: &[Sketch], spot: Spot, list: &[usize]) -> bool
-    requires { spot.word < log.now.extent.size / 4 }
-{
-    if list.len() > MOST {
-        return false;
+    /// The requesters that wait for posted writes before the other request that are somewhere else than the
+    /// request.
+    fn writers_before(self, own: Sketch, other: usize) -> u32 {
+        let mut writers = 0u32;
+        for write in self.place.posts() {
+            if *write >= other {
+                return writers;
+            }
+            if let Some(sketch) = self.catalog.sketch(*write)
+                && sketch.is_apart(own)
+            {
+                writers |= sketch.writer();
+            }
+        }
+        writers
     }
-    let mut joining = 0usize;
-    for b in list {
-        if !is_aside(place, log, spot, *b) {
-            joining = joining.saturating_add(1);
-            if joining > MOST_OTHERS || !may_join(place, log, sketches, spot, *b) {
+
+    /// The other request has acted, or is the request itself; or it is nothing to it what stands at the word and
+    /// what the request leaves there.
+    fn is_aside(self, at: AtWord, other: usize) -> bool
+        requires { at.word < self.log.now.extent.size / 4 }
+    {
+        let AtWord { request, word } = at;
+        other == request
+            || self.place.has_acted(other)
+            || is_junk_at(self.log, self.place.bytes(), other, word)
+                && leaves_junk_at(self.log, other, request, word)
+    }
+
+    /// The other request is pending and may act in turn after the request.
+    fn may_join(self, at: AtWord, other: usize) -> bool
+        requires { at.word < self.log.now.extent.size / 4 }
+    {
+        let (Some(own), Some(sketch)) = (
+            self.catalog.sketch(at.request),
+            self.catalog.sketch(other),
+        ) else {
+            return false;
+        };
+        other < self.place.event()
+            && (sketch.mask == 0 || is_junk_at(self.log, self.place.bytes(), other, at.word))
+            && sketch.requester() & self.writers_before(own, other) == 0
+            && (sketch.is_quiet() || is_within(self.log, other, at.request))
+    }
+
+    /// Each of the list, which isn't long, is aside or may join, and no more may join than a group has.
+    fn let_act(self, at: AtWord, list: &[usize]) -> bool
+        requires { at.word < self.log.now.extent.size / 4 }
+    {
+        if list.len() > MOST {
+            return false;
+        }
+        let mut joining = 0usize;
+        for other in list {
+            if !self.is_aside(at, *other) {
+                joining = joining.saturating_add(1);
+                if joining > MOST_OTHERS || !self.may_join(at, *other) {
+                    return false;
+                }
+            }
+        }
+        true
+    }
+
+    /// [`Scene::let_act`], those that may need what stands at the word now, or what the request leaves there.
+    fn is_junk_for(self, at: AtWord) -> bool
+        requires catalog { IsCatalog self.log.now self.catalog.now }
+        requires word { at.word < self.log.now.extent.size / 4 }
+    {
+        let Scene {
+            place,
+            log,
+            catalog,
+        } = self;
+        let words = catalog.others.words();
+        let stretch = Stretch {
+            word: at.word,
+            from: place.earliest(),
+            to: log.len(),
+        };
+        let there = near_junk(words, log, place.bytes(), stretch);
+        let left = near_left(words, log, at.request, stretch);
+        self.let_act(at, there.known)
+            && self.let_act(at, left.known)
+            && self.let_act(at, there.unknown)
+            && self.let_act(at, there.wide)
+    }
+
+    /// What stands where the request writes and what it leaves there may be nothing to all that are left
+    /// after it and others.
+    pub(crate) fn may_be_over_junk(self, request: usize) -> bool
+        requires { IsCatalog self.log.now self.catalog.now }
+    {
+        let Some((first, end)) = span_of(self.log, request) else {
+            return false;
+        };
+        for word in first..end {
+            if !self.is_junk_for(AtWord { request, word }) {
                 return false;
             }
         }
+        true
     }
-    true
-}
-
-/// [`let_act`], those that may need what stands at the word now, or what request `q` leaves there.
-fn is_junk_for(place: &Place, log: &Log, catalog: &Catalog, spot: Spot) -> bool
-    requires catalog { IsCatalog log.now catalog.now }
-    requires word { spot.word < log.now.extent.size / 4 }
-{
-    let words = catalog.others.words();
-    let sketches = catalog.sketches.as_slice();
-    let stretch = Stretch {
-        word: spot.word,
-        from: place.earliest(),
-        to: log.len(),
-    };
-    let there = near_junk(words, log, place.bytes(), stretch);
-    let left = near_left(words, log, spot.q, stretch);
-    let_act(place, log, sketches, spot, there.known)
-        && let_act(place, log, sketches, spot, left.known)
-        && let_act(place, log, sketches, spot, there.unknown)
-        && let_act(place, log, sketches, spot, there.wide)
-}
-
-/// What stands where request `q` writes and what it leaves there may be nothing to all that are left
-/// after it and others.
-pub(crate) fn may_be_over_junk(place: &Place, log: &Log, catalog: &Catalog, q: usize) -> bool
-    requires { IsCatalog log.now catalog.now }
-{
-    let Some((first, end)) = span_of(log, q) else {
-        return false;
-    };
-    for word in first..end {
-        if !is_junk_for(place, log, catalog, Spot { q, word }) {
-            return false;
-        }
-    }
-    true
 }

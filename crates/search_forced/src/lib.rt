@@ -6,6 +6,10 @@
 //! that may be taken. A [`Catalog`] is what is known of a log before its search begins. [`Losses`] are the
 //! words that steps changed, and tell a request that needs what stood there and doesn't get it any more.
 //!
+//! The rules look at a `Scene`: a place, the log and the catalog. In them `request` is the one of which it is
+//! asked whether it acts at once, `other` another one, `member` one of those that act in turn with it, and
+//! `awaited` the one before whose answer it must act.
+//!
 //! What only says where a rule is worth its test stands in `hints` and `sketches`; nothing rests on it.
 #![tactic(auto)]
 
@@ -15,6 +19,7 @@ mod hints;
 mod junk;
 mod losses;
 mod rules;
+mod scene;
 mod sketches;
 mod steps;
 

@@ -19,15 +19,22 @@ pub(crate) fn four(bytes: &[u8], at: usize) -> Option<u32> {
     Some(u32::from_le_bytes([bytes[at], bytes[at + 1], bytes[at + 2], bytes[at + 3]]))
 }
 
-/// What stood at the word, whose bytes are now those from place `at` on, before a step overwrote the
-/// bytes from place `from` on.
-fn old_at(bytes: &[u8], at: usize, from: usize, old: &[u8]) -> Option<u32> {
+/// What a step overwrote.
+#[derive(Clone, Copy)]
+struct Overwritten<'a> {
+    /// Where the bytes stood.
+    from: usize,
+    bytes: &'a [u8],
+}
+
+/// What stood at the word, whose bytes are now those from place `at` on, before a step overwrote these.
+fn old_at(bytes: &[u8], at: usize, old: Overwritten<'_>) -> Option<u32> {
     let mut word = four(bytes, at)?.to_le_bytes();
     for i in 0..4usize {
-        if let Some(k) = at.saturating_add(i).checked_sub(from)
-            && k < old.len()
+        if let Some(k) = at.saturating_add(i).checked_sub(old.from)
+            && k < old.bytes.len()
         {
-            word[i] = old[k];
+            word[i] = old.bytes[k];
         }
     }
     Some(u32::from_le_bytes(word))
@@ -62,14 +69,13 @@ impl Losses {
         &mut self,
         bytes: &[u8],
         word: u64,
-        from: usize,
-        old: &[u8],
+        old: Overwritten<'_>,
     ) -> Result<(), AllocError> {
         if word >= bytes.len() as u64 {
             return Ok(());
         }
         let at = (word as usize).saturating_mul(4);
-        if let Some(old) = old_at(bytes, at, from, old)
+        if let Some(old) = old_at(bytes, at, old)
             && !is_back(Loss { word, old }, bytes)
         {
             self.list.push(Loss { word, old })?;
@@ -79,16 +85,21 @@ impl Losses {
 
     /// The words that one step more changed, which led to the place.
     pub fn push(&mut self, log: &Log, place: &Place, done: &Done) -> Result<(), AllocError> {
-        let Step::Act(b) = done.step else {
+        let Step::Act(request) = done.step else {
             return Ok(());
         };
-        let (Some((first, end)), Some(Event::Sub { op, .. })) = (span_of(log, b), log.event(b))
-        else {
+        let (Some((first, end)), Some(Event::Sub { op, .. })) = (
+            span_of(log, request),
+            log.event(request),
+        ) else {
             return Ok(());
         };
-        let from = op.address().saturating_sub(log.extent().base()) as usize;
+        let old = Overwritten {
+            from: op.address().saturating_sub(log.extent().base()) as usize,
+            bytes: done.old.as_slice(),
+        };
         for word in first..end {
-            self.push_word(place.bytes(), word, from, done.old.as_slice())?;
+            self.push_word(place.bytes(), word, old)?;
         }
         Ok(())
     }

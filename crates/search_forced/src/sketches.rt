@@ -1,11 +1,12 @@
 //! What is looked at often of a request, in a table. Nothing rests on what it says.
 
+use crate::losses::four;
 use log_runs::{Event, Log};
 use search_effects::is_needed;
 use search_rules::changes_nothing;
-use seq_memory::Reply;
+use seq_memory::ReplyRef;
 use std::alloc::{AllocError, Global};
-use tlp_core::Op;
+use tlp_core::OpRef;
 
 /// What is looked at often of an event.
 #[derive(Clone, Copy)]
@@ -14,7 +15,7 @@ pub(crate) struct Sketch {
     from: u64,
     count: u32,
     /// The first four bytes that it needs, and which of their bits; no bits, if it needs nothing.
-    pub(crate) need: u32,
+    need: u32,
     pub(crate) mask: u32,
     /// Bits for the words that it names and for its requester.
     pub(crate) marks: u32,
@@ -67,9 +68,20 @@ impl Sketch {
     }
 
     /// Where its bytes begin in a memory that begins at `base`.
-    pub(crate) fn place(self, base: u64) -> Option<usize> {
+    fn place(self, base: u64) -> Option<usize> {
         let at = self.from.checked_sub(base)?;
         Some(at as usize)
+    }
+
+    /// The first bytes that it needs are there, in the bytes of a memory that begins at `base`.
+    pub(crate) fn may_fit(self, base: u64, bytes: &[u8]) -> bool {
+        if self.mask == 0 {
+            return true;
+        }
+        match self.place(base).and_then(|at| four(bytes, at)) {
+            Some(found) => (found ^ self.need) & self.mask == 0,
+            None => true,
+        }
     }
 }
 
@@ -87,7 +99,7 @@ fn bit_for(requester: u8) -> u32 {
 }
 
 /// Bits for the words that the operation names.
-fn words_of(op: &Op) -> u32 {
+fn words_of(op: &OpRef<'_>) -> u32 {
     let first = op.address() / 4;
     let mut words = 0;
     for k in 0..(u64::from(op.size()) + 3) / 4 {
@@ -97,7 +109,7 @@ fn words_of(op: &Op) -> u32 {
 }
 
 /// The first four bytes that the operation needs to be answered with the data, and which they are.
-fn need_of(op: &Op, data: &[u8]) -> (u32, u32) {
+fn need_of(op: &OpRef<'_>, data: &[u8]) -> (u32, u32) {
     let mut need = [0u8; 4];
     let mut mask = [0u8; 4];
     for i in 0..4usize {
@@ -110,10 +122,20 @@ fn need_of(op: &Op, data: &[u8]) -> (u32, u32) {
 }
 
 /// What the request needs, if it was answered so.
-fn needed(op: &Op, reply: Option<&Reply>) -> (u32, u32) {
+fn needed(op: &OpRef<'_>, reply: Option<&ReplyRef<'_>>) -> (u32, u32) {
     match reply {
-        Some(Reply::Data(data)) => need_of(op, data.as_slice()),
+        Some(ReplyRef::Data(data)) => need_of(op, data.as_slice()),
         _ => (0, 0),
+    }
+}
+
+/// The place from where on nobody needs what the request leaves, before one is known: the first, or none if it
+/// changes nothing.
+fn first_calm(log: &Log, at: usize) -> u32 {
+    if changes_nothing(log, at) {
+        u32::MAX
+    } else {
+        0
     }
 }
 
@@ -129,8 +151,8 @@ fn sketch_of(log: &Log, at: usize) -> Sketch {
     else {
         return NOTHING;
     };
-    let (need, mask) = needed(op, reply);
-    let words = words_of(op);
+    let (need, mask) = needed(&op, reply.as_ref());
+    let words = words_of(&op);
     let who = bit_for(requester);
     Sketch {
         from: op.address(),
@@ -139,11 +161,7 @@ fn sketch_of(log: &Log, at: usize) -> Sketch {
         mask,
         marks: words | who,
         frees: if op.is_posted() { words | who } else { words },
-        calm: if changes_nothing(log, at) {
-            u32::MAX
-        } else {
-            0
-        },
+        calm: first_calm(log, at),
     }
 }
 

@@ -3,9 +3,11 @@ ghost use Rattle.std.specs.Prelude.{◌≡◌, IfOk, OnOk, IfSome};
 ghost use Rattle.log_runs.specs.Runs.{IsForced};
 ghost use Rattle.search_places.specs.Places.{IsPlace};
 ghost use Rattle.search_forced.specs.Catalogs.{IsCatalog};
+ghost use Rattle.search_forced.specs.Scenes.{IsScene};
 
 use crate::catalog::{Catalog, Way};
-use crate::junk::over_junk;
+use crate::junk::{Among, over_junk};
+use crate::scene::{Known, Scene};
 use log_runs::{Log, Step};
 use search_choices::only_step;
 use search_others::due_is_lost;
@@ -23,35 +25,42 @@ fn are_many(place: &Place) -> bool {
     place.posts().len() > MANY && place.event() % (MANY / 4) == 0
 }
 
-/// The only step that may be taken, if there is just one, unless the request whose answer is due is lost.
-fn single(place: &Place, log: &Log, catalog: &Catalog) -> Option<Step>
-    requires place { IsPlace log.now place.now }
-    requires catalog { IsCatalog log.now catalog.now }
-    ensures { IfSome result (IsForced log.now place.now.state) }
-{
-    if place.event() >= log.len() || due_is_lost(place, log, &catalog.others) {
-        return None;
+impl Scene<'_, '_> {
+    /// The only step that may be taken, if there is just one, unless the request whose answer is due is lost.
+    fn single(self) -> Option<Step>
+        requires { IsScene self }
+        ensures { IfSome result (IsForced self.entry.log.now self.entry.place.now.state) }
+    {
+        let Scene {
+            place,
+            log,
+            catalog,
+        } = self;
+        if place.event() >= log.len() || due_is_lost(place, log, &catalog.others) {
+            return None;
+        }
+        only_step(log, &catalog.others, &catalog.links, place)
     }
-    only_step(log, &catalog.others, &catalog.links, place)
 }
 
-/// [`single`], or a request that acts over junk.
-fn at_last(
-    place: &mut Place,
-    alloc: Global,
-    log: &Log,
-    catalog: &Catalog,
-) -> Result<Option<Step>, AllocError>
-    requires place { IsPlace log.now place.old }
-    requires catalog { IsCatalog log.now catalog.now }
+/// [`Scene::single`], or a request that acts over junk.
+fn at_last(place: &mut Place, alloc: Global, known: Known<'_>) -> Result<Option<Step>, AllocError>
+    requires place { IsPlace known.log.now place.old }
+    requires catalog { IsCatalog known.log.now known.catalog.now }
     ensures state { OnOk result (place.new.state ≡ place.old.state) }
-    ensures place { OnOk result (IsPlace log.now place.new) }
-    ensures forced { IfOk result (λ o. IfSome o (IsForced log.now place.new.state)) }
+    ensures place { OnOk result (IsPlace known.entry.log.now place.new) }
+    ensures forced { IfOk result (λ o. IfSome o (IsForced known.entry.log.now place.new.state)) }
 {
-    if let Some(step) = over_junk(place, alloc, log, catalog, false)? {
+    if let Some(step) = over_junk(place, alloc, known, Among::All)? {
         return Ok(Some(step));
     }
-    Ok(single(place, log, catalog))
+    let Known { log, catalog } = known;
+    let scene = Scene {
+        place,
+        log,
+        catalog,
+    };
+    Ok(scene.single())
 }
 
 /// How much work it is to see which step is taken at once, where the rules for one request see this one.
@@ -81,16 +90,17 @@ pub fn at_once(
     ensures place { OnOk result (IsPlace log.now place.new) }
     ensures forced { IfOk result (λ o. IfSome o (IsForced log.now place.new.state)) }
 {
+    let known = Known { log, catalog };
     match step {
         Some(Step::Act(_)) => Ok(step),
         Some(Step::Pass) => {
             if (matches!(catalog.way, Way::Part) || are_many(place))
-                && let Some(write) = over_junk(place, alloc, log, catalog, true)?
+                && let Some(write) = over_junk(place, alloc, known, Among::Writes)?
             {
                 return Ok(Some(write));
             }
             Ok(step)
         }
-        None => at_last(place, alloc, log, catalog),
+        None => at_last(place, alloc, known),
     }
 }

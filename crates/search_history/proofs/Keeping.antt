@@ -1,12 +1,13 @@
 -- Records without some answers.
-use Rattle.std.proofs.Common.{◌≡◌, ◌∙◌, ℕ, suc, ◌+◌, ◌<◌, Bool, true, false, List, [], ◌∷◌, ◌++◌, take, get_or, length, refl, sym, ap, arith, add-one}
-use Rattle.std.specs.Prelude.{◌==◌, if◌then◌else◌}
+use Rattle.std.proofs.Common.{◌≡◌, ◌∙◌, ℕ, suc, ◌+◌, ◌<◌, Bool, true, false, List, [], ◌∷◌, ◌++◌, take, length, Some, refl, ap, arith}
+use Rattle.std.specs.Prelude.{slice_get, ◌==◌, if◌then◌else◌}
 use Rattle.std.specs.List.{list_any}
-use Rattle.std.proofs.Math.Seq.{take-suc}
 use Rattle.std.proofs.lemmas.List.{length-take-le}
+use Rattle.std.proofs.lemmas.Option.{slice_get_within}
 use Rattle.history_words.specs.Records.{Record}
 use Rattle.history_words.specs.declared.record.RecordOf.TheVariants as records
 use Rattle.search_history.specs.Contradictions.{keeping_from}
+use Rattle.search_history.proofs.Runs.{take_more}
 
 put_if : (b : Bool) (r : Record) (xs ys : List Record) → (if b then r ∷ (xs ++ ys) else xs ++ ys) ≡ (if b then r ∷ xs else xs) ++ ys
 put_if true r xs ys = refl
@@ -26,8 +27,8 @@ keeping_append a kept (records.Ans i k reply n ∷ xs) ys =
     ∙ put_if (list_any (λ b. b == a) kept) (records.Ans i k reply n) (keeping_from (suc a) kept xs) (keeping_from (a + suc (length xs)) kept ys)
 
 -- the records up to the next one, and with it
-pub keeping_more : (kept : List ℕ) (rs : List Record) (i : ℕ) (r : Record) → i < length rs → r ≡ get_or rs i r → keeping_from 0 kept (take (i + 1) rs) ≡ keeping_from 0 kept (take i rs) ++ keeping_from i kept (r ∷ [])
-keeping_more kept rs i r l is =
-    let grown : take (i + 1) rs ≡ take i rs ++ r ∷ [] = ap (λ k. take k rs) (add-one i) ∙ take-suc rs i r l ∙ ap (λ y. take i rs ++ y ∷ []) (sym is) in
+pub keeping_more : (kept : List ℕ) (rs : List Record) (i : ℕ) (r : Record) → slice_get rs i ≡ Some r → keeping_from 0 kept (take (i + 1) rs) ≡ keeping_from 0 kept (take i rs) ++ keeping_from i kept (r ∷ [])
+keeping_more kept rs i r at =
+    let l : i < length rs = slice_get_within rs i r at in
     let long : 0 + length (take i rs) ≡ i = omega (arith, length-take-le i rs (omega (arith, l))) in
-    ap (keeping_from 0 kept) grown ∙ keeping_append 0 kept (take i rs) (r ∷ []) ∙ ap (λ zs. keeping_from 0 kept (take i rs) ++ zs) (moved 0 kept (0 + length (take i rs)) i (r ∷ []) long)
+    ap (keeping_from 0 kept) (take_more rs i r at) ∙ keeping_append 0 kept (take i rs) (r ∷ []) ∙ ap (λ zs. keeping_from 0 kept (take i rs) ++ zs) (moved 0 kept (0 + length (take i rs)) i (r ∷ []) long)

@@ -1,31 +1,34 @@
 -- Runs through records, and what they are.
-use Rattle.std.proofs.Common.{◌≡◌, ◌∙◌, ℕ, zero, suc, ◌+◌, ◌-◌, ◌<◌, ◌≤◌, Bool, true, false, List, [], ◌∷◌, ◌++◌, take, drop, get_or, set, length, Option, None, Some, refl, sym, ap, subst, inr, arith, add-one, append_assoc, take-append-drop}
-use Rattle.std.specs.Prelude.{slice_get, option_and_then, is_some, IfNone}
+use Rattle.std.proofs.Common.{◌≡◌, ◌∙◌, ℕ, zero, suc, ◌+◌, ◌-◌, ◌<◌, ◌≤◌, Bool, true, false, List, [], ◌∷◌, ◌++◌, map, take, drop, get_or, set, length, Option, None, Some, refl, sym, ap, subst, inl, inr, arith, add-one, append_assoc, take-append-drop}
+use Rattle.std.specs.Prelude.{slice_get, option_and_then, is_some, IfNone, replicate}
 use Rattle.std.specs.List.{cons_option}
 use Rattle.std.proofs.Math.Seq.{take-suc, take-length, drop-length}
 use Rattle.std.proofs.lemmas.List.{append-nil, drop-set-lt}
-use Rattle.std.proofs.lemmas.Option.{same_Some, get_or_from_slice_get}
+use Rattle.std.proofs.lemmas.Option.{same_Some}
 use Rattle.seq_memory.specs.Limits.{Extent}
-use Rattle.seq_memory.specs.Entries.{Entry}
+use Rattle.seq_memory.specs.Entries.{Entry, Reply}
+use Rattle.seq_memory.specs.declared.reply.ReplyOf.TheVariants as replies
+use Rattle.seq_memory.specs.History.{MemoryView}
+use Rattle.seq_memory.specs.Step.{after, answer}
 use Rattle.history_words.specs.Records.{Record}
 use Rattle.history_words.specs.declared.record.RecordOf.TheVariants as records
 use Rattle.history_words.specs.TraceView.{TraceView, observed}
-use Rattle.history_words.specs.Claim.{claim_of}
+use Rattle.history_words.specs.Claim.{Claim, claim_of}
 use Rattle.history_words.specs.Trace.{Explains}
 use Rattle.history_words.specs.Clocks.{IsClocked}
 use Rattle.log_runs.specs.EventView.{EventView}
 use Rattle.log_runs.specs.Explainable.{IsSeenAs, AreSeenAs, IsExplainable, SeenAlike, prefix}
-use Rattle.log_runs.specs.Histories.{submitted, history_of, with_n, timed_from, timed, with_replies}
+use Rattle.log_runs.specs.Histories.{submitted, history_of, timed_from, timed, with_answer, with_replies, completed}
 use Rattle.log_runs.specs.LogView.{LogView}
 use Rattle.log_runs.specs.Runs.{Live, Dead, start}
-use Rattle.log_runs.specs.Tasks.{AreAllEvents, IsMisformed, IsWellFormed}
+use Rattle.log_runs.specs.Tasks.{AreAllEvents, IsWellFormed}
 use Rattle.log_runs.specs.declared.Step.{Step}
 use Rattle.log_runs.specs.declared.Step.TheVariants as steps
 use Rattle.log_events.specs.Formed.{AreFormed}
-use Rattle.log_events.specs.Joined.{ArePartners}
 use Rattle.search_run.specs.Outcomes.{IsRun, IsRight}
 use Rattle.search_run.specs.declared.exploring.Outcome.{Outcome}
 use Rattle.search_run.specs.declared.exploring.Outcome.TheVariants as outcomes
+use Rattle.trace_store.specs.Changes.{seen_by, with_n}
 use Rattle.search_history.specs.Runs.{IsRunOf, IsOutcomeOf, IsVerdictOf}
 use Rattle.search_history.specs.declared.searching.Verdict.{Verdict}
 use Rattle.search_history.proofs.Prefixing.{of}
@@ -220,18 +223,38 @@ pub timed_end : (xs : List Step) (rs now : List Record) (event at : ℕ) → at 
 timed_end xs rs now event at over t =
     sym (t.timed ∙ ap (λ zs. take event now ++ timed_from (at - event) zs (drop event now)) (ap (λ n. drop n xs) over ∙ drop-length xs) ∙ take-append-drop event now)
 
-pub set_some : (xs : List Record) (i n : ℕ) (x y r : Record) → x ≡ get_or xs i x → y ≡ with_n n x → slice_get xs i ≡ Some r → set xs i y ≡ set xs i (with_n n r)
-set_some xs i n x y r is e at = ap (set xs i) (e ∙ ap (with_n n) (is ∙ get_or_from_slice_get xs i r x at))
+-- an n that is set changes no history
+pub timed_memory : (old new : Claim) (event n : ℕ) → ((r : Record) → slice_get old.records event ≡ Some r → new ≡ record old { records = set old.records event (with_n n r) })
+    → (slice_get old.records event ≡ None → new ≡ old) → new.memory ≡ old.memory
+timed_memory old new event n some none = by (slice_get old.records event) refl
+  where
+    by : (o : Option Record) → slice_get old.records event ≡ o → new.memory ≡ old.memory
+    by None there = ap (λ (c : Claim). c.memory) (none there)
+    by (Some r) there = ap (λ (c : Claim). c.memory) (some r there)
 
-pub inside_none : {X : Type 0} → (xs : List X) (i : ℕ) → i < length xs → slice_get xs i ≡ None → ⊥
+-- ---- the next record
+
+-- records over that memory
+abbrev pub over : Extent → List Record → TraceView
+over x rs = record { base = x.base; size = x.size; block = x.block; records = rs }
+
+take_one : {X : Type 0} → (xs : List X) (i : ℕ) (x : X) → slice_get xs i ≡ Some x → take (suc i) xs ≡ take i xs ++ x ∷ []
+take_one [] i x at = cc
+take_one (y ∷ ys) zero x at = ap (λ z. z ∷ []) (same_Some y x at)
+take_one (y ∷ ys) (suc i) x at = ap (λ zs. y ∷ zs) (take_one ys i x at)
+
+pub take_more : {X : Type 0} → (xs : List X) (i : ℕ) (x : X) → slice_get xs i ≡ Some x → take (i + 1) xs ≡ take i xs ++ x ∷ []
+take_more xs i x at = ap (λ n. take n xs) (add-one i) ∙ take_one xs i x at
+
+inside_none : {X : Type 0} → (xs : List X) (i : ℕ) → i < length xs → slice_get xs i ≡ None → ⊥
 inside_none [] i l e = omega arith
 inside_none (x ∷ xs) zero l e = cc
 inside_none (x ∷ xs) (suc i) l e = inside_none xs i (omega arith) e
 
--- ---- the trace with these n's
+pub none_inside : {X : Type 0} → (xs : List X) (i n : ℕ) → i < n → n ≡ length xs → slice_get xs i ≡ None → ⊥
+none_inside xs i n l e none = inside_none xs i (omega (arith, l, e)) none
 
-abbrev pub with_records : TraceView → List Record → TraceView
-with_records t rs = record { base = t.base; size = t.size; block = t.block; records = rs }
+-- ---- what was seen, with these n's and replies
 
 same_record : (r : Record) → IsSeenAs r r
 same_record (records.Sub i k op n) = (refl, refl, refl)
@@ -245,27 +268,57 @@ same_records (r ∷ rs) = (same_record r, same_records rs)
 pub seen_same : (t u : TraceView) → u ≡ t → SeenAlike t u
 seen_same t u same = subst (SeenAlike t) (sym same) (record { base = refl; size = refl; block = refl; records = same_records t.records })
 
--- the trace with the replies of the run
+answered_record : (e : Entry) (made : Reply) (r u : Record) → IsSeenAs r u → IsSeenAs r (with_answer e made u)
+answered_record e made (records.Sub i k op n) (records.Sub j l w m) seen = seen
+answered_record e made (records.Sub i k op n) (records.Ans j l reply m) seen = absurd seen
+answered_record e made (records.Ans i k told n) (records.Sub j l w m) seen = absurd seen
+answered_record e made (records.Ans i k told n) (records.Ans j l replies.Done m) seen = (seen.0, seen.1, inl (elim seen.2 [ inl is ↦ is | inr is ↦ is ]))
+answered_record e made (records.Ans i k told n) (records.Ans j l (replies.Data bytes) m) seen = seen
+answered_record e made (records.Ans i k told n) (records.Ans j l replies.Unsupported m) seen = seen
+answered_record e made (records.Ans i k told n) (records.Ans j l replies.Aborted m) seen = seen
+
+completed_record : (x : Extent) (m : List ℕ) (h : List Entry) (r u : Record) → IsSeenAs r u → IsSeenAs r (completed x m h u)
+completed_record x m [] r u seen = seen
+completed_record x m (e ∷ h) r u seen =
+    let made = answer x.base x.block m e.op in
+    completed_record x (after x.base x.block m e.op) h r (with_answer e made u) (answered_record e made r u seen)
+
+completed_records : (x : Extent) (m : List ℕ) (h : List Entry) (rs : List Record) → AreSeenAs rs (map (completed x m h) rs)
+completed_records x m h [] = tt
+completed_records x m h (r ∷ rs) = (completed_record x m h r r (same_record r), completed_records x m h rs)
+
+-- whatever history gives the replies, it is the same that was seen
+pub seen_replied : (t u v : TraceView) (h : List Entry) → u ≡ t → v ≡ with_replies h u → SeenAlike t v
+seen_replied t u v h same is =
+    subst (SeenAlike t) (sym (is ∙ ap (with_replies h) same))
+    (record { base = refl; size = refl; block = refl; records = completed_records (observed t) (replicate t.size 0) h t.records })
+
+-- what was seen with the replies of the run
 abbrev pub replied_by : TraceView → List Step → TraceView
 replied_by t xs = with_replies (history_of t.records xs) t
 
-module _ (u t : TraceView) (xs : List Step) (same : u ≡ replied_by t xs) (run : IsRunOf t xs) (rs : List Record) (is : rs ≡ timed_from 0 xs u.records) where
-  run_law : (P : TraceView → Type 0) → P (timed xs (replied_by t xs)) → P (with_records u rs)
-  run_law P p =
-      let records : timed_from 0 xs (replied_by t xs).records ≡ rs = sym (is ∙ ap (λ (v : TraceView). timed_from 0 xs v.records) same) in
-      subst (λ (v : TraceView). P (with_records v rs)) (sym same) (subst (λ (ys : List Record). P (with_records (replied_by t xs) ys)) records p)
+module _ (start_claim acted replied now : Claim) (xs : List Step) (run : IsRunOf (seen_by start_claim) xs) (empty : start_claim.memory.entries ≡ []) (seen : seen_by acted ≡ seen_by start_claim)
+    (entries : acted.memory.entries ≡ start_claim.memory.entries ++ history_of start_claim.records xs) (memory : replied.memory ≡ acted.memory) (told : seen_by replied ≡ with_replies (history_of acted.records xs) (seen_by acted))
+    (timed_is : now ≡ record replied { records = timed_from 0 xs replied.records }) where
+  abbrev t : TraceView
+  t = seen_by start_claim
 
-  pub run_alike : ((es : List EventView) → IsWellFormed t.records → AreAllEvents t.records es → (run : Live (of (observed t) es) (start (of (observed t) es))) → SeenAlike t (timed run.steps (replied_by t run.steps))) → SeenAlike t (with_records u rs)
-  run_alike law = run_law (SeenAlike t) (law run.events run.formed run.all (live (of (observed t) run.events) xs run.run))
+  told_is : seen_by replied ≡ replied_by t xs
+  told_is = told ∙ ap (λ (v : TraceView). with_replies (history_of v.records xs) v) seen
 
-  pub run_explains : ((es : List EventView) → IsWellFormed t.records → AreAllEvents t.records es → (run : Live (of (observed t) es) (start (of (observed t) es))) → Explains (claim_of (timed run.steps (replied_by t run.steps)) (history_of t.records run.steps)))
-      → (h : List Entry) → h ≡ history_of t.records xs → Explains (claim_of (with_records u rs) h)
-  run_explains law h e =
-      subst (λ (g : List Entry). Explains (claim_of (with_records u rs) g)) (sym e)
-      (run_law (λ v. Explains (claim_of v (history_of t.records xs))) (law run.events run.formed run.all (live (of (observed t) run.events) xs run.run)))
+  entries_are : replied.memory.entries ≡ history_of t.records xs
+  entries_are = ap (λ (m : MemoryView). m.entries) memory ∙ entries ∙ ap (λ (h : List Entry). h ++ history_of t.records xs) empty
 
-  pub run_clocked : ((es : List EventView) → IsWellFormed t.records → AreAllEvents t.records es → (run : Live (of (observed t) es) (start (of (observed t) es))) → IsClocked (claim_of (timed run.steps (replied_by t run.steps)) (history_of t.records run.steps)))
-      → (h : List Entry) → h ≡ history_of t.records xs → IsClocked (claim_of (with_records u rs) h)
-  run_clocked law h e =
-      subst (λ (g : List Entry). IsClocked (claim_of (with_records u rs) g)) (sym e)
-      (run_law (λ v. IsClocked (claim_of v (history_of t.records xs))) (law run.events run.formed run.all (live (of (observed t) run.events) xs run.run)))
+  run_is : now ≡ claim_of (timed xs (replied_by t xs)) (history_of t.records xs)
+  run_is =
+      timed_is ∙ ap (λ (v : TraceView). claim_of (timed xs v) replied.memory.entries) told_is
+      ∙ ap (λ (h : List Entry). claim_of (timed xs (replied_by t xs)) h) entries_are
+
+  pub run_alike : ((es : List EventView) → IsWellFormed t.records → AreAllEvents t.records es → (run : Live (of (observed t) es) (start (of (observed t) es))) → SeenAlike t (timed run.steps (replied_by t run.steps))) → SeenAlike t (seen_by now)
+  run_alike law = subst (λ (c : Claim). SeenAlike t (seen_by c)) (sym run_is) (law run.events run.formed run.all (live (of (observed t) run.events) xs run.run))
+
+  pub run_explains : ((es : List EventView) → IsWellFormed t.records → AreAllEvents t.records es → (run : Live (of (observed t) es) (start (of (observed t) es))) → Explains (claim_of (timed run.steps (replied_by t run.steps)) (history_of t.records run.steps))) → Explains now
+  run_explains law = subst Explains (sym run_is) (law run.events run.formed run.all (live (of (observed t) run.events) xs run.run))
+
+  pub run_clocked : ((es : List EventView) → IsWellFormed t.records → AreAllEvents t.records es → (run : Live (of (observed t) es) (start (of (observed t) es))) → IsClocked (claim_of (timed run.steps (replied_by t run.steps)) (history_of t.records run.steps))) → IsClocked now
+  run_clocked law = subst IsClocked (sym run_is) (law run.events run.formed run.all (live (of (observed t) run.events) xs run.run))

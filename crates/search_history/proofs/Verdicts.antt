@@ -1,5 +1,5 @@
 -- What an answer to a verdict says.
-use Rattle.std.proofs.Common.{◌≡◌, ◌∙◌, ℕ, ap, refl, subst, sym}
+use Rattle.std.proofs.Common.{◌≡◌, ◌∙◌, ℕ, ap, refl, subst}
 use Rattle.history_words.specs.TraceView.{TraceView}
 use Rattle.log_runs.specs.Explainable.{IsExplainable, prefix}
 use Rattle.search_history.specs.Answers.{IsNone}
@@ -13,16 +13,16 @@ use Rattle.search_history.specs.declared.searching.Verdict.TheVariants as verdic
 
 pub none_answered : ((t : TraceView) (n : ℕ) → IsExplainable t → IsExplainable (prefix n t)) → (t : TraceView) (v : Verdict) (s : Sought) → IsAnswered v s
     → ((n : ℕ) → v ≡ verdicts.None n → IsUnexplained t n) → IsNone t s
-none_answered law t (verdicts.Run xs) (answers.Found h) a none = tt
+none_answered law t (verdicts.Run xs) answers.Found a none = tt
 none_answered law t (verdicts.None n) (answers.None m) a none =
     let u = subst (IsUnexplained t) a (none n refl) in
     (λ e. u.unexplained (law t m e), u)
 none_answered law t (verdicts.Limit b) (answers.Limit c) a none = tt
 none_answered law t (verdicts.Run xs) (answers.None m) a none = absurd a
 none_answered law t (verdicts.Run xs) (answers.Limit c) a none = absurd a
-none_answered law t (verdicts.None n) (answers.Found h) a none = absurd a
+none_answered law t (verdicts.None n) answers.Found a none = absurd a
 none_answered law t (verdicts.None n) (answers.Limit c) a none = absurd a
-none_answered law t (verdicts.Limit b) (answers.Found h) a none = absurd a
+none_answered law t (verdicts.Limit b) answers.Found a none = absurd a
 none_answered law t (verdicts.Limit b) (answers.None m) a none = absurd a
 
 -- the bound that ended a search is the one that is answered
@@ -31,11 +31,11 @@ limit_answered (verdicts.Limit b) (answers.Limit c) d a e = ap verdicts.Limit (a
   where
     same : (x y : Bound) → answers.Limit x ≡ answers.Limit y → x ≡ y
     same x y e = cc
-limit_answered (verdicts.Limit b) (answers.Found h) d a e = absurd a
+limit_answered (verdicts.Limit b) answers.Found d a e = absurd a
 limit_answered (verdicts.Limit b) (answers.None m) d a e = absurd a
-limit_answered (verdicts.Run xs) (answers.Found h) d a e = cc
+limit_answered (verdicts.Run xs) answers.Found d a e = cc
 limit_answered (verdicts.Run xs) (answers.None m) d a e = absurd a
 limit_answered (verdicts.Run xs) (answers.Limit c) d a e = absurd a
 limit_answered (verdicts.None n) (answers.None m) d a e = cc
-limit_answered (verdicts.None n) (answers.Found h) d a e = absurd a
+limit_answered (verdicts.None n) answers.Found d a e = absurd a
 limit_answered (verdicts.None n) (answers.Limit c) d a e = absurd a

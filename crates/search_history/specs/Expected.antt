@@ -2,14 +2,9 @@
 use Rattle.std.specs.Prelude.{ℕ, ◌≡◌, List, [], ◌∷◌, ◌++◌, take, slice_get, Some}
 use Rattle.seq_memory.specs.Entries.{Reply}
 use Rattle.history_words.specs.Records.{Record}
-use Rattle.history_words.specs.declared.record.RecordOf.TheVariants as records
 use Rattle.history_words.specs.TraceView.{TraceView}
 use Rattle.log_runs.specs.Explainable.{IsExplainable}
-
--- the record with that reply, if it is an answer
-abbrev pub with_reply : Record → Reply → Record
-with_reply (records.Sub i k op n) reply = records.Sub i k op n
-with_reply (records.Ans i k told n) reply = records.Ans i k reply n
+use Rattle.trace_store.specs.Changes.{with_reply}
 
 -- that record is at the place
 abbrev pub IsAt : TraceView → ℕ → Record → Type 0

@@ -32,7 +32,7 @@ IsVerdictOf t (verdicts.Limit bound) = Unit {0}
 
 -- a run is answered by a history, and nothing else is; what bound ended it is told
 abbrev pub IsAnswered : Verdict → Sought → Type 0
-IsAnswered (verdicts.Run xs) (answers.Found h) = Unit {0}
+IsAnswered (verdicts.Run xs) answers.Found = Unit {0}
 IsAnswered (verdicts.None n) (answers.None prefix) = n ≡ prefix
 IsAnswered (verdicts.Limit bound) (answers.Limit other) = bound ≡ other
 IsAnswered _ _ = ⊥

@@ -241,7 +241,7 @@ fn each_seen_within<W: Watch>(
     task: Task<'_>,
     turns: &mut Vec<Turn>,
     bounds: Bounds,
-    within: &mut Within<'_, W>,
+    within: &mut Within<'_, '_, W>,
 ) -> Result<Tried, AllocError>
     requires places { ArePlaces task.field.log.now.events task.field.cells.now.places }
     ensures dead { IfOk result (λ r. IsSome r.dead → Dead task.entry.field.log.now (start task.entry.field.log.now)) }

@@ -2,21 +2,23 @@
 //!
 //! The reply is guessed: it is the memory's, by a history of the records before. A search finds out whether a
 //! history explains the records with it.
-ghost use Rattle.std.specs.Prelude.{◌≡◌, ◌<◌, ◌++◌, ◌∷◌, [], true, IfOk, IfSome, length, take};
+ghost use Rattle.std.specs.Prelude.{◌≡◌, ◌++◌, ◌∷◌, [], true, IfOk, IfSome, OnOk};
 ghost use Rattle.history_words.specs.Records.{Record};
-ghost use Rattle.history_words.specs.TraceView.{TraceView};
 ghost use Rattle.log_runs.specs.Explainable.{IsExplainable};
 ghost use Rattle.search_history.specs.Expected as expected;
 ghost use Rattle.search_history.specs.Expected.{IsExpected};
+ghost use Rattle.trace_store.specs.Changes.{with_reply};
 
-use crate::judging::{Records, is_explainable};
-use history_words::{Record, Trace};
+use crate::judging::{Beginning, is_explainable};
+use history_words::{RecordHeader, RecordRef};
 use log_events::form_of;
+use log_replies::perform;
 use log_runs::Step;
 use search_run::Bounds;
-use seq_memory::{Extent, Reply, perform};
+use seq_memory::{Extent, Reply, ReplyData, ReplyRef};
 use std::alloc::{AllocError, Global};
-use tlp_core::Op;
+use tlp_core::OpRef;
+use trace_store::{RecordStore, Records};
 
 /// A request, by its requester and its number.
 #[derive(Clone, Copy, Debug, PartialEq, Eq)]
@@ -26,53 +28,41 @@ struct Name {
 }
 
 /// A request that is submitted.
-#[derive(Clone, Copy)]
+#[derive(Drop)]
 struct Submitted<'a> {
     name: Name,
-    op: &'a Op,
-}
-
-/// The request that the record submits.
-fn submitted_by<'a>(record: &'a Record) -> Option<Submitted<'a>> {
-    match record {
-        Record::Sub {
-            requester,
-            number,
-            op,
-            ..
-        } => Some(Submitted {
-            name: Name {
-                requester: *requester,
-                number: *number,
-            },
-            op,
-        }),
-        Record::Ans { .. } => None,
-    }
+    op: OpRef<'a>,
 }
 
 /// The request that the record at the place answers.
-fn answered_at(records: &[Record], place: usize) -> Option<Name> {
-    match records.get(place) {
+fn answered_at(records: &Records<'_>, place: usize) -> Option<Name> {
+    match records.header(place) {
         Some(
-            Record::Ans {
+            RecordHeader::Ans {
                 requester,
                 number,
                 ..
             },
-        ) => Some(Name {
-            requester: *requester,
-            number: *number,
-        }),
+        ) => Some(Name { requester, number }),
         _ => None,
     }
 }
 
 /// The request that the record at the place submits.
-fn submitted_at<'a>(records: &'a [Record], place: usize) -> Option<Submitted<'a>> {
+fn submitted_at<'a>(records: &Records<'a>, place: usize) -> Option<Submitted<'a>> {
     match records.get(place) {
-        Some(record) => submitted_by(record),
-        None => None,
+        Some(
+            RecordRef::Sub {
+                requester,
+                number,
+                op,
+                ..
+            },
+        ) => Some(Submitted {
+            name: Name { requester, number },
+            op,
+        }),
+        _ => None,
     }
 }
 
@@ -82,6 +72,8 @@ struct Contents {
     extent: Extent,
     bytes: Vec<u8>,
     done: Vec<bool>,
+    /// The data of the last reply.
+    room: ReplyData,
 }
 
 impl Contents {
@@ -91,27 +83,27 @@ impl Contents {
             extent,
             bytes: vec![in alloc; 0u8; extent.size()]?,
             done: vec![in alloc; false; count]?,
+            room: ReplyData::new(),
         })
     }
 
     /// Does the operation that the record at the place submits.
-    fn perform(&mut self, op: &Op, place: usize) -> Reply {
+    fn perform(&mut self, op: &OpRef<'_>, place: usize) -> ReplyRef<'_> {
         if let Some(done) = self.done.get_mut(place) {
             *done = true;
         }
-        let extent = self.extent;
-        perform(extent.base(), extent.block(), self.bytes.as_mut_slice(), op)
+        perform(self.extent, &mut self.bytes, op, &mut self.room)
     }
 
     /// Does the steps up to the one that does the request, and returns its reply.
-    fn replay(&mut self, records: &[Record], steps: &[Step], asked: Name) -> Option<Reply> {
+    fn replay(&mut self, records: &Records<'_>, steps: &[Step], asked: Name) -> Option<Reply> {
         for step in steps {
             if let Step::Act(place) = step
                 && let Some(request) = submitted_at(records, *place)
             {
-                let reply = self.perform(request.op, *place);
+                let reply = self.perform(&request.op, *place);
                 if request.name == asked {
-                    return Some(reply);
+                    return Some(reply.to_owned());
                 }
             }
         }
@@ -119,17 +111,17 @@ impl Contents {
     }
 
     /// Does the posted writes of the requester that weren't done, up to the request that is asked for, and that.
-    fn answer(&mut self, records: &[Record], asked: Name) -> Option<Reply> {
+    fn answer(&mut self, records: &Records<'_>, asked: Name) -> Option<Reply> {
         for place in 0..records.len() {
             let Some(request) = submitted_at(records, place) else {
                 continue;
             };
             if request.name == asked {
-                return Some(self.perform(request.op, place));
+                return Some(self.perform(&request.op, place).to_owned());
             }
             let is_own = request.name.requester == asked.requester;
             if is_own && request.op.is_posted() && self.done.get(place) == Some(&false) {
-                let _ = self.perform(request.op, place);
+                let _ = self.perform(&request.op, place);
             }
         }
         None
@@ -140,95 +132,104 @@ impl Contents {
 /// behind them.
 fn guessed(
     alloc: Global,
-    trace: &Trace,
+    seen: &RecordStore,
     place: usize,
     steps: &[Step],
 ) -> Result<Option<Reply>, AllocError> {
-    let Some(asked) = answered_at(&trace.records, place) else {
+    let records = seen.records();
+    let Some(asked) = answered_at(&records, place) else {
         return Ok(None);
     };
-    let mut contents = Contents::new(alloc, trace.extent, place)?;
-    if let Some(reply) = contents.replay(&trace.records, steps, asked) {
+    let mut contents = Contents::new(alloc, seen.extent(), place)?;
+    if let Some(reply) = contents.replay(&records, steps, asked) {
         return Ok(Some(reply));
     }
-    Ok(contents.answer(&trace.records, asked))
+    Ok(contents.answer(&records, asked))
 }
 
-/// A history explains the trace; false where it isn't found.
-fn has_history(alloc: Global, trace: &Trace, bounds: Bounds) -> Result<bool, AllocError>
-    ensures { IfOk result (λ yes. yes ≡ true → IsExplainable trace.now) }
+/// A history explains the log; false where it isn't found.
+fn has_history(alloc: Global, seen: &RecordStore, bounds: Bounds) -> Result<bool, AllocError>
+    ensures { IfOk result (λ yes. yes ≡ true → IsExplainable seen.now) }
 {
-    let form = form_of(alloc, &trace.records)?;
+    let form = form_of(alloc, &seen.records())?;
     if form.flaw.is_some() {
         return Ok(false);
     }
-    let records = Records {
-        trace,
+    let records = Beginning {
+        seen,
         partners: &form.partners,
-        count: trace.records.as_slice().len(),
+        count: seen.len(),
     };
     is_explainable(alloc, records, bounds)
 }
 
-/// The record with that reply, if it is an answer.
-fn with_reply(item: &Record, told: &Reply) -> Record
-    ensures { result ≡ expected.with_reply item.now told.now }
+/// Adds the record with that reply, if it is an answer; else the record.
+fn push_with_reply(
+    log: &mut RecordStore,
+    item: &RecordRef<'_>,
+    told: &ReplyRef<'_>,
+) -> Result<(), AllocError>
+    ensures { OnOk result (log.new ≡ record log.old { records = log.old.records ++ with_reply item.now told.now ∷ [] }) }
 {
     match item {
-        Record::Sub { .. } => item.lend().to_owned(),
-        Record::Ans {
+        RecordRef::Sub { .. } => log.push(item),
+        RecordRef::Ans {
             requester,
             number,
             n,
             ..
-        } => Record::Ans {
-            requester: *requester,
-            number: *number,
-            reply: told.lend().to_owned(),
-            n: *n,
-        },
+        } => log.answered(*requester, *number, *n, told),
     }
 }
 
-fn copies_of(alloc: Global, records: &[Record]) -> Result<Vec<Record>, AllocError>
-    ensures { IfOk result (λ v. v.items ≡ records.now) }
+/// The first records, over that memory.
+fn copies_of(
+    alloc: Global,
+    extent: Extent,
+    records: &Records<'_>,
+) -> Result<RecordStore, AllocError>
+    ensures { IfOk result (λ v. v ≡ record { base = extent.base; size = extent.size; block = extent.block; records = records.now }) }
 {
-    let mut copies = Vec::with_capacity(alloc, records.len())?;
+    let mut copies = RecordStore::new(alloc, extent);
     for place in 0..records.len() {
-        copies.push(records[place].lend().to_owned())?;
+        if let Some(item) = records.get(place) {
+            copies.push(&item)?;
+        }
     }
     Ok(copies)
 }
 
 /// The records up to the place, and the one there with that reply.
-fn replied(alloc: Global, trace: &Trace, place: usize, reply: &Reply) -> Result<Trace, AllocError>
-    requires { place < length trace.now.records }
-    ensures { IfOk result (λ t. (item : Record) → expected.IsAt trace.now place item → t ≡ expected.replied trace.now place item reply.now) }
+fn replied(
+    alloc: Global,
+    seen: &RecordStore,
+    place: usize,
+    reply: &ReplyRef<'_>,
+) -> Result<RecordStore, AllocError>
+    ensures { IfOk result (λ t. (item : Record) → expected.IsAt seen.now place item → t ≡ expected.replied seen.now place item reply.now) }
 {
-    let mut records = copies_of(alloc, &trace.records[..place])?;
-    records.push(with_reply(&trace.records[place], reply))?;
-    Ok(Trace {
-        extent: trace.extent,
-        records,
-    })
+    let mut log = copies_of(alloc, seen.extent(), &seen.records().first(place))?;
+    if let Some(item) = seen.get(place) {
+        push_with_reply(&mut log, &item, reply)?;
+    }
+    Ok(log)
 }
 
 /// A reply with which, in place of the one at the place, a history explains the records up to there, if one is found. These
 /// steps lead through the records before.
 pub(crate) fn expected_at(
     alloc: Global,
-    trace: &Trace,
+    seen: &RecordStore,
     place: usize,
     steps: &[Step],
     bounds: Bounds,
 ) -> Result<Option<Reply>, AllocError>
-    requires { place < length trace.now.records }
-    ensures { IfOk result (λ o. IfSome o (IsExpected trace.now place)) }
+    ensures { IfOk result (λ o. IfSome o (IsExpected seen.now place)) }
 {
-    let Some(reply) = guessed(alloc, trace, place, steps)? else {
+    let Some(reply) = guessed(alloc, seen, place, steps)? else {
         return Ok(None);
     };
-    let other = replied(alloc, trace, place, &reply)?;
+    let other = replied(alloc, seen, place, &reply.lend())?;
     if has_history(alloc, &other, bounds)? {
         return Ok(Some(reply));
     }

@@ -1,15 +1,15 @@
 //! Whether a run leads through the first records.
 ghost use Rattle.std.specs.Prelude.{◌≡◌, ◌<◌, ◌≤◌, true, IfOk, IfSome, length, take};
+ghost use Rattle.history_words.specs.TraceView.{observed};
 ghost use Rattle.log_events.specs.Joined.{ArePartners};
 ghost use Rattle.log_runs.specs.Runs.{Dead, start};
 ghost use Rattle.log_runs.specs.Explainable.{IsExplainable, prefix};
-ghost use Rattle.log_runs.specs.Tasks.{IsWellFormed};
+ghost use Rattle.log_runs.specs.Tasks.{AreAllEvents, AreEvents, IsWellFormed};
 ghost use Rattle.search_history.specs.Runs.{IsOutcomeOf};
 ghost use Rattle.search_run.specs.Outcomes.{IsRight};
 ghost use Rattle.search_run.specs.Watched.{Saw};
 
 use crate::alone::{Field, explored_on, parts_of};
-use history_words::Trace;
 use log_cells::Cells;
 use log_events::{Partners, form_of, log_of};
 use log_runs::laws::{
@@ -20,27 +20,39 @@ use search_counts::first_overdrawn;
 use search_rules::first_unanswerable;
 use search_run::{Bound, Bounds, Outcome, Unwatched, Watch, Way, explore_watched};
 use std::alloc::{AllocError, Global};
+use trace_store::RecordStore;
 
-/// The first `count` records of a trace.
+/// The first `count` records of a log.
 #[derive(Clone, Copy)]
-pub(crate) struct Records<'a> {
-    pub(crate) trace: &'a Trace,
+pub(crate) struct Beginning<'a> {
+    pub(crate) seen: &'a RecordStore,
     /// Which of them may belong together.
     pub(crate) partners: &'a Partners,
     pub(crate) count: usize,
 }
 
-impl<'a> Records<'a> {
-    /// The first so many of the trace.
-    pub(crate) fn first(self, count: usize) -> Records<'a>
-        ensures trace { result.trace.now ≡ self.entry.trace.now }
+impl<'a> Beginning<'a> {
+    /// The first so many of the log.
+    pub(crate) fn first(self, count: usize) -> Beginning<'a>
+        ensures seen { result.seen.now ≡ self.entry.seen.now }
         ensures count { result.count ≡ count }
     {
-        Records {
-            trace: self.trace,
+        Beginning {
+            seen: self.seen,
             partners: self.partners,
             count,
         }
+    }
+
+    /// The records as a search sees them.
+    fn log(self, alloc: Global) -> Result<Log<'a>, AllocError>
+        ensures events { IfOk result (λ l. AreEvents (take self.entry.count self.entry.seen.now.records) l.events) }
+        ensures all { IfOk result (λ l. ArePartners self.entry.partners.now (take self.entry.count self.entry.seen.now.records) →
+            AreAllEvents (take self.entry.count self.entry.seen.now.records) l.events) }
+        ensures extent { IfOk result (λ l. l.extent ≡ observed self.entry.seen.now) }
+    {
+        let records = self.seen.records().first(self.count);
+        log_of(alloc, self.seen.extent(), records, self.partners)
     }
 }
 
@@ -159,15 +171,15 @@ fn explored<W: Watch>(
 /// Looks for a run through the records, within the bounds.
 pub(crate) fn judged<W: Watch>(
     alloc: Global,
-    records: Records<'_>,
+    records: Beginning<'_>,
     bounds: Bounds,
     watch: &mut W,
 ) -> Result<Judgment, AllocError>
-    requires { records.count ≤ length records.trace.now.records }
-    ensures run { IfOk result (λ r. ArePartners records.entry.partners.now (take records.entry.count records.entry.trace.now.records) →
-        IsWellFormed (take records.entry.count records.entry.trace.now.records) →
-        IsOutcomeOf (prefix records.entry.count records.entry.trace.now) r.outcome) }
-    ensures none { IfOk result (λ r. r.outcome ≡ Outcome.Dead → IsExplainable (prefix records.entry.count records.entry.trace.now) → ⊥) }
+    requires { records.count ≤ length records.seen.now.records }
+    ensures run { IfOk result (λ r. ArePartners records.entry.partners.now (take records.entry.count records.entry.seen.now.records) →
+        IsWellFormed (take records.entry.count records.entry.seen.now.records) →
+        IsOutcomeOf (prefix records.entry.count records.entry.seen.now) r.outcome) }
+    ensures none { IfOk result (λ r. r.outcome ≡ Outcome.Dead → IsExplainable (prefix records.entry.count records.entry.seen.now) → ⊥) }
     ensures states { IfOk result (λ r. r.states ≤ bounds.choices) }
     ensures limit { IfOk result (λ r. r.outcome ≡ Outcome.Limit Bound.Choices → r.states ≡ bounds.choices) }
     ensures work { IfOk result (λ r. r.outcome ≡ Outcome.Limit Bound.Work → bounds.work < 18446744073709551615) }
@@ -175,7 +187,7 @@ pub(crate) fn judged<W: Watch>(
     ensures saw { IfOk result (λ r. Saw W.sees r.states watch.old watch.new) }
 {
     explainable_has_a_run();
-    let log = log_of(alloc, records.trace, records.partners, records.count)?;
+    let log = records.log(alloc)?;
     let found = explored(alloc, &log, bounds, watch)?;
     Ok(found)
 }
@@ -202,15 +214,15 @@ fn explored_by(
 /// Looks for a run through the records, on the bytes of a range alone, if there is one.
 pub(crate) fn judged_on(
     alloc: Global,
-    records: Records<'_>,
+    records: Beginning<'_>,
     range: Option<(u64, u64)>,
     bounds: Bounds,
 ) -> Result<Outcome, AllocError>
-    requires { records.count ≤ length records.trace.now.records }
-    ensures { IfOk result (λ o. o ≡ Outcome.Dead → IsExplainable (prefix records.entry.count records.entry.trace.now) → ⊥) }
+    requires { records.count ≤ length records.seen.now.records }
+    ensures { IfOk result (λ o. o ≡ Outcome.Dead → IsExplainable (prefix records.entry.count records.entry.seen.now) → ⊥) }
 {
     explainable_has_a_run();
-    let log = log_of(alloc, records.trace, records.partners, records.count)?;
+    let log = records.log(alloc)?;
     let found = explored_by(alloc, &log, range, bounds)?;
     Ok(found)
 }
@@ -219,13 +231,13 @@ pub(crate) fn judged_on(
 /// is right.
 pub(crate) fn run_of(
     alloc: Global,
-    records: Records<'_>,
+    records: Beginning<'_>,
     bounds: Bounds,
 ) -> Result<Option<Vec<Step>>, AllocError>
-    requires within { records.count ≤ length records.trace.now.records }
-    requires joined { ArePartners records.partners.now (take records.count records.trace.now.records) }
-    requires formed { IsWellFormed (take records.count records.trace.now.records) }
-    ensures { IfOk result (λ o. IfSome o (λ steps. IsExplainable (prefix records.entry.count records.entry.trace.now))) }
+    requires within { records.count ≤ length records.seen.now.records }
+    requires joined { ArePartners records.partners.now (take records.count records.seen.now.records) }
+    requires formed { IsWellFormed (take records.count records.seen.now.records) }
+    ensures { IfOk result (λ o. IfSome o (λ steps. IsExplainable (prefix records.entry.count records.entry.seen.now))) }
 {
     a_run_is_a_history();
     let judgment = judged(alloc, records, bounds, &mut Unwatched)?;
@@ -239,13 +251,13 @@ pub(crate) fn run_of(
 /// right.
 pub(crate) fn is_explainable(
     alloc: Global,
-    records: Records<'_>,
+    records: Beginning<'_>,
     bounds: Bounds,
 ) -> Result<bool, AllocError>
-    requires within { records.count ≤ length records.trace.now.records }
-    requires joined { ArePartners records.partners.now (take records.count records.trace.now.records) }
-    requires formed { IsWellFormed (take records.count records.trace.now.records) }
-    ensures { IfOk result (λ yes. yes ≡ true → IsExplainable (prefix records.entry.count records.entry.trace.now)) }
+    requires within { records.count ≤ length records.seen.now.records }
+    requires joined { ArePartners records.partners.now (take records.count records.seen.now.records) }
+    requires formed { IsWellFormed (take records.count records.seen.now.records) }
+    ensures { IfOk result (λ yes. yes ≡ true → IsExplainable (prefix records.entry.count records.entry.seen.now)) }
 {
     a_run_is_a_history();
     let judgment = judged(alloc, records, bounds, &mut Unwatched)?;
@@ -256,22 +268,22 @@ pub(crate) fn is_explainable(
 /// if there is one.
 pub(crate) fn is_unexplained(
     alloc: Global,
-    trace: &Trace,
+    seen: &RecordStore,
     range: Option<(u64, u64)>,
     bounds: Bounds,
 ) -> Result<bool, AllocError>
-    ensures { IfOk result (λ yes. yes ≡ true → IsExplainable trace.now → ⊥) }
+    ensures { IfOk result (λ yes. yes ≡ true → IsExplainable seen.now → ⊥) }
 {
     explainable_is_well_formed();
     prefix_is_explainable();
-    let form = form_of(alloc, &trace.records)?;
+    let form = form_of(alloc, &seen.records())?;
     if form.flaw.is_some() {
         return Ok(true);
     }
-    let records = Records {
-        trace,
+    let records = Beginning {
+        seen,
         partners: &form.partners,
-        count: trace.records.len(),
+        count: seen.len(),
     };
     let outcome = judged_on(alloc, records, range, bounds)?;
     Ok(matches!(outcome, Outcome::Dead))

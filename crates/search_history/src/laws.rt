@@ -1,5 +1,5 @@
 //! Laws of what a search finds.
-ghost use Rattle.history_words.specs.TraceView.{TraceView};
+ghost use Rattle.history_words.specs.Claim.{Claim};
 ghost use Rattle.search_history.specs.Answers.{IsFound, IsInOrder};
 ghost use Rattle.search_history.specs.declared.searching.Sought.{Sought};
 
@@ -9,7 +9,7 @@ use history_words::laws::answered_first_acts_first as requests_act_in_real_time_
 /// and keeps the order of real time. If the response to one request comes before the invocation of another, the first
 /// stands before the second in the history.
 pub fn answered_first_acts_first()
-    ensures { (t : TraceView) (s : Sought) → IsFound t s → IsInOrder t s }
+    ensures { (x : Claim) (s : Sought) → IsFound x s → IsInOrder x s }
 {
     requests_act_in_real_time_order();
 }

@@ -1,6 +1,6 @@
 //! A history that explains what requesters saw, or a proof that there is none.
 //!
-//! A log is a [`Trace`](history_words::Trace) of which only the order of its records counts, not its
+//! A log is a [`RecordStore`](trace_store::RecordStore) of which only the order of its records counts, not its
 //! n's. An answer `Done` says only that its request acted. [`search`] looks for n's, replies in place of `Done` and a
 //! history that make it a trace that the history explains: a run through the log is one. Where it says that there is none, no history explains
 //! the log; it then looks for a prefix that has none either, and is as short as it can prove.

@@ -1,5 +1,5 @@
 //! Whether a history explains a log.
-ghost use Rattle.std.specs.Prelude.{ℕ, ◌≡◌, ◌<◌, ◌≤◌, ◌+◌, IfOk, length, take};
+ghost use Rattle.std.specs.Prelude.{ℕ, ◌≡◌, ◌<◌, ◌≤◌, ◌+◌, [], IfOk, length, take};
 ghost use Rattle.log_events.specs.Formed.{MisformedAt};
 ghost use Rattle.log_events.specs.Joined.{ArePartners};
 ghost use Rattle.log_runs.specs.Explainable.{SeenAlike, prefix};
@@ -8,23 +8,23 @@ ghost use Rattle.search_history.specs.Prefixes.{IsUnexplained};
 ghost use Rattle.search_history.specs.Answers.{IsFound, IsNone};
 ghost use Rattle.search_history.specs.Runs.{IsAnswered, IsVerdictOf};
 ghost use Rattle.search_run.specs.Watched.{Saw};
+ghost use Rattle.trace_store.specs.Changes.{seen_by};
 
-use crate::judging::{Judgment, Records, judged};
-use crate::moments::history_by;
+use crate::judging::{Beginning, Judgment, judged};
+use crate::moments::add_history;
 use crate::shortest::shortened;
-use history_words::Trace;
 use log_events::form_of;
 use log_runs::Step;
 use log_runs::laws::{explainable_is_well_formed, prefix_is_explainable};
 use search_run::{Bound, Bounds, Outcome, Unwatched, Watch};
-use seq_memory::Entry;
 use std::alloc::{AllocError, Global};
+use trace_store::{RecordStore, TraceStore};
 
 /// What a search says of a log.
-#[derive(Debug, Drop)]
+#[derive(Clone, Copy, Debug, PartialEq, Eq)]
 pub enum Sought {
-    /// This history explains the log, with the n's that the trace has now.
-    Found(Vec<Entry>),
+    /// The store has a history now that explains the log, with the n's that it has now.
+    Found,
     /// No history explains the log, nor its first `prefix` records.
     None { prefix: usize },
     /// It wasn't found out within this bound.
@@ -32,11 +32,11 @@ pub enum Sought {
 }
 
 /// How many records there are up to that place, and with it.
-fn up_to(trace: &Trace, place: usize) -> usize
-    requires { place < length trace.now.records }
+fn up_to(seen: &RecordStore, place: usize) -> usize
+    requires { place < length seen.now.records }
     ensures { result ≡ place + 1 }
 {
-    let count = trace.records.len();
+    let count = seen.len();
     if place < count {
         return place + 1;
     }
@@ -57,14 +57,14 @@ enum Verdict {
 /// Looks for a run through the records, whose form is right.
 fn well_formed<W: Watch>(
     alloc: Global,
-    records: Records<'_>,
+    records: Beginning<'_>,
     bounds: Bounds,
     watch: &mut W,
 ) -> Result<(Verdict, u64), AllocError>
-    requires { records.count ≤ length records.trace.now.records }
-    ensures run { IfOk result (λ r. ArePartners records.entry.partners.now (take records.entry.count records.entry.trace.now.records) →
-        IsWellFormed (take records.entry.count records.entry.trace.now.records) → IsVerdictOf (prefix records.entry.count records.entry.trace.now) r.0) }
-    ensures none { IfOk result (λ r. (prefix : ℕ) → r.0 ≡ Verdict.None prefix → IsUnexplained records.entry.trace.now prefix) }
+    requires { records.count ≤ length records.seen.now.records }
+    ensures run { IfOk result (λ r. ArePartners records.entry.partners.now (take records.entry.count records.entry.seen.now.records) →
+        IsWellFormed (take records.entry.count records.entry.seen.now.records) → IsVerdictOf (prefix records.entry.count records.entry.seen.now) r.0) }
+    ensures none { IfOk result (λ r. (prefix : ℕ) → r.0 ≡ Verdict.None prefix → IsUnexplained records.entry.seen.now prefix) }
     ensures limit { IfOk result (λ r. r.0 ≡ Verdict.Limit Bound.Choices → r.1 ≡ bounds.choices) }
     ensures work { IfOk result (λ r. r.0 ≡ Verdict.Limit Bound.Work → bounds.work < 18446744073709551615) }
     ensures less { IfOk result (λ r. r.0 ≡ Verdict.Limit Bound.Work → r.1 < bounds.choices) }
@@ -91,12 +91,12 @@ fn well_formed<W: Watch>(
 /// either.
 fn misformed<W: Watch>(
     alloc: Global,
-    records: Records<'_>,
+    records: Beginning<'_>,
     bounds: Bounds,
     watch: &mut W,
 ) -> Result<(usize, u64), AllocError>
-    requires { MisformedAt records.trace.now.records records.count }
-    ensures none { IfOk result (λ r. IsUnexplained records.entry.trace.now r.0) }
+    requires { MisformedAt records.seen.now.records records.count }
+    ensures none { IfOk result (λ r. IsUnexplained records.entry.seen.now r.0) }
     ensures states { IfOk result (λ r. r.1 ≤ bounds.choices) }
     ensures saw { IfOk result (λ r. Saw W.sees r.1 watch.old watch.new) }
 {
@@ -105,29 +105,29 @@ fn misformed<W: Watch>(
     if let Verdict::None(prefix) = before {
         return Ok((prefix, states));
     }
-    Ok((up_to(records.trace, records.count), states))
+    Ok((up_to(records.seen, records.count), states))
 }
 
 /// Looks for a run through a log. What it needed of memory is free again, but for the steps.
 fn searched<W: Watch>(
     alloc: Global,
-    trace: &Trace,
+    seen: &RecordStore,
     bounds: Bounds,
     watch: &mut W,
 ) -> Result<(Verdict, u64), AllocError>
-    ensures run { IfOk result (λ r. IsVerdictOf trace.now r.0) }
-    ensures none { IfOk result (λ r. (prefix : ℕ) → r.0 ≡ Verdict.None prefix → IsUnexplained trace.now prefix) }
+    ensures run { IfOk result (λ r. IsVerdictOf seen.now r.0) }
+    ensures none { IfOk result (λ r. (prefix : ℕ) → r.0 ≡ Verdict.None prefix → IsUnexplained seen.now prefix) }
     ensures limit { IfOk result (λ r. r.0 ≡ Verdict.Limit Bound.Choices → r.1 ≡ bounds.choices) }
     ensures work { IfOk result (λ r. r.0 ≡ Verdict.Limit Bound.Work → bounds.work < 18446744073709551615) }
     ensures less { IfOk result (λ r. r.0 ≡ Verdict.Limit Bound.Work → r.1 < bounds.choices) }
     ensures states { IfOk result (λ r. r.1 ≤ bounds.choices) }
     ensures saw { IfOk result (λ r. Saw W.sees r.1 watch.old watch.new) }
 {
-    let form = form_of(alloc, &trace.records)?;
-    let records = Records {
-        trace,
+    let form = form_of(alloc, &seen.records())?;
+    let records = Beginning {
+        seen,
         partners: &form.partners,
-        count: trace.records.as_slice().len(),
+        count: seen.len(),
     };
     match form.flaw {
         Some(flaw) => {
@@ -141,42 +141,42 @@ fn searched<W: Watch>(
     }
 }
 
-/// The answer to a verdict. A run is a history, whose n's and replies the trace then has.
-#[tactic(auto, using(crate::proofs::Runs::seen_same))]
-fn answered(alloc: Global, trace: &mut Trace, verdict: Verdict) -> Result<Sought, AllocError>
-    requires { IsVerdictOf trace.old verdict }
-    ensures alike { SeenAlike trace.old trace.new }
-    ensures found { IfOk result (IsFound trace.new) }
+/// The answer to a verdict. A run is a history: the store then has it, its n's and its replies.
+fn answered(alloc: Global, store: &mut TraceStore, verdict: Verdict) -> Result<Sought, AllocError>
+    requires run { IsVerdictOf (seen_by store.old) verdict }
+    requires empty { store.old.memory.entries ≡ [] }
+    ensures alike { SeenAlike (seen_by store.old) (seen_by store.new) }
+    ensures found { IfOk result (IsFound store.new) }
     ensures answered { IfOk result (IsAnswered verdict) }
 {
     match verdict {
         Verdict::Run(steps) => {
-            let history = history_by(alloc, trace, &steps)?;
-            Ok(Sought::Found(history))
+            add_history(alloc, store, &steps)?;
+            Ok(Sought::Found)
         }
         Verdict::None(prefix) => Ok(Sought::None { prefix }),
         Verdict::Limit(bound) => Ok(Sought::Limit(bound)),
     }
 }
 
-/// Looks for a history that explains the log: what the trace's requesters submitted and were
-/// answered, in the order of its records, whatever its n's are; an answer `Done` is met by any reply. Keeps within the
+/// Looks for a history that explains the log of the store, which has none: what requesters submitted and were
+/// answered, in the order of the records, whatever their n's are; an answer `Done` is met by any reply. Keeps within the
 /// bounds: `watch` sees each choice, and the second number is how many it saw. Where it isn't found out, it saw as many as
 /// the bounds allow, or fewer, if the work ended it. The searches for a shorter prefix have bounds of their own and aren't
 /// counted or seen.
 ///
-/// Only n's of the trace change, and where a history is found, replies in place of `Done`. Fails where memory can't be
+/// Where a history is found, the store then has it, its n's, and its replies in place of `Done`. Fails where memory can't be
 /// allocated; nothing is known then.
-#[tactic(auto, using(crate::proofs::Runs::seen_same))]
 pub fn search_watched<W: Watch>(
     alloc: Global,
-    trace: &mut Trace,
+    store: &mut TraceStore,
     bounds: Bounds,
     watch: &mut W,
 ) -> Result<(Sought, u64), AllocError>
-    ensures alike { SeenAlike trace.old trace.new }
-    ensures found { IfOk result (λ r. IsFound trace.new r.0) }
-    ensures none { IfOk result (λ r. IsNone trace.old r.0) }
+    requires { store.old.memory.entries ≡ [] }
+    ensures alike { SeenAlike (seen_by store.old) (seen_by store.new) }
+    ensures found { IfOk result (λ r. IsFound store.new r.0) }
+    ensures none { IfOk result (λ r. IsNone (seen_by store.old) r.0) }
     ensures limit { IfOk result (λ r. r.0 ≡ Sought.Limit Bound.Choices → r.1 ≡ bounds.choices) }
     ensures work { IfOk result (λ r. r.0 ≡ Sought.Limit Bound.Work → bounds.work < 18446744073709551615) }
     ensures less { IfOk result (λ r. r.0 ≡ Sought.Limit Bound.Work → r.1 < bounds.choices) }
@@ -184,16 +184,21 @@ pub fn search_watched<W: Watch>(
     ensures saw { IfOk result (λ r. Saw W.sees r.1 watch.old watch.new) }
 {
     prefix_is_explainable();
-    let (verdict, states) = searched(alloc, trace, bounds, watch)?;
-    let sought = answered(alloc, trace, verdict)?;
+    let (verdict, states) = searched(alloc, store.seen(), bounds, watch)?;
+    let sought = answered(alloc, store, verdict)?;
     Ok((sought, states))
 }
 
 /// [`search_watched`], at no more than `limit` choices, which nobody sees.
-pub fn search(alloc: Global, trace: &mut Trace, limit: u64) -> Result<(Sought, u64), AllocError>
-    ensures alike { SeenAlike trace.old trace.new }
-    ensures found { IfOk result (λ r. IsFound trace.new r.0) }
-    ensures none { IfOk result (λ r. IsNone trace.old r.0) }
+pub fn search(
+    alloc: Global,
+    store: &mut TraceStore,
+    limit: u64,
+) -> Result<(Sought, u64), AllocError>
+    requires { store.old.memory.entries ≡ [] }
+    ensures alike { SeenAlike (seen_by store.old) (seen_by store.new) }
+    ensures found { IfOk result (λ r. IsFound store.new r.0) }
+    ensures none { IfOk result (λ r. IsNone (seen_by store.old) r.0) }
     ensures limit { IfOk result (λ r. r.0 ≡ Sought.Limit Bound.Choices → r.1 ≡ limit) }
     ensures work { IfOk result (λ r. r.0 ≡ Sought.Limit Bound.Work → ⊥) }
     ensures states { IfOk result (λ r. r.1 ≤ limit) }
@@ -202,5 +207,5 @@ pub fn search(alloc: Global, trace: &mut Trace, limit: u64) -> Result<(Sought, u
         choices: limit,
         work: u64::MAX,
     };
-    search_watched(alloc, trace, bounds, &mut Unwatched)
+    search_watched(alloc, store, bounds, &mut Unwatched)
 }

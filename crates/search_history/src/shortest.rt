@@ -5,14 +5,14 @@ ghost use Rattle.search_history.specs.Expected.{IsExpected};
 ghost use Rattle.search_history.specs.Prefixes.{IsUnexplained, IsExplainedBefore};
 
 use crate::expecting::expected_at;
-use crate::judging::{Clue, Records, is_explainable, judged_on, run_of};
-use history_words::{Record, Trace};
+use crate::judging::{Beginning, Clue, is_explainable, judged_on, run_of};
+use history_words::RecordRef;
 use log_events::form_of;
-use log_runs::laws::prefix_is_explainable;
 use search_run::{Bounds, Outcome};
 use seq_memory::Reply;
 use std::alloc::{AllocError, Global};
-use tlp_core::Op;
+use tlp_core::OpRef;
+use trace_store::RecordStore;
 
 /// How many choices the search for a prefix looks at, at most.
 const EACH: u64 = 20_000;
@@ -61,13 +61,13 @@ fn next(low: usize, high: usize, first: usize, turn: u32) -> usize
 /// ends it.
 fn halved(
     alloc: Global,
-    records: Records<'_>,
+    records: Beginning<'_>,
     first: usize,
     range: Option<(u64, u64)>,
     limit: u64,
 ) -> Result<usize, AllocError>
-    requires { IsUnexplained records.trace.now records.count }
-    ensures { IfOk result (IsUnexplained records.entry.trace.now) }
+    requires { IsUnexplained records.seen.now records.count }
+    ensures { IfOk result (IsUnexplained records.entry.seen.now) }
 {
     let mut high = records.count;
     let mut low = 0;
@@ -92,11 +92,10 @@ fn halved(
 const OPEN: usize = 256;
 
 /// Request `b` is an AtomicOp whose answer stands behind the first `count` records.
-fn is_open(records: Records<'_>, count: usize, b: usize) -> bool {
-    let trace = records.trace;
-    match (trace.records.get(b), records.partners.of(b)) {
-        (Some(Record::Sub { op, .. }), Some(answer)) => {
-            !matches!(op, Op::Read { .. }) && answer >= count
+fn is_open(records: Beginning<'_>, count: usize, b: usize) -> bool {
+    match (records.seen.get(b), records.partners.of(b)) {
+        (Some(RecordRef::Sub { op, .. }), Some(answer)) => {
+            !matches!(op, OpRef::Read { .. }) && answer >= count
         }
         _ => false,
     }
@@ -105,12 +104,12 @@ fn is_open(records: Records<'_>, count: usize, b: usize) -> bool {
 /// Looks for a shorter prefix without a history, first by the cells on which there is none.
 pub(crate) fn shortened(
     alloc: Global,
-    records: Records<'_>,
+    records: Beginning<'_>,
     clue: Clue,
     limit: u64,
 ) -> Result<usize, AllocError>
-    requires { IsUnexplained records.trace.now records.count }
-    ensures { IfOk result (IsUnexplained records.entry.trace.now) }
+    requires { IsUnexplained records.seen.now records.count }
+    ensures { IfOk result (IsUnexplained records.entry.seen.now) }
 {
     let first = clue.reach.saturating_add(1).min(records.count);
     if clue.range.is_none() && (0..first).filter(|b| is_open(records, first, *b)).count() > OPEN {
@@ -132,19 +131,19 @@ pub(crate) fn shortened(
 /// A history explains the first `count` records; false where it isn't found. Looks at no more than `limit` choices.
 pub fn is_explained(
     alloc: Global,
-    trace: &Trace,
+    seen: &RecordStore,
     count: usize,
     limit: u64,
 ) -> Result<bool, AllocError>
-    requires { count ≤ length trace.now.records }
-    ensures { IfOk result (λ yes. yes ≡ true → IsExplainable (prefix count trace.now)) }
+    requires { count ≤ length seen.now.records }
+    ensures { IfOk result (λ yes. yes ≡ true → IsExplainable (prefix count seen.now)) }
 {
-    let form = form_of(alloc, &trace.records[..count])?;
+    let form = form_of(alloc, &seen.records().first(count))?;
     if form.flaw.is_some() {
         return Ok(false);
     }
-    let records = Records {
-        trace,
+    let records = Beginning {
+        seen,
         partners: &form.partners,
         count,
     };
@@ -164,31 +163,31 @@ pub struct Before {
 /// but one. And if that is found, too, a reply with which in place of the last one a history explains all.
 pub fn explained_before(
     alloc: Global,
-    trace: &Trace,
+    seen: &RecordStore,
     prefix: usize,
     limit: u64,
 ) -> Result<Option<Before>, AllocError>
-    requires { prefix ≤ length trace.now.records }
-    ensures explained { IfOk result (λ o. IfSome o (λ b. IsExplainedBefore trace.now prefix b.count)) }
+    requires { prefix ≤ length seen.now.records }
+    ensures explained { IfOk result (λ o. IfSome o (λ b. IsExplainedBefore seen.now prefix b.count)) }
     ensures next { IfOk result (λ o. IfSome o (λ b. b.count + 1 ≡ prefix)) }
-    ensures expected { IfOk result (λ o. IfSome o (λ b. IfSome b.expected (IsExpected trace.now b.count))) }
+    ensures expected { IfOk result (λ o. IfSome o (λ b. IfSome b.expected (IsExpected seen.now b.count))) }
 {
     let Some(count) = prefix.checked_sub(1) else {
         return Ok(None);
     };
-    let form = form_of(alloc, &trace.records[..count])?;
+    let form = form_of(alloc, &seen.records().first(count))?;
     if form.flaw.is_some() {
         return Ok(None);
     }
     let bounds = bounds_for(count, limit);
-    let records = Records {
-        trace,
+    let records = Beginning {
+        seen,
         partners: &form.partners,
         count,
     };
     let Some(steps) = run_of(alloc, records, bounds)? else {
         return Ok(None);
     };
-    let expected = expected_at(alloc, trace, count, &steps, bounds)?;
+    let expected = expected_at(alloc, seen, count, &steps, bounds)?;
     Ok(Some(Before { count, expected }))
 }

@@ -10,13 +10,15 @@ ghost use Rattle.search_history.specs.Contradictions.{Contradict, keeping_from};
 ghost use Rattle.search_history.specs.Contradictions as contradictions;
 
 use crate::judging::is_unexplained;
-use history_words::{Record, Trace};
+use history_words::{RecordHeader, RecordRef};
 use log_cells::{Cells, part};
 use log_events::{form_of, log_of};
-use log_runs::{Event, Log};
+use log_runs::{Event, Log, PartEvent};
 use search_rules::first_unanswerable;
 use search_run::{Bounds, Outcome, Way, explore};
+use seq_memory::Extent;
 use std::alloc::{AllocError, Global};
+use trace_store::{RecordStore, Records};
 
 /// How many choices one search looks at, at most.
 const EACH: u64 = 2_000;
@@ -86,51 +88,36 @@ struct Thinning<'a> {
     left: Bounds,
 }
 
-/// By place, whether it is that of one of these answers or of the request that one answers.
-fn marks(alloc: Global, log: &Log<'_>, kept: &[usize]) -> Result<Vec<bool>, AllocError> {
-    let mut marks = vec![in alloc; false; log.len()]?;
-    for answer in kept {
-        if let Some(Event::Due { request }) = log.event(*answer)
-            && *answer < marks.len()
-            && request < marks.len()
-        {
-            marks[*answer] = true;
-            marks[request] = true;
-        }
-    }
-    Ok(marks)
-}
-
-/// The event, without its reply or as an answer to nothing, if it isn't kept.
-fn kept_event(event: Event<'_>, is_kept: bool) -> Event<'_> {
-    match event {
-        _ if is_kept => event,
-        Event::Sub { requester, op, .. } => Event::Sub {
-            requester,
-            op,
-            reply: None,
-        },
-        _ => Event::Free,
-    }
-}
-
-/// The log with these answers alone.
-fn log_keeping<'a>(alloc: Global, log: &Log<'a>, kept: &[usize]) -> Result<Log<'a>, AllocError> {
-    let marks = marks(alloc, log, kept)?;
+/// The events of a log with these answers alone.
+fn events_keeping(
+    alloc: Global,
+    log: &Log<'_>,
+    kept: &[usize],
+) -> Result<Vec<PartEvent>, AllocError> {
     let mut events = Vec::with_capacity(alloc, log.len())?;
     for at in 0..log.len() {
-        if let Some(event) = log.event(at) {
-            let is_kept = marks.get(at) == Some(&true);
-            events.push(kept_event(event, is_kept))?;
+        events.push(match log.event(at) {
+            Some(Event::Sub { .. }) => PartEvent::Unanswered(at),
+            _ => PartEvent::Free,
+        })?;
+    }
+    for answer in kept {
+        if let Some(Event::Due { request }) = log.event(*answer)
+            && *answer < events.len()
+            && request < events.len()
+        {
+            events[*answer] = PartEvent::Whole(*answer);
+            events[request] = PartEvent::Whole(request);
         }
     }
-    Ok(Log::new(log.extent(), events))
+    Ok(events)
 }
 
 impl Thinning<'_> {
     /// No run leads through the log with these answers alone, as far as it is found out.
     fn is_dead(&mut self, alloc: Global, kept: &[usize]) -> Result<bool, AllocError> {
-        let few = log_keeping(alloc, self.log, kept)?;
+        let events = events_keeping(alloc, self.log, kept)?;
+        let few = self.log.part(alloc, self.log.extent(), &events)?;
         let bounds = Bounds {
             choices: self.left.choices.min(EACH),
             work: self.left.work,
@@ -244,24 +231,30 @@ fn named(alloc: Global, places: &[usize], names: &[usize]) -> Result<Vec<usize>,
     Ok(named)
 }
 
-/// The request that the record answers.
-fn answered_by(seen: &Record) -> Option<(u8, u32)> {
-    match seen {
-        Record::Ans {
-            requester,
-            number,
-            ..
-        } => Some((*requester, *number)),
-        Record::Sub { .. } => None,
+/// The request that the record at the place answers.
+fn answered_at(records: &Records<'_>, place: usize) -> Option<(u8, u32)> {
+    match records.header(place) {
+        Some(
+            RecordHeader::Ans {
+                requester,
+                number,
+                ..
+            },
+        ) => Some((requester, number)),
+        _ => None,
     }
 }
 
 /// The answers to the same request as the answer there.
-fn same_answers(alloc: Global, records: &[Record], place: usize) -> Result<Vec<usize>, AllocError> {
+fn same_answers(
+    alloc: Global,
+    records: &Records<'_>,
+    place: usize,
+) -> Result<Vec<usize>, AllocError> {
     let mut places = Vec::new(alloc);
-    let request = records.get(place).and_then(answered_by);
+    let request = answered_at(records, place);
     for at in 0..records.len() {
-        if request.is_some() && answered_by(&records[at]) == request {
+        if request.is_some() && answered_at(records, at) == request {
             places.push(at)?;
         }
     }
@@ -269,19 +262,22 @@ fn same_answers(alloc: Global, records: &[Record], place: usize) -> Result<Vec<u
 }
 
 /// Places of answers, as few of them as are found that no history explains.
-fn found(alloc: Global, trace: &Trace, prefix: usize, bounds: Bounds) -> Result<Few, AllocError>
-    requires { prefix ≤ length trace.now.records }
-{
-    let records = &trace.records[..prefix];
-    let form = form_of(alloc, records)?;
+fn found(
+    alloc: Global,
+    seen: &RecordStore,
+    prefix: usize,
+    bounds: Bounds,
+) -> Result<Few, AllocError> {
+    let records = seen.records().first(prefix);
+    let form = form_of(alloc, &records)?;
     if let Some(flaw) = form.flaw {
         return Ok(Few {
-            kept: same_answers(alloc, records, flaw)?,
+            kept: same_answers(alloc, &records, flaw)?,
             range: None,
             left: bounds,
         });
     }
-    let log = log_of(alloc, trace, &form.partners, prefix)?;
+    let log = log_of(alloc, seen.extent(), records, &form.partners)?;
     few_of(alloc, &log, bounds)
 }
 
@@ -294,64 +290,71 @@ fn bounds_for(prefix: usize, choices: u64) -> Bounds {
     }
 }
 
-/// Adds a copy of the record at the place, if it is no answer or its place is one of these.
+/// Adds the record at the place, if it is no answer or its place is one of these.
 fn keep(
-    copy: &mut Vec<Record>,
-    item: &Record,
+    log: &mut RecordStore,
+    item: &RecordRef<'_>,
     place: usize,
     kept: &[usize],
 ) -> Result<(), AllocError>
-    ensures { OnOk result (copy.new.items ≡ copy.old.items ++ keeping_from place kept.now (item.now ∷ [])) }
+    ensures { OnOk result (log.new ≡ record log.old { records = log.old.records ++ keeping_from place kept.now (item.now ∷ []) }) }
 {
     match item {
-        Record::Sub { .. } => copy.push(item.lend().to_owned())?,
-        Record::Ans { .. } => if kept.contains(&place) {
-            copy.push(item.lend().to_owned())?;
-        },
+        RecordRef::Sub { .. } => log.push(item),
+        RecordRef::Ans { .. } => {
+            if kept.contains(&place) {
+                log.push(item)?;
+            }
+            Ok(())
+        }
     }
-    Ok(())
 }
 
+/// The records over that memory, but of the answers those at these places alone.
 fn keeping_records(
     alloc: Global,
-    records: &[Record],
+    extent: Extent,
+    records: &Records<'_>,
     kept: &[usize],
-) -> Result<Vec<Record>, AllocError>
-    ensures { IfOk result (λ v. v.items ≡ keeping_from 0 kept.now records.now) }
+) -> Result<RecordStore, AllocError>
+    ensures { IfOk result (λ v. v ≡ record { base = extent.base; size = extent.size; block = extent.block; records = keeping_from 0 kept.now records.now }) }
 {
-    let mut copy = Vec::new(alloc);
+    let mut log = RecordStore::new(alloc, extent);
     for place in 0..records.len() {
-        keep(&mut copy, &records[place], place, kept)?;
+        if let Some(item) = records.get(place) {
+            keep(&mut log, &item, place, kept)?;
+        }
     }
-    Ok(copy)
+    Ok(log)
 }
 
 /// The first `count` records, but of the answers those at these places alone.
-fn keeping(alloc: Global, trace: &Trace, count: usize, kept: &[usize]) -> Result<Trace, AllocError>
-    requires { count ≤ length trace.now.records }
-    ensures { IfOk result (λ t. t ≡ contradictions.keeping count kept.now trace.now) }
+fn keeping(
+    alloc: Global,
+    seen: &RecordStore,
+    count: usize,
+    kept: &[usize],
+) -> Result<RecordStore, AllocError>
+    ensures { IfOk result (λ t. t ≡ contradictions.keeping count kept.now seen.now) }
 {
-    Ok(Trace {
-        extent: trace.extent,
-        records: keeping_records(alloc, &trace.records[..count], kept)?,
-    })
+    keeping_records(alloc, seen.extent(), &seen.records().first(count), kept)
 }
 
 /// Whether no history explains these answers of the first `prefix` records together, as far as it is found out. It looks at
 /// no more than `limit` choices, and does work in proportion to the records.
 pub fn contradict(
     alloc: Global,
-    trace: &Trace,
+    seen: &RecordStore,
     prefix: usize,
     answers: &[usize],
     limit: u64,
 ) -> Result<bool, AllocError>
-    ensures { IfOk result (λ yes. yes ≡ true → IsExplainable (contradictions.keeping prefix answers.now trace.now) → ⊥) }
+    ensures { IfOk result (λ yes. yes ≡ true → IsExplainable (contradictions.keeping prefix answers.now seen.now) → ⊥) }
 {
-    if prefix > trace.records.len() {
+    if prefix > seen.len() {
         return Ok(false);
     }
-    let few = keeping(alloc, trace, prefix, answers)?;
+    let few = keeping(alloc, seen, prefix, answers)?;
     is_unexplained(alloc, &few, None, bounds_for(prefix, limit.min(ALL)))
 }
 
@@ -360,23 +363,23 @@ pub fn contradict(
 /// proportion to the records.
 pub fn contradiction(
     alloc: Global,
-    trace: &Trace,
+    seen: &RecordStore,
     prefix: usize,
     limit: u64,
 ) -> Result<Vec<usize>, AllocError>
-    ensures none { IfOk result (λ v. Contradict trace.now prefix v.items) }
+    ensures none { IfOk result (λ v. Contradict seen.now prefix v.items) }
     ensures few { IfOk result (λ v. length v.items ≤ 16) }
 {
-    if prefix > trace.records.len() {
+    if prefix > seen.len() {
         return Ok(Vec::new(alloc));
     }
     let all = limit.min(ALL);
     let half = all / 2;
-    let Few { kept, range, left } = found(alloc, trace, prefix, bounds_for(prefix, half))?;
+    let Few { kept, range, left } = found(alloc, seen, prefix, bounds_for(prefix, half))?;
     if kept.len() > MAX_ANSWERS {
         return Ok(Vec::new(alloc));
     }
-    let few = keeping(alloc, trace, prefix, &kept)?;
+    let few = keeping(alloc, seen, prefix, &kept)?;
     let looked = half.saturating_sub(left.choices);
     let rest = bounds_for(prefix, all.saturating_sub(looked));
     if is_unexplained(alloc, &few, range, rest)? {

@@ -9,15 +9,15 @@ use std::alloc::{AllocError, Global};
 
 /// Sees a search of a part of a log.
 #[derive(Drop)]
-pub(crate) struct Within<'w, W> {
+pub(crate) struct Within<'w, 'n, W> {
     pub(crate) watch: &'w mut W,
     /// The places in the log of the part's events.
-    pub(crate) names: &'w [usize],
+    pub(crate) names: &'n [usize],
     /// The addresses where the part's cells begin and end, if it is searched as one.
     pub(crate) range: Option<(u64, u64)>,
 }
 
-impl<'w, W: Watch> Watch for Within<'w, W> {
+impl<'w, 'n, W: Watch> Watch for Within<'w, 'n, W> {
     ghost use Rattle.std.specs.Prelude.{◌≡◌};
 
     ghost sees = { λ x y. (y.watch.ghost_name ≡ x.watch.ghost_name) × W.sees x.watch.now y.watch.now };
@@ -44,7 +44,7 @@ pub(crate) fn explore_within<W: Watch>(
     alloc: Global,
     part: &Log<'_>,
     bounds: Bounds,
-    within: &mut Within<'_, W>,
+    within: &mut Within<'_, '_, W>,
 ) -> Result<Exploration, AllocError>
     ensures right { IfOk result (λ r. IsRight part.now r.outcome) }
     ensures states { IfOk result (λ r. r.states ≤ bounds.choices) }

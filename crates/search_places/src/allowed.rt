@@ -14,8 +14,8 @@ use crate::bytes::reply_to;
 use crate::place::Place;
 use log_runs::{Event, Log};
 use search_effects::waits;
-use seq_memory::Reply;
-use tlp_core::Op;
+use seq_memory::{ReplyData, ReplyRef};
+use tlp_core::OpRef;
 
 /// The event is a posted write of the requester.
 fn is_write(log: &Log, requester: u8, c: usize) -> bool
@@ -53,17 +53,18 @@ fn is_free(posts: &[usize], log: &Log, requester: u8, b: usize) -> bool
 }
 
 /// The memory answers the operation so. The first byte that it needs and doesn't find decides.
-fn answers(log: &Log, bytes: &[u8], op: &Op, reply: &Reply) -> bool
+fn answers(log: &Log, bytes: &[u8], op: &OpRef<'_>, reply: &ReplyRef<'_>) -> bool
     ensures { result ≡ same_reply reply.now (reply_of log.now.extent bytes.now op.now) }
 {
     if waits(log.extent().base(), bytes, op, Some(reply), op) {
         return false;
     }
-    *reply == reply_to(log, bytes, op)
+    let mut room = ReplyData::new();
+    *reply == reply_to(log, bytes, op, &mut room)
 }
 
 /// The memory answers the operation so, or the request wasn't answered.
-fn agrees(log: &Log, bytes: &[u8], op: &Op, told: Option<&Reply>) -> bool
+fn agrees(log: &Log, bytes: &[u8], op: &OpRef<'_>, told: Option<&ReplyRef<'_>>) -> bool
     ensures { result ≡ is_told (told_of told.entry) (reply_of log.now.extent bytes.now op.now) }
 {
     match told {
@@ -87,7 +88,7 @@ impl Place {
             ) => {
                 b < self.event
                     && !self.has_acted(b)
-                    && agrees(log, self.bytes.as_slice(), op, reply)
+                    && agrees(log, self.bytes.as_slice(), &op, reply.as_ref())
                     && is_free(self.posts.as_slice(), log, requester, b)
             }
             _ => false,
@@ -131,7 +132,12 @@ impl Place {
         ensures { result ≡ ready.suits log.now self.now.state.bytes (slice_get log.now.events q) }
     {
         match log.event(q) {
-            Some(Event::Sub { op, reply, .. }) => agrees(log, self.bytes.as_slice(), op, reply),
+            Some(Event::Sub { op, reply, .. }) => agrees(
+                log,
+                self.bytes.as_slice(),
+                &op,
+                reply.as_ref(),
+            ),
             _ => true,
         }
     }

@@ -5,10 +5,10 @@ ghost use Rattle.search_places.specs.Undo.{old_at};
 
 use arrayvec::ArrayVec;
 use log_runs::{Event, Log};
-use search_undo::{put_back, reply, saved};
-use seq_memory::{Reply, perform};
+use search_undo::{act, put_back, reply, saved};
+use seq_memory::{ReplyData, ReplyRef};
 use std::alloc::{AllocError, Global};
-use tlp_core::{MAX_PAYLOAD, Op};
+use tlp_core::{MAX_PAYLOAD, OpRef};
 
 pub(crate) fn zeros(alloc: Global, size: usize) -> Result<Vec<u8>, AllocError>
     ensures { IfOk result (λ v. v.items ≡ replicate size 0) }
@@ -16,13 +16,18 @@ pub(crate) fn zeros(alloc: Global, size: usize) -> Result<Vec<u8>, AllocError>
     vec![in alloc; 0u8; size]
 }
 
-/// What the memory would answer.
+/// What the memory would answer. The reply's data is put into the room.
 #[tactic(auto, unfolding(log_runs::specs::Runs::reply_of))]
-pub(crate) fn reply_to(log: &Log, bytes: &[u8], op: &Op) -> Reply
+pub(crate) fn reply_to<'r>(
+    log: &Log,
+    bytes: &[u8],
+    op: &OpRef<'_>,
+    room: &'r mut ReplyData,
+) -> ReplyRef<'r>
     ensures { result ≡ reply_of log.now.extent bytes.now op.now }
 {
     let extent = log.extent();
-    reply(extent.base(), extent.block(), bytes, op)
+    reply(extent.base(), extent.block(), bytes, op, room)
 }
 
 /// The bytes at the request's place.
@@ -32,7 +37,7 @@ pub(crate) fn bytes_of(log: &Log, bytes: &[u8], b: usize) -> ArrayVec<u8, MAX_PA
     match log.event(b) {
         Some(Event::Sub { op, .. }) => {
             let extent = log.extent();
-            saved(extent.base(), extent.block(), bytes, op)
+            saved(extent.base(), extent.block(), bytes, &op)
         }
         _ => ArrayVec::new(),
     }
@@ -45,7 +50,7 @@ pub(crate) fn act_on(log: &Log, bytes: &mut [u8], b: usize)
 {
     if let Some(Event::Sub { op, .. }) = log.event(b) {
         let extent = log.extent();
-        let _ = perform(extent.base(), extent.block(), bytes, op);
+        act(extent.base(), extent.block(), bytes, &op);
     }
 }
 
@@ -57,6 +62,6 @@ pub(crate) fn restore(log: &Log, bytes: &mut [u8], b: usize, old: &[u8])
 {
     if let Some(Event::Sub { op, .. }) = log.event(b) {
         let extent = log.extent();
-        put_back(extent.base(), extent.block(), bytes, op, old);
+        put_back(extent.base(), extent.block(), bytes, &op, old);
     }
 }

@@ -1,15 +1,14 @@
 //! Why answers have no history, if that can be said in a few words.
-ghost use Rattle.std.specs.Prelude.{◌≡◌, IfOk, IfSome};
+ghost use Rattle.std.specs.Prelude.{IfOk, IfSome};
 ghost use Rattle.history_words.specs.TraceView.{observed};
 ghost use Rattle.search_reasons.specs.Reasons.{IsMisanswered};
 
 use crate::asked::asked_by;
 use crate::misreplies::{Misreply, misreply_of};
-use history_words::{Record, Trace};
 use log_events::{Partners, form_of};
 use search_anomalies::{Prefix, WordCause};
-use seq_memory::Extent;
 use std::alloc::{AllocError, Global};
+use trace_store::RecordStore;
 
 /// Why answers have no history.
 #[derive(Clone, Copy, Debug, PartialEq, Eq)]
@@ -20,30 +19,12 @@ pub enum Cause {
     Words(WordCause),
 }
 
-/// A log as it was seen.
-#[derive(Drop)]
-struct Seen<'a> {
-    extent: Extent,
-    records: &'a [Record],
-}
-
-/// The memory and the records of the log.
-fn seen_of<'a>(trace: &'a Trace) -> Seen<'a>
-    ensures extent { result.extent ≡ observed trace.now }
-    ensures records { result.records.now ≡ trace.now.records }
-{
-    Seen {
-        extent: trace.extent,
-        records: &trace.records,
-    }
-}
-
 /// What is wrong with the reply at the place, if no memory gives it.
-fn misreply_at(seen: &Seen<'_>, partners: &Partners, place: usize) -> Option<Misreply>
-    ensures { IfSome result (λ m. IsMisanswered seen.now.extent seen.now.records.now) }
+fn misreply_at(seen: &RecordStore, partners: &Partners, place: usize) -> Option<Misreply>
+    ensures { IfSome result (λ m. IsMisanswered (observed seen.now) seen.now.records) }
 {
-    let asked = asked_by(seen.records, partners, place)?;
-    misreply_of(seen.extent, asked.op, asked.reply)
+    let asked = asked_by(&seen.records(), partners, place)?;
+    misreply_of(seen.extent(), &asked.op, &asked.reply)
 }
 
 /// What is wrong with one of the replies at these places, if no memory gives it.
@@ -52,12 +33,11 @@ pub(crate) fn misreply_among(
     prefix: Prefix<'_>,
     answers: &[usize],
 ) -> Result<Option<Misreply>, AllocError>
-    ensures { IfOk result (λ o. IfSome o (λ m. IsMisanswered (observed prefix.entry.trace.now) prefix.entry.trace.now.records)) }
+    ensures { IfOk result (λ o. IfSome o (λ m. IsMisanswered (observed prefix.entry.seen.now) prefix.entry.seen.now.records)) }
 {
-    let seen = seen_of(prefix.trace);
-    let form = form_of(alloc, prefix.records())?;
+    let form = form_of(alloc, &prefix.records())?;
     for answer in answers {
-        if let Some(found) = misreply_at(&seen, &form.partners, *answer) {
+        if let Some(found) = misreply_at(prefix.seen, &form.partners, *answer) {
             return Ok(Some(found));
         }
     }

@@ -40,20 +40,20 @@ pub enum Why {
 
 /// How many records a history explains, if they are one less than the prefix and that is found out.
 fn explained(alloc: Global, prefix: Prefix<'_>, limit: u64) -> Result<Option<Before>, AllocError>
-    ensures explained { IfOk result (λ o. IfSome o (λ b. IsExplainedBefore prefix.entry.trace.now prefix.entry.count b.count)) }
+    ensures explained { IfOk result (λ o. IfSome o (λ b. IsExplainedBefore prefix.entry.seen.now prefix.entry.count b.count)) }
     ensures next { IfOk result (λ o. IfSome o (λ b. b.count + 1 ≡ prefix.entry.count)) }
-    ensures expected { IfOk result (λ o. IfSome o (λ b. IfSome b.expected (IsExpected prefix.entry.trace.now b.count))) }
+    ensures expected { IfOk result (λ o. IfSome o (λ b. IfSome b.expected (IsExpected prefix.entry.seen.now b.count))) }
 {
-    let trace = prefix.trace;
-    if prefix.count > trace.records.len() {
+    let seen = prefix.seen;
+    if prefix.count > seen.len() {
         return Ok(None);
     }
-    explained_before(alloc, trace, prefix.count, limit)
+    explained_before(alloc, seen, prefix.count, limit)
 }
 
 /// The form of the last record is wrong.
 fn is_misformed(alloc: Global, prefix: Prefix<'_>) -> Result<bool, AllocError> {
-    let form = form_of(alloc, prefix.records())?;
+    let form = form_of(alloc, &prefix.records())?;
     Ok(form.flaw.is_some() && form.flaw == prefix.count.checked_sub(1))
 }
 
@@ -81,9 +81,9 @@ fn proved(last: usize, others: Vec<usize>) -> Against
 
 /// Few answers that contradict each other, or else the last record alone.
 fn answers_against(alloc: Global, prefix: Prefix<'_>, limit: u64) -> Result<Against, AllocError>
-    ensures { IfOk result (λ a. AreAgainst prefix.entry.trace.now prefix.entry.count a.last a.others.items a.is_proved) }
+    ensures { IfOk result (λ a. AreAgainst prefix.entry.seen.now prefix.entry.count a.last a.others.items a.is_proved) }
 {
-    let mut others = contradiction(alloc, prefix.trace, prefix.count, limit)?;
+    let mut others = contradiction(alloc, prefix.seen, prefix.count, limit)?;
     match others.pop() {
         Some(last) => Ok(proved(last, others)),
         None => Ok(Against {
@@ -122,7 +122,7 @@ pub(crate) fn records_with(
 
 /// Why the answers have no history: since no memory gives one of the replies that were read, or by what was searched.
 fn cause_of(alloc: Global, case: Case<'_>, answers: &Against) -> Result<Cause, AllocError>
-    ensures { IfOk result (IsCause (observed case.entry.read.trace.now) case.entry.read.trace.now.records) }
+    ensures { IfOk result (IsCause (observed case.entry.read.seen.now) case.entry.read.seen.now.records) }
 {
     let places = answers.places(alloc)?;
     let records = records_with(alloc, case, &places)?;
@@ -158,7 +158,7 @@ fn answers_on(
     last: usize,
     limit: u64,
 ) -> Result<Option<Against>, AllocError>
-    ensures { IfOk result (λ o. IfSome o (λ a. AreAgainst prefix.entry.trace.now prefix.entry.count a.last a.others.items a.is_proved)) }
+    ensures { IfOk result (λ o. IfSome o (λ a. AreAgainst prefix.entry.seen.now prefix.entry.count a.last a.others.items a.is_proved)) }
 {
     let others = others_on(alloc, cycle, last)?;
     if others.len() >= MOST {
@@ -167,7 +167,7 @@ fn answers_on(
     let mut all = Vec::new(alloc);
     all.extend_from_slice(&others)?;
     all.push(last)?;
-    if contradict(alloc, prefix.trace, prefix.count, &all, limit)? {
+    if contradict(alloc, prefix.seen, prefix.count, &all, limit)? {
         return Ok(Some(proved(last, others)));
     }
     Ok(None)
@@ -187,8 +187,8 @@ fn ring_of(
     answers: Against,
     limit: u64,
 ) -> Result<Ring, AllocError>
-    requires { AreAgainst prefix.trace.now prefix.count answers.last answers.others.items answers.is_proved }
-    ensures { IfOk result (λ r. AreAgainst prefix.entry.trace.now prefix.entry.count r.answers.last r.answers.others.items r.answers.is_proved) }
+    requires { AreAgainst prefix.seen.now prefix.count answers.last answers.others.items answers.is_proved }
+    ensures { IfOk result (λ r. AreAgainst prefix.entry.seen.now prefix.entry.count r.answers.last r.answers.others.items r.answers.is_proved) }
 {
     let cycle = cycle_through(alloc, prefix, answers.last)?;
     if cycle.is_empty() {
@@ -208,8 +208,8 @@ fn ring_for(
     cause: Cause,
     limit: u64,
 ) -> Result<Ring, AllocError>
-    requires { AreAgainst prefix.trace.now prefix.count answers.last answers.others.items answers.is_proved }
-    ensures { IfOk result (λ r. AreAgainst prefix.entry.trace.now prefix.entry.count r.answers.last r.answers.others.items r.answers.is_proved) }
+    requires { AreAgainst prefix.seen.now prefix.count answers.last answers.others.items answers.is_proved }
+    ensures { IfOk result (λ r. AreAgainst prefix.entry.seen.now prefix.entry.count r.answers.last r.answers.others.items r.answers.is_proved) }
 {
     if cause == Cause::Words(WordCause::NoOrder) {
         return ring_of(alloc, prefix, answers, limit);
@@ -225,10 +225,10 @@ fn ring_for(
 /// proportion to the records.
 /// Fails where memory can't be allocated; nothing is known then.
 pub fn reasons_of(alloc: Global, case: Case<'_>, limit: u64) -> Result<Reasons, AllocError>
-    ensures explained { IfOk result (λ r. IfSome r.before (λ b. IsExplainedBefore case.entry.searched.trace.now case.entry.searched.count b.count)) }
+    ensures explained { IfOk result (λ r. IfSome r.before (λ b. IsExplainedBefore case.entry.searched.seen.now case.entry.searched.count b.count)) }
     ensures next { IfOk result (λ r. IfSome r.before (λ b. b.count + 1 ≡ case.entry.searched.count)) }
-    ensures expected { IfOk result (λ r. IfSome r.before (λ b. IfSome b.expected (IsExpected case.entry.searched.trace.now b.count))) }
-    ensures answers { IfOk result (λ r. IsTold case.entry.searched.trace.now case.entry.searched.count (observed case.entry.read.trace.now) case.entry.read.trace.now.records r.why) }
+    ensures expected { IfOk result (λ r. IfSome r.before (λ b. IfSome b.expected (IsExpected case.entry.searched.seen.now b.count))) }
+    ensures answers { IfOk result (λ r. IsTold case.entry.searched.seen.now case.entry.searched.count (observed case.entry.read.seen.now) case.entry.read.seen.now.records r.why) }
 {
     let before = explained(alloc, case.searched, limit)?;
     if is_misformed(alloc, case.read)? {

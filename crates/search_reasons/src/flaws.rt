@@ -6,11 +6,12 @@ ghost use Rattle.line_loop.specs.declared.fault.EngineFault.{EngineFault};
 
 use crate::telling::lines_of;
 use diagnostics::Reason;
-use history_words::{Flaw, FlawKind, Record, Trace};
+use history_words::{Flaw, FlawKind, RecordHeader};
 use line_loop::EngineFault;
 use std::alloc::Global;
 use std::io::Write;
 use trace_diagnostics::TraceLines;
+use trace_store::{RecordStore, Records};
 
 /// A request, by its requester and its number.
 #[derive(Clone, Copy, Debug, PartialEq, Eq)]
@@ -20,33 +21,22 @@ struct Request {
 }
 
 /// The request that the record submits or answers.
-fn request_of(item: &Record) -> Request {
-    match item {
-        Record::Sub {
-            requester,
-            number,
-            ..
-        }
-        | Record::Ans {
-            requester,
-            number,
-            ..
-        } => Request {
-            requester: *requester,
-            number: *number,
-        },
-    }
+fn request_of(header: RecordHeader) -> Request {
+    let (requester, number) = header.request();
+    Request { requester, number }
 }
 
-fn is_answer(item: &Record) -> bool {
-    matches!(item, Record::Ans { .. })
+fn is_answer(header: RecordHeader) -> bool {
+    matches!(header, RecordHeader::Ans { .. })
 }
 
 /// The place of the first of the records that submits the request, or that answers it.
-fn place_of(records: &[Record], request: Request, answers: bool) -> Option<usize> {
+fn place_of(records: &Records<'_>, request: Request, answers: bool) -> Option<usize> {
     for place in 0..records.len() {
-        let item = &records[place];
-        if is_answer(item) == answers && request_of(item) == request {
+        if let Some(header) = records.header(place)
+            && is_answer(header) == answers
+            && request_of(header) == request
+        {
             return Some(place);
         }
     }
@@ -54,10 +44,13 @@ fn place_of(records: &[Record], request: Request, answers: bool) -> Option<usize
 }
 
 /// How many requests the requester submits in the records.
-fn submitted(records: &[Record], requester: u8) -> u64 {
+fn submitted(records: &Records<'_>, requester: u8) -> u64 {
     let mut count: u64 = 0;
-    for item in records {
-        if !is_answer(item) && request_of(item).requester == requester {
+    for place in 0..records.len() {
+        if let Some(header) = records.header(place)
+            && !is_answer(header)
+            && request_of(header).requester == requester
+        {
             count = count.saturating_add(1);
         }
     }
@@ -65,7 +58,7 @@ fn submitted(records: &[Record], requester: u8) -> u64 {
 }
 
 /// A submission has another number than the next.
-fn put_numbering(before: &[Record], request: Request, reason: &mut Reason) {
+fn put_numbering(before: &Records<'_>, request: Request, reason: &mut Reason) {
     let Request { requester, number } = request;
     let next = submitted(before, requester);
     reason.put(format_args!(
@@ -74,7 +67,7 @@ fn put_numbering(before: &[Record], request: Request, reason: &mut Reason) {
 }
 
 /// An answer comes to a request that asks for none.
-fn put_unasked(before: &[Record], lines: &TraceLines, request: Request, reason: &mut Reason) {
+fn put_unasked(before: &Records<'_>, lines: &TraceLines, request: Request, reason: &mut Reason) {
     let Request { requester, number } = request;
     reason.put(format_args!(": an answer to request {number} of requester {requester}, which "));
     match place_of(before, request, false) {
@@ -87,7 +80,7 @@ fn put_unasked(before: &[Record], lines: &TraceLines, request: Request, reason: 
 }
 
 /// An answer comes to a request that was answered before.
-fn put_again(before: &[Record], lines: &TraceLines, request: Request, reason: &mut Reason) {
+fn put_again(before: &Records<'_>, lines: &TraceLines, request: Request, reason: &mut Reason) {
     let Request { requester, number } = request;
     reason.put(format_args!(": a second answer to request {number} of requester {requester}"));
     if let Some(place) = place_of(before, request, true) {
@@ -97,15 +90,15 @@ fn put_again(before: &[Record], lines: &TraceLines, request: Request, reason: &m
 }
 
 /// The reason for the first flaw of a log's form.
-fn flaw_reason(trace: &Trace, flaw: Flaw, lines: &TraceLines) -> Reason {
+fn flaw_reason(seen: &RecordStore, flaw: Flaw, lines: &TraceLines) -> Reason {
     let mut reason = Reason::new();
-    let before = trace.records.get(..flaw.place).unwrap_or(&[]);
-    if let Some(item) = trace.records.get(flaw.place) {
-        let request = request_of(item);
+    if let Some(header) = seen.header(flaw.place) {
+        let before = seen.records().first(flaw.place);
+        let request = request_of(header);
         match flaw.kind {
-            FlawKind::Unasked => put_unasked(before, lines, request, &mut reason),
-            FlawKind::Again => put_again(before, lines, request, &mut reason),
-            _ => put_numbering(before, request, &mut reason),
+            FlawKind::Unasked => put_unasked(&before, lines, request, &mut reason),
+            FlawKind::Again => put_again(&before, lines, request, &mut reason),
+            _ => put_numbering(&before, request, &mut reason),
         }
     }
     reason
@@ -117,7 +110,7 @@ fn flaw_reason(trace: &Trace, flaw: Flaw, lines: &TraceLines) -> Reason {
 pub fn tell_flaw<E: Write>(
     alloc: Global,
     text: &[u8],
-    trace: &Trace,
+    seen: &RecordStore,
     flaw: Flaw,
     errors: &mut E,
 ) -> Result<(), EngineFault>
@@ -128,6 +121,6 @@ pub fn tell_flaw<E: Write>(
     let Ok(lines) = lines_of(alloc, text) else {
         return Err(EngineFault::Memory);
     };
-    let reason = flaw_reason(trace, flaw, &lines);
+    let reason = flaw_reason(seen, flaw, &lines);
     reason.tell_at(lines.of_record(flaw.place), errors)
 }

@@ -21,15 +21,15 @@ const SEARCHES: u32 = 4;
 
 /// How many of the first `count` records a history explains, as far as that is found: all, or a half of them, and so on.
 pub fn explained_of(alloc: Global, prefix: Prefix<'_>, limit: u64) -> Result<usize, AllocError>
-    ensures { IfOk result (λ n. 0 < n → IsExplainable (first n prefix.entry.trace.now)) }
+    ensures { IfOk result (λ n. 0 < n → IsExplainable (first n prefix.entry.seen.now)) }
 {
-    let trace = prefix.trace;
-    let mut count = prefix.count.min(trace.records.len());
+    let seen = prefix.seen;
+    let mut count = prefix.count.min(seen.len());
     for _search in 0..SEARCHES {
-        if count > trace.records.len() {
+        if count > seen.len() {
             return Ok(0);
         }
-        if is_explained(alloc, trace, count, limit)? {
+        if is_explained(alloc, seen, count, limit)? {
             return Ok(count);
         }
         count /= 2;
@@ -95,7 +95,7 @@ pub fn tell_given_up<E: Write>(
 {
     let GivenUp { case, spot } = given_up;
     let before = Prefix {
-        trace: case.searched.trace,
+        seen: case.searched.seen,
         count: spot.event,
     };
     let explained = explained_of(alloc, before, limit)?;

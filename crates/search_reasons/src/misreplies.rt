@@ -5,8 +5,8 @@ ghost use Rattle.seq_memory.specs.Step.{answer, answer_by, refusal};
 ghost use Rattle.search_reasons.specs.Reasons.{IsMisreply};
 
 use search_effects::{is_needed, never_gives};
-use seq_memory::{Extent, Refusal, Reply};
-use tlp_core::Op;
+use seq_memory::{Extent, Refusal, ReplyRef};
+use tlp_core::OpRef;
 
 /// What is wrong with a reply that no memory gives.
 #[derive(Clone, Copy, Debug, PartialEq, Eq)]
@@ -22,17 +22,17 @@ pub enum Misreply {
 }
 
 /// A request that is refused so is answered so.
-fn is_refusal(refused: Refusal, reply: &Reply) -> bool
+fn is_refusal(refused: Refusal, reply: &ReplyRef<'_>) -> bool
     ensures { result ≡ false → (made : Reply) → answer_by (Some refused) made ≡ reply.now → ⊥ }
 {
     match refused {
-        Refusal::Aborted => matches!(reply, Reply::Aborted),
-        Refusal::Unsupported => matches!(reply, Reply::Unsupported),
+        Refusal::Aborted => matches!(reply, ReplyRef::Aborted),
+        Refusal::Unsupported => matches!(reply, ReplyRef::Unsupported),
     }
 }
 
 /// The operation isn't served.
-fn refused_so(refused: Refusal, op: &Op) -> Misreply {
+fn refused_so(refused: Refusal, op: &OpRef<'_>) -> Misreply {
     match refused {
         Refusal::Aborted => Misreply::Aborted(op.address()),
         Refusal::Unsupported => Misreply::Unsupported(op.address()),
@@ -40,7 +40,7 @@ fn refused_so(refused: Refusal, op: &Op) -> Misreply {
 }
 
 /// The operation is served, with other data than these.
-fn wrong_data(op: &Op, data: &[u8]) -> Misreply {
+fn wrong_data(op: &OpRef<'_>, data: &[u8]) -> Misreply {
     if data.len() == op.size() as usize {
         for place in 0..data.len() {
             if data[place] != 0 && !is_needed(op, place) {
@@ -52,28 +52,28 @@ fn wrong_data(op: &Op, data: &[u8]) -> Misreply {
 }
 
 /// The operation is served.
-fn served(op: &Op) -> Misreply {
+fn served(op: &OpRef<'_>) -> Misreply {
     Misreply::Served(op.address(), op.size() as usize)
 }
 
 /// Why the operation isn't answered so where it is served, if it isn't.
-fn served_misreply(op: &Op, reply: &Reply) -> Option<Misreply>
+fn served_misreply(op: &OpRef<'_>, reply: &ReplyRef<'_>) -> Option<Misreply>
     ensures { IfSome result (λ c. (base block : ℕ) (m : List ℕ) → refusal base (length m) block op.now ≡ None → answer base block m op.now ≡ reply.now → ⊥) }
 {
     match reply {
-        Reply::Data(data) => if never_gives(op, data.as_slice()) {
+        ReplyRef::Data(data) => if never_gives(op, data.as_slice()) {
             Some(wrong_data(op, data.as_slice()))
         } else {
             None
         },
-        Reply::Done => None,
-        Reply::Unsupported => Some(served(op)),
-        Reply::Aborted => Some(served(op)),
+        ReplyRef::Done => None,
+        ReplyRef::Unsupported => Some(served(op)),
+        ReplyRef::Aborted => Some(served(op)),
     }
 }
 
 /// Why no memory that lies there answers the operation so, if none does.
-pub(crate) fn misreply_of(extent: Extent, op: &Op, reply: &Reply) -> Option<Misreply>
+pub(crate) fn misreply_of(extent: Extent, op: &OpRef<'_>, reply: &ReplyRef<'_>) -> Option<Misreply>
     ensures { IfSome result (λ c. IsMisreply extent op.now reply.now) }
 {
     match search_undo::refusal(extent.base(), extent.block(), extent.size(), op) {

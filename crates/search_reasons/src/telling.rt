@@ -10,7 +10,7 @@ use crate::cycles::put_cycle;
 use crate::finding::{Reasons, Why, reasons_of, records_with};
 use crate::wording::{put_cause, put_line};
 use arrayvec::ArrayString;
-use history_words::{Record, Trace};
+use history_words::{RecordHeader, RecordRef};
 use line_loop::{EngineFault, write_out};
 use memchr::memchr;
 use operation_text::write_reply;
@@ -19,6 +19,7 @@ use std::alloc::{AllocError, Global};
 use std::io::Write;
 use text_lines::without_return;
 use trace_diagnostics::TraceLines;
+use trace_store::{RecordStore, Records};
 
 /// The first line of the text that a line feed ends, without what ends it, and the rest.
 fn next_line(text: &[u8]) -> Option<(&[u8], &[u8])>
@@ -70,23 +71,25 @@ fn put_lines(
     }
 }
 
-/// Why the record at the place answers nothing.
-fn misanswer(trace: &Trace, place: usize, requester: u8, number: u32) -> &'static str {
-    for record in trace.records.get(..place).unwrap_or(&[]) {
-        if let Record::Sub {
-            requester: who,
-            number: own,
-            op,
-            ..
-        } = record
+/// Why an answer to the request behind these records answers nothing.
+fn misanswer(before: &Records<'_>, requester: u8, number: u32) -> &'static str {
+    for place in 0..before.len() {
+        if let Some(
+            RecordHeader::Sub {
+                requester: who,
+                number: own,
+                is_posted,
+                ..
+            },
+        ) = before.header(place)
+            && who == requester
+            && own == number
         {
-            if *who == requester && *own == number {
-                return if op.is_posted() {
-                    "is a posted write, which has no answer"
-                } else {
-                    "was answered before"
-                };
-            }
+            return if is_posted {
+                "is a posted write, which has no answer"
+            } else {
+                "was answered before"
+            };
         }
     }
     "was not submitted before"
@@ -96,24 +99,24 @@ fn misanswer(trace: &Trace, place: usize, requester: u8, number: u32) -> &'stati
 fn put_answer(
     out: &mut Vec<u8>,
     lines: &TraceLines,
-    trace: &Trace,
+    seen: &RecordStore,
     place: usize,
     behind: &str,
 ) -> Result<(), AllocError> {
     let Some(
-        Record::Ans {
+        RecordRef::Ans {
             requester,
             number,
             reply,
             ..
         },
-    ) = trace.records.get(place)
+    ) = seen.get(place)
     else {
         return Ok(());
     };
     let line = lines.of_record(place);
     let mut text = ArrayString::new();
-    write_reply(&reply.lend(), &mut text);
+    write_reply(&reply, &mut text);
     let shown = text.as_str();
     put_line(
         out,
@@ -126,13 +129,13 @@ fn put_answer(
 fn put_form(
     out: &mut Vec<u8>,
     lines: &TraceLines,
-    trace: &Trace,
+    seen: &RecordStore,
     place: usize,
 ) -> Result<(), AllocError> {
     let line = lines.of_record(place);
-    match trace.records.get(place) {
+    match seen.header(place) {
         Some(
-            Record::Sub {
+            RecordHeader::Sub {
                 requester,
                 number,
                 ..
@@ -144,14 +147,14 @@ fn put_form(
             ),
         ),
         Some(
-            Record::Ans {
+            RecordHeader::Ans {
                 requester,
                 number,
                 ..
             },
         ) => {
-            put_answer(out, lines, trace, place, "")?;
-            let why = misanswer(trace, place, *requester, *number);
+            put_answer(out, lines, seen, place, "")?;
+            let why = misanswer(&seen.records().first(place), requester, number);
             put_line(
                 out,
                 format_args!("request {number} of requester {requester} {why}"),
@@ -165,7 +168,7 @@ fn put_form(
 fn put_answers(
     out: &mut Vec<u8>,
     lines: &TraceLines,
-    trace: &Trace,
+    seen: &RecordStore,
     answers: &[usize],
 ) -> Result<(), AllocError> {
     let first = if answers.len() > 1 {
@@ -175,7 +178,7 @@ fn put_answers(
     };
     for index in 0..answers.len() {
         let behind = if index == 0 { first } else { "" };
-        put_answer(out, lines, trace, answers[index], behind)?;
+        put_answer(out, lines, seen, answers[index], behind)?;
     }
     Ok(())
 }
@@ -298,10 +301,10 @@ pub fn reason_lines(
         Some(before) => Some(case.record_with(before.count)),
         None => None,
     };
-    let Prefix { trace, count } = case.read;
+    let Prefix { seen, count } = case.read;
     put_lines(&mut out, &lines, count, explained)?;
     match &reasons.why {
-        Why::Form => put_form(&mut out, &lines, trace, count.saturating_sub(1))?,
+        Why::Form => put_form(&mut out, &lines, seen, count.saturating_sub(1))?,
         Why::Answers {
             last,
             others,
@@ -310,10 +313,10 @@ pub fn reason_lines(
             ..
         } => {
             let answers = answers_as_read(alloc, case, *last, others)?;
-            put_answers(&mut out, &lines, trace, &answers)?;
+            put_answers(&mut out, &lines, seen, &answers)?;
             put_expected(&mut out, &lines, case, reasons)?;
             if cycle.is_empty() {
-                put_cause(&mut out, &lines, trace, &cause_as_read(case, *cause))?;
+                put_cause(&mut out, &lines, seen, &cause_as_read(case, *cause))?;
             }
             put_cycle(&mut out, &lines, case, cycle)?;
             if case.ends.is_none() && may_be_of_parts(*cause) {

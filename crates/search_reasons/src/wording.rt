@@ -4,13 +4,14 @@ ghost use Rattle.search_reasons.specs.Lines.{IsWordText};
 use crate::causes::Cause;
 use crate::misreplies::Misreply;
 use arrayvec::ArrayString;
-use history_words::{Record, Trace};
+use history_words::RecordRef;
 use operation_text::{write_bytes, write_hexadecimal, write_op};
 use search_anomalies::{Bound, Sum, Word, WordCause};
 use std::alloc::AllocError;
 use std::fmt::Display;
 use std::io::Write;
 use trace_diagnostics::TraceLines;
+use trace_store::RecordStore;
 
 /// Adds a line of a reason.
 pub(crate) fn put_line<D: Display + Drop>(out: &mut Vec<u8>, line: D) -> Result<(), AllocError> {
@@ -66,10 +67,10 @@ fn put_served(out: &mut Vec<u8>, address: u64, bytes: usize) -> Result<(), Alloc
 }
 
 /// The operation that the record submits.
-fn op_text(trace: &Trace, place: usize) -> ArrayString<512> {
+fn op_text(seen: &RecordStore, place: usize) -> ArrayString<512> {
     let mut text = ArrayString::new();
-    if let Some(Record::Sub { op, .. }) = trace.records.get(place) {
-        write_op(&op.lend(), &mut text);
+    if let Some(RecordRef::Sub { op, .. }) = seen.get(place) {
+        write_op(&op, &mut text);
     }
     text
 }
@@ -157,7 +158,7 @@ fn put_misreply(out: &mut Vec<u8>, found: Misreply) -> Result<(), AllocError> {
 fn put_word_cause(
     out: &mut Vec<u8>,
     lines: &TraceLines,
-    trace: &Trace,
+    seen: &RecordStore,
     cause: &WordCause,
 ) -> Result<(), AllocError> {
     match cause {
@@ -169,7 +170,7 @@ fn put_word_cause(
             out,
             word,
             lines.of_record(*by),
-            &op_text(trace, *by),
+            &op_text(seen, *by),
             lines.of_record(*submission),
         ),
         WordCause::Sum(sum) => put_sum(out, lines, sum),
@@ -181,11 +182,11 @@ fn put_word_cause(
 pub(crate) fn put_cause(
     out: &mut Vec<u8>,
     lines: &TraceLines,
-    trace: &Trace,
+    seen: &RecordStore,
     cause: &Cause,
 ) -> Result<(), AllocError> {
     match cause {
         Cause::Misreply(found) => put_misreply(out, *found),
-        Cause::Words(words) => put_word_cause(out, lines, trace, words),
+        Cause::Words(words) => put_word_cause(out, lines, seen, words),
     }
 }

@@ -8,8 +8,8 @@ use Rattle.seq_memory.specs.Entries.{Reply}
 use Rattle.seq_memory.specs.Limits.{Extent}
 use Rattle.seq_memory.specs.Step.{after, answer}
 use Rattle.search_effects.specs.Effects.{Agrees, told_of}
-use Rattle.log_runs.specs.declared.Event.{Event}
-use Rattle.log_runs.specs.declared.Event.TheVariants as lent
+use Rattle.log_runs.specs.declared.log.Event.{Event}
+use Rattle.log_runs.specs.declared.log.Event.TheVariants as lent
 use Rattle.log_runs.specs.EventView.{EventView, event_of}
 use Rattle.log_runs.specs.EventView as events
 use Rattle.log_runs.specs.LogView.{LogView}
@@ -27,9 +27,14 @@ not_none o i op told e f = cc
 
 -- ---- an event that a log lends
 
-pub sub_at : (es : List EventView) (b : ℕ) (r : Event) (i : ℕ) (op : Bor Op) (told : Option (Bor Reply)) → r ≡ lent.Sub i op told → Some (event_of r) ≡ slice_get es b
-    → slice_get es b ≡ Some (events.Sub i op.now (told_of told))
+pub sub_at : (es : List EventView) (b : ℕ) (r : Event) (i : ℕ) (op : Op) (told : Option Reply) → r ≡ lent.Sub i op told → Some (event_of r) ≡ slice_get es b
+    → slice_get es b ≡ Some (events.Sub i op told)
 sub_at es b r i op told is read = sym read ∙ ap (λ e. Some (event_of e)) is
+
+-- the same, with a reply that is lent
+pub sub_told : (es : List EventView) (b : ℕ) (r : Event) (i : ℕ) (op : Op) (told : Option Reply) (reply : Option (Bor Reply)) → r ≡ lent.Sub i op told → Some (event_of r) ≡ slice_get es b → told_of reply ≡ told
+    → slice_get es b ≡ Some (events.Sub i op (told_of reply))
+sub_told es b r i op told reply is read e = sub_at es b r i op told is read ∙ ap (λ t. Some (events.Sub i op t)) (sym e)
 
 pub due_is_idle : (es : List EventView) (b : ℕ) (r : Event) (c : ℕ) → r ≡ lent.Due c → Some (event_of r) ≡ slice_get es b
     → (i : ℕ) (op : Op) (told : Option Reply) → slice_get es b ≡ Some (events.Sub i op told) → ⊥

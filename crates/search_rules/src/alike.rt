@@ -6,11 +6,11 @@ ghost use Rattle.log_runs.specs.EventView as events;
 ghost use Rattle.search_rules.specs.Alike.{AreAlike};
 
 use log_runs::{Event, Log};
-use seq_memory::Reply;
-use tlp_core::Op;
+use seq_memory::ReplyRef;
+use tlp_core::OpRef;
 
 /// They were answered the same, or neither was.
-fn are_told_alike(told: Option<&Reply>, asked: Option<&Reply>) -> bool
+fn are_told_alike(told: Option<&ReplyRef<'_>>, asked: Option<&ReplyRef<'_>>) -> bool
     ensures { IsTrue result → told_of told.entry ≡ told_of asked.entry }
 {
     match told {
@@ -23,7 +23,7 @@ fn are_told_alike(told: Option<&Reply>, asked: Option<&Reply>) -> bool
 }
 
 /// Request `c` asks for that, and was answered so. It is no posted write.
-fn is_like(log: &Log, op: &Op, told: Option<&Reply>, c: usize) -> bool
+fn is_like(log: &Log, op: &OpRef<'_>, told: Option<&ReplyRef<'_>>, c: usize) -> bool
     ensures unposted { IsTrue result → is_posted op.now ≡ false }
     ensures same { IsTrue result → (j : ℕ) × (slice_get log.now.events c ≡ Some (events.Sub j op.now (told_of told.entry))) }
 {
@@ -37,7 +37,7 @@ fn is_like(log: &Log, op: &Op, told: Option<&Reply>, c: usize) -> bool
                 reply,
                 ..
             },
-        ) => *op == *other && are_told_alike(told, reply),
+        ) => *op == other && are_told_alike(told, reply.as_ref()),
         _ => false,
     }
 }
@@ -47,7 +47,7 @@ pub fn are_alike(log: &Log, b: usize, c: usize) -> bool
     ensures { IsTrue result → AreAlike log.now b c }
 {
     match log.event(b) {
-        Some(Event::Sub { op, reply, .. }) => is_like(log, op, reply, c),
+        Some(Event::Sub { op, reply, .. }) => is_like(log, &op, reply.as_ref(), c),
         _ => false,
     }
 }

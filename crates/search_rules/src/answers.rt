@@ -9,33 +9,33 @@ ghost use Rattle.search_rules.specs.Rules.{Answers, NeverSuits};
 use crate::laws::what_is_never_answered_is_dead;
 use log_runs::{Event, Log};
 use search_effects::never_gives;
-use seq_memory::{Refusal, Reply};
-use tlp_core::Op;
+use seq_memory::{Refusal, ReplyRef};
+use tlp_core::OpRef;
 
 /// A request that is refused so is answered so.
-fn is_refusal(refused: Refusal, reply: &Reply) -> bool
+fn is_refusal(refused: Refusal, reply: &ReplyRef<'_>) -> bool
     ensures { result ≡ false → (made : Reply) → answer_by (Some refused) made ≡ reply.now → ⊥ }
 {
     match refused {
-        Refusal::Aborted => matches!(reply, Reply::Aborted),
-        Refusal::Unsupported => matches!(reply, Reply::Unsupported),
+        Refusal::Aborted => matches!(reply, ReplyRef::Aborted),
+        Refusal::Unsupported => matches!(reply, ReplyRef::Unsupported),
     }
 }
 
 /// The operation isn't answered so where it is served.
-fn is_never_answered(op: &Op, reply: &Reply) -> bool
+fn is_never_answered(op: &OpRef<'_>, reply: &ReplyRef<'_>) -> bool
     ensures { IsTrue result → (base block : ℕ) (m : List ℕ) → refusal base (length m) block op.now ≡ None → answer base block m op.now ≡ reply.now → ⊥ }
 {
     match reply {
-        Reply::Data(data) => never_gives(op, data.as_slice()),
-        Reply::Done => false,
-        Reply::Unsupported => true,
-        Reply::Aborted => true,
+        ReplyRef::Data(data) => never_gives(op, data.as_slice()),
+        ReplyRef::Done => false,
+        ReplyRef::Unsupported => true,
+        ReplyRef::Aborted => true,
     }
 }
 
 /// No memory of the log's size answers the operation so.
-fn is_unanswerable(log: &Log, op: &Op, reply: &Reply) -> bool
+fn is_unanswerable(log: &Log, op: &OpRef<'_>, reply: &ReplyRef<'_>) -> bool
     ensures { IsTrue result → (m : List ℕ) → length m ≡ log.now.extent.size → reply_of log.now.extent m op.now ≡ reply.now → ⊥ }
 {
     let extent = log.extent();
@@ -46,7 +46,7 @@ fn is_unanswerable(log: &Log, op: &Op, reply: &Reply) -> bool
 }
 
 /// [`is_unanswerable`], if the operation was answered.
-fn was_unanswerable(log: &Log, op: &Op, told: Option<&Reply>) -> bool
+fn was_unanswerable(log: &Log, op: &OpRef<'_>, told: Option<&ReplyRef<'_>>) -> bool
     ensures { IsTrue result → (m : List ℕ) → length m ≡ log.now.extent.size → Answers log.now.extent m op.now (told_of told.entry) → ⊥ }
 {
     match told {
@@ -60,7 +60,7 @@ fn never_suits(log: &Log, q: usize) -> bool
     ensures { IsTrue result → NeverSuits log.now q }
 {
     match log.event(q) {
-        Some(Event::Sub { op, reply, .. }) => was_unanswerable(log, op, reply),
+        Some(Event::Sub { op, reply, .. }) => was_unanswerable(log, &op, reply.as_ref()),
         _ => false,
     }
 }

@@ -12,19 +12,19 @@ ghost use Rattle.search_rules.specs.Junk as specs;
 use log_runs::{Event, Log};
 use search_effects::{are_apart, breaks, covers, sees_none, spans, waits};
 use search_undo::refusal;
-use seq_memory::Reply;
+use seq_memory::ReplyRef;
 use seq_memory::laws::refused_and_read_change_nothing;
-use tlp_core::Op;
+use tlp_core::OpRef;
 
 /// A request: its operation, and its answer, if it has one.
 #[derive(Clone, Copy)]
 struct Request<'a> {
-    op: &'a Op,
-    told: Option<&'a Reply>,
+    op: &'a OpRef<'a>,
+    told: Option<&'a ReplyRef<'a>>,
 }
 
 /// The memory would do the operation.
-pub fn is_served(log: &Log, op: &Op) -> bool
+pub fn is_served(log: &Log, op: &OpRef<'_>) -> bool
     ensures yes { IsTrue result → step.refusal log.now.extent.base log.now.extent.size log.now.extent.block op.now ≡ None }
     ensures no { result ≡ false → (r : Refusal) × (step.refusal log.now.extent.base log.now.extent.size log.now.extent.block op.now ≡ Some r) }
 {
@@ -36,7 +36,7 @@ pub fn is_served(log: &Log, op: &Op) -> bool
 }
 
 /// The operation wasn't answered and changes nothing, or is served and writes all bytes of the other.
-fn writes_over(log: &Log, one: &Op, told: Option<&Reply>, other: &Op) -> bool
+fn writes_over(log: &Log, one: &OpRef<'_>, told: Option<&ReplyRef<'_>>, other: &OpRef<'_>) -> bool
     requires { step.refusal log.now.extent.base log.now.extent.size log.now.extent.block one.now ≡ None }
     ensures { IsTrue result → specs.Overlooks log.now.extent one.now (told_of told.entry) other.now }
 {
@@ -51,7 +51,12 @@ fn writes_over(log: &Log, one: &Op, told: Option<&Reply>, other: &Op) -> bool
 
 /// The operation isn't served, is a read that needs no byte of the other, or wasn't answered and is a read
 /// or writes all bytes of the other.
-pub fn overlooks(log: &Log, one: &Op, told: Option<&Reply>, other: &Op) -> bool
+pub fn overlooks<'o>(
+    log: &Log,
+    one: &OpRef<'o>,
+    told: Option<&ReplyRef<'_>>,
+    other: &OpRef<'o>,
+) -> bool
     ensures { IsTrue result → specs.Overlooks log.now.extent one.now (told_of told.entry) other.now }
 {
     refused_and_read_change_nothing();
@@ -66,7 +71,7 @@ pub fn overlooks(log: &Log, one: &Op, told: Option<&Reply>, other: &Op) -> bool
 
 /// The operations have no byte in common, or it makes no difference to the first what stands at the
 /// addresses of the second.
-fn ignores(log: &Log, one: &Op, told: Option<&Reply>, other: &Op) -> bool
+fn ignores(log: &Log, one: &OpRef<'_>, told: Option<&ReplyRef<'_>>, other: &OpRef<'_>) -> bool
     ensures { IsTrue result → AreApart one.now other.now ⊎ specs.Overlooks log.now.extent one.now (told_of told.entry) other.now }
 {
     if are_apart(one, other) {
@@ -76,7 +81,13 @@ fn ignores(log: &Log, one: &Op, told: Option<&Reply>, other: &Op) -> bool
 }
 
 /// These bytes at the addresses of the other are nothing to the operation.
-fn is_junk(log: &Log, bytes: &[u8], one: &Op, told: Option<&Reply>, other: &Op) -> bool
+fn is_junk(
+    log: &Log,
+    bytes: &[u8],
+    one: &OpRef<'_>,
+    told: Option<&ReplyRef<'_>>,
+    other: &OpRef<'_>,
+) -> bool
     ensures { IsTrue result → specs.IsJunk log.now.extent bytes.now one.now (told_of told.entry) other.now }
 {
     if ignores(log, one, told, other) {
@@ -86,13 +97,13 @@ fn is_junk(log: &Log, bytes: &[u8], one: &Op, told: Option<&Reply>, other: &Op) 
 }
 
 /// Word `word` of the memory, as an operation that names it alone.
-fn word_of(log: &Log, word: u64) -> Op
+fn word_of<'a>(log: &Log, word: u64) -> OpRef<'a>
     requires { word < log.now.extent.size / 4 }
     ensures { result ≡ specs.word log.now.extent word }
 {
     let extent = log.extent();
     let size = extent.size();
-    Op::Read {
+    OpRef::Read {
         address: extent.base() + 4 * word,
         dw: 1,
         first: 15,
@@ -101,7 +112,13 @@ fn word_of(log: &Log, word: u64) -> Op
 }
 
 /// [`is_junk`], the other being word `word`.
-fn is_junk_by(log: &Log, bytes: &[u8], one: &Op, told: Option<&Reply>, word: u64) -> bool
+fn is_junk_by(
+    log: &Log,
+    bytes: &[u8],
+    one: &OpRef<'_>,
+    told: Option<&ReplyRef<'_>>,
+    word: u64,
+) -> bool
     requires { word < log.now.extent.size / 4 }
     ensures { IsTrue result → specs.IsJunk log.now.extent bytes.now one.now (told_of told.entry) (specs.word log.now.extent word) }
 {
@@ -115,7 +132,7 @@ pub fn is_junk_at(log: &Log, bytes: &[u8], b: usize, word: u64) -> bool
     ensures { IsTrue result → IsJunkAt log.now bytes.now b word }
 {
     match log.event(b) {
-        Some(Event::Sub { op, reply, .. }) => is_junk_by(log, bytes, op, reply, word),
+        Some(Event::Sub { op, reply, .. }) => is_junk_by(log, bytes, &op, reply.as_ref(), word),
         Some(Event::Due { .. }) => true,
         Some(Event::Free) => true,
         None => false,
@@ -123,7 +140,13 @@ pub fn is_junk_at(log: &Log, bytes: &[u8], b: usize, word: u64) -> bool
 }
 
 /// The operation was answered otherwise than by what the third leaves.
-fn misses_left(log: &Log, one: &Op, told: Option<&Reply>, third: &Op, had: Option<&Reply>) -> bool
+fn misses_left(
+    log: &Log,
+    one: &OpRef<'_>,
+    told: Option<&ReplyRef<'_>>,
+    third: &OpRef<'_>,
+    had: Option<&ReplyRef<'_>>,
+) -> bool
     ensures { IsTrue result → specs.MissesLeft log.now.extent one.now (told_of told.entry) third.now third.now (told_of had.entry) }
 {
     let Some(reply) = told else {
@@ -136,7 +159,7 @@ fn misses_left(log: &Log, one: &Op, told: Option<&Reply>, third: &Op, had: Optio
 }
 
 /// [`misses_left`], the third having no addresses but the other's.
-fn misses_there(log: &Log, one: Request, other: &Op, third: Request) -> bool
+fn misses_there(log: &Log, one: Request, other: &OpRef<'_>, third: Request) -> bool
     ensures { IsTrue result →
         specs.MissesLeft log.now.extent one.entry.op.now (told_of one.entry.told) other.now third.entry.op.now (told_of third.entry.told) }
 {
@@ -147,7 +170,7 @@ fn misses_there(log: &Log, one: Request, other: &Op, third: Request) -> bool
 }
 
 /// What the third leaves at the addresses of the other is nothing to the operation.
-fn leaves_junk(log: &Log, one: Request, other: &Op, third: Request) -> bool
+fn leaves_junk(log: &Log, one: Request, other: &OpRef<'_>, third: Request) -> bool
     ensures { IsTrue result →
         specs.LeavesJunk log.now.extent one.entry.op.now (told_of one.entry.told) other.now third.entry.op.now (told_of third.entry.told) }
 {
@@ -158,7 +181,13 @@ fn leaves_junk(log: &Log, one: Request, other: &Op, third: Request) -> bool
 }
 
 /// [`leaves_junk`], the third being request `g`.
-fn leaves_junk_behind(log: &Log, one: &Op, told: Option<&Reply>, other: &Op, g: usize) -> bool
+fn leaves_junk_behind(
+    log: &Log,
+    one: &OpRef<'_>,
+    told: Option<&ReplyRef<'_>>,
+    other: &OpRef<'_>,
+    g: usize,
+) -> bool
     ensures { IsTrue result →
         (l : ℕ) × (third : Op) × (had : Option Reply) × (slice_get log.now.events g ≡ Some (events.Sub l third had)) ×
         specs.LeavesJunk log.now.extent one.now (told_of told.entry) other.now third had }
@@ -166,7 +195,10 @@ fn leaves_junk_behind(log: &Log, one: &Op, told: Option<&Reply>, other: &Op, g: 
     match log.event(g) {
         Some(Event::Sub { op, reply, .. }) => {
             let one = Request { op: one, told };
-            let third = Request { op, told: reply };
+            let third = Request {
+                op: &op,
+                told: reply.as_ref(),
+            };
             leaves_junk(log, one, other, third)
         }
         _ => false,
@@ -174,7 +206,13 @@ fn leaves_junk_behind(log: &Log, one: &Op, told: Option<&Reply>, other: &Op, g: 
 }
 
 /// [`leaves_junk_behind`], the other being word `word`.
-fn leaves_junk_by(log: &Log, one: &Op, told: Option<&Reply>, g: usize, word: u64) -> bool
+fn leaves_junk_by(
+    log: &Log,
+    one: &OpRef<'_>,
+    told: Option<&ReplyRef<'_>>,
+    g: usize,
+    word: u64,
+) -> bool
     requires { word < log.now.extent.size / 4 }
     ensures { IsTrue result →
         (l : ℕ) × (third : Op) × (had : Option Reply) × (slice_get log.now.events g ≡ Some (events.Sub l third had)) ×
@@ -190,7 +228,7 @@ pub fn leaves_junk_at(log: &Log, b: usize, g: usize, word: u64) -> bool
     ensures { IsTrue result → LeavesJunkAt log.now b g word }
 {
     match log.event(b) {
-        Some(Event::Sub { op, reply, .. }) => leaves_junk_by(log, op, reply, g, word),
+        Some(Event::Sub { op, reply, .. }) => leaves_junk_by(log, &op, reply.as_ref(), g, word),
         Some(Event::Due { .. }) => true,
         Some(Event::Free) => true,
         None => false,
@@ -198,13 +236,13 @@ pub fn leaves_junk_at(log: &Log, b: usize, g: usize, word: u64) -> bool
 }
 
 /// The addresses of the operation are among those of request `q`.
-fn is_within_by(log: &Log, third: &Op, q: usize) -> bool
+fn is_within_by(log: &Log, third: &OpRef<'_>, q: usize) -> bool
     ensures { IsTrue result →
         (j : ℕ) × (other : Op) × (asked : Option Reply) × (slice_get log.now.events q ≡ Some (events.Sub j other asked)) ×
         specs.HasAddresses other third.now }
 {
     match log.event(q) {
-        Some(Event::Sub { op, .. }) => spans(op, third),
+        Some(Event::Sub { op, .. }) => spans(&op, third),
         _ => false,
     }
 }
@@ -214,7 +252,7 @@ pub fn is_within(log: &Log, g: usize, q: usize) -> bool
     ensures { IsTrue result → IsWithin log.now g q }
 {
     match log.event(g) {
-        Some(Event::Sub { op, .. }) => is_within_by(log, op, q),
+        Some(Event::Sub { op, .. }) => is_within_by(log, &op, q),
         _ => false,
     }
 }

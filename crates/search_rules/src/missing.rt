@@ -12,8 +12,8 @@ ghost use Rattle.search_rules.specs.Rules.{Answers, NeedsByte, NeverPuts};
 use log_runs::{Event, Log};
 use search_effects::is_needed;
 use search_effects::laws::what_is_needed_is_there;
-use seq_memory::Reply;
-use tlp_core::Op;
+use seq_memory::ReplyRef;
+use tlp_core::OpRef;
 
 /// What the byte at a place of the memory has to be.
 #[derive(Clone, Copy, Debug, PartialEq, Eq)]
@@ -23,14 +23,15 @@ pub struct Need {
 }
 
 /// What the byte at place `at` of the operation's range has to be for that reply.
-fn need_for(base: u64, op: &Op, reply: &Reply, at: usize) -> Option<Need>
+fn need_for(base: u64, op: &OpRef<'_>, reply: &ReplyRef<'_>, at: usize) -> Option<Need>
     ensures place { IfSome result (λ n. base + n.place ≡ address_of op.now + at) }
     ensures value { IfSome result (λ n. (block : ℕ) (m : List ℕ) → answer base block m op.now ≡ reply.now → slice_index m n.place ≡ n.value) }
 {
     what_is_needed_is_there();
-    let Reply::Data(data) = reply else {
+    let ReplyRef::Data(data) = reply else {
         return None;
     };
+    let data = data.as_slice();
     let address = op.address();
     if address < base || at >= data.len() || !is_needed(op, at) {
         return None;
@@ -43,7 +44,7 @@ fn need_for(base: u64, op: &Op, reply: &Reply, at: usize) -> Option<Need>
 }
 
 /// [`need_for`], if the operation was answered.
-fn need_of(base: u64, op: &Op, told: Option<&Reply>, at: usize) -> Option<Need>
+fn need_of(base: u64, op: &OpRef<'_>, told: Option<&ReplyRef<'_>>, at: usize) -> Option<Need>
     ensures place { IfSome result (λ n. base + n.place ≡ address_of op.now + at) }
     ensures value { IfSome result (λ n. (block : ℕ) (m : List ℕ) → Agrees base block m op.now (told_of told.entry) → slice_index m n.place ≡ n.value) }
 {
@@ -60,13 +61,13 @@ pub fn need_at(log: &Log, q: usize, at: usize) -> Option<Need>
     ensures needs { IfSome result (λ n. NeedsByte log.now q n.place n.value) }
 {
     match log.event(q) {
-        Some(Event::Sub { op, reply, .. }) => need_of(log.extent().base(), op, reply, at),
+        Some(Event::Sub { op, reply, .. }) => need_of(log.extent().base(), &op, reply.as_ref(), at),
         _ => None,
     }
 }
 
 /// Right after the operation the byte is as it has to be only if it was before.
-fn keeps_byte(log: &Log, op: &Op, told: Option<&Reply>, need: Need) -> bool
+fn keeps_byte(log: &Log, op: &OpRef<'_>, told: Option<&ReplyRef<'_>>, need: Need) -> bool
     ensures { IsTrue result → (m : List ℕ) → Answers log.now.extent m op.now (told_of told.entry) →
         slice_index (bytes_after log.now.extent m op.now) need.place ≡ need.value → slice_index m need.place ≡ need.value }
 {
@@ -82,7 +83,7 @@ pub fn never_puts(log: &Log, b: usize, need: Need) -> bool
     ensures { IsTrue result → NeverPuts log.now b need.place need.value }
 {
     match log.event(b) {
-        Some(Event::Sub { op, reply, .. }) => keeps_byte(log, op, reply, need),
+        Some(Event::Sub { op, reply, .. }) => keeps_byte(log, &op, reply.as_ref(), need),
         Some(Event::Due { .. }) => true,
         Some(Event::Free) => true,
         None => false,

@@ -13,12 +13,18 @@ ghost use Rattle.search_rules.specs.Rules.{Answers, Suits, Ends, NeverBrings, Yi
 use crate::junk::is_served;
 use log_runs::{Event, Log};
 use search_effects::{are_apart, waits};
-use seq_memory::Reply;
+use seq_memory::ReplyRef;
 use seq_memory::laws::refused_and_read_change_nothing;
-use tlp_core::Op;
+use tlp_core::OpRef;
 
 /// Right after the first operation the memory suits the second only if it did before.
-fn keeps_out(block: u16, one: &Op, told: Option<&Reply>, other: &Op, asked: Option<&Reply>) -> bool
+fn keeps_out(
+    block: u16,
+    one: &OpRef<'_>,
+    told: Option<&ReplyRef<'_>>,
+    other: &OpRef<'_>,
+    asked: Option<&ReplyRef<'_>>,
+) -> bool
     requires { IsBlock block }
     ensures { IsTrue result → (base : ℕ) (m : List ℕ) → Agrees base block m one.now (told_of told.entry) →
         Agrees base block (after base block m one.now) other.now (told_of asked.entry) → Agrees base block m other.now (told_of asked.entry) }
@@ -30,13 +36,13 @@ fn keeps_out(block: u16, one: &Op, told: Option<&Reply>, other: &Op, asked: Opti
 }
 
 /// Right after the operation the memory suits request `q` only if it did before.
-fn never_brings_by(log: &Log, one: &Op, told: Option<&Reply>, q: usize) -> bool
+fn never_brings_by(log: &Log, one: &OpRef<'_>, told: Option<&ReplyRef<'_>>, q: usize) -> bool
     ensures { IsTrue result → (m : List ℕ) → Answers log.now.extent m one.now (told_of told.entry) →
         Suits log.now.extent (bytes_after log.now.extent m one.now) (slice_get log.now.events q) → Suits log.now.extent m (slice_get log.now.events q) }
 {
     match log.event(q) {
         Some(Event::Sub { op, reply, .. }) => {
-            keeps_out(log.extent().block(), one, told, op, reply)
+            keeps_out(log.extent().block(), one, told, &op, reply.as_ref())
         }
         _ => false,
     }
@@ -47,7 +53,7 @@ pub fn never_brings(log: &Log, b: usize, q: usize) -> bool
     ensures { IsTrue result → NeverBrings log.now b q }
 {
     match log.event(b) {
-        Some(Event::Sub { op, reply, .. }) => never_brings_by(log, op, reply, q),
+        Some(Event::Sub { op, reply, .. }) => never_brings_by(log, &op, reply.as_ref(), q),
         Some(Event::Due { .. }) => true,
         Some(Event::Free) => true,
         None => false,
@@ -56,7 +62,13 @@ pub fn never_brings(log: &Log, b: usize, q: usize) -> bool
 
 /// [`keeps_out`]; and where the memory suits both, it doesn't suit the second right after the first,
 /// or their order makes no difference.
-fn gives_way(block: u16, one: &Op, told: Option<&Reply>, other: &Op, asked: Option<&Reply>) -> bool
+fn gives_way(
+    block: u16,
+    one: &OpRef<'_>,
+    told: Option<&ReplyRef<'_>>,
+    other: &OpRef<'_>,
+    asked: Option<&ReplyRef<'_>>,
+) -> bool
     requires { IsBlock block }
     ensures brings { IsTrue result → (base : ℕ) (m : List ℕ) → Agrees base block m one.now (told_of told.entry) →
         Agrees base block (after base block m one.now) other.now (told_of asked.entry) → Agrees base block m other.now (told_of asked.entry) }
@@ -75,7 +87,7 @@ fn gives_way(block: u16, one: &Op, told: Option<&Reply>, other: &Op, asked: Opti
 
 /// [`never_brings_by`]; and where the memory suits both, it doesn't suit request `q` right after the
 /// operation, or their order makes no difference.
-fn yields_by(log: &Log, one: &Op, told: Option<&Reply>, q: usize) -> bool
+fn yields_by(log: &Log, one: &OpRef<'_>, told: Option<&ReplyRef<'_>>, q: usize) -> bool
     ensures brings { IsTrue result → (m : List ℕ) → Answers log.now.extent m one.now (told_of told.entry) →
         Suits log.now.extent (bytes_after log.now.extent m one.now) (slice_get log.now.events q) → Suits log.now.extent m (slice_get log.now.events q) }
     ensures order { IsTrue result → (m : List ℕ) → Answers log.now.extent m one.now (told_of told.entry) →
@@ -84,7 +96,7 @@ fn yields_by(log: &Log, one: &Op, told: Option<&Reply>, q: usize) -> bool
 {
     match log.event(q) {
         Some(Event::Sub { op, reply, .. }) => {
-            gives_way(log.extent().block(), one, told, op, reply)
+            gives_way(log.extent().block(), one, told, &op, reply.as_ref())
         }
         _ => false,
     }
@@ -97,7 +109,7 @@ pub fn yields(log: &Log, b: usize, q: usize) -> bool
     ensures order { IsTrue result → Yields log.now b q }
 {
     match log.event(b) {
-        Some(Event::Sub { op, reply, .. }) => yields_by(log, op, reply, q),
+        Some(Event::Sub { op, reply, .. }) => yields_by(log, &op, reply.as_ref(), q),
         Some(Event::Due { .. }) => true,
         Some(Event::Free) => true,
         None => false,
@@ -105,7 +117,7 @@ pub fn yields(log: &Log, b: usize, q: usize) -> bool
 }
 
 /// The operation isn't served, or changes nothing where the memory answers it so.
-fn is_quiet(log: &Log, op: &Op, told: Option<&Reply>) -> bool
+fn is_quiet(log: &Log, op: &OpRef<'_>, told: Option<&ReplyRef<'_>>) -> bool
     ensures { IsTrue result → (m : List ℕ) → length m ≡ log.now.extent.size → Answers log.now.extent m op.now (told_of told.entry) →
         bytes_after log.now.extent m op.now ≡ m }
 {
@@ -121,13 +133,19 @@ pub fn changes_nothing(log: &Log, q: usize) -> bool
     ensures { IsTrue result → ChangesNothing log.now q }
 {
     match log.event(q) {
-        Some(Event::Sub { op, reply, .. }) => is_quiet(log, op, reply),
+        Some(Event::Sub { op, reply, .. }) => is_quiet(log, &op, reply.as_ref()),
         _ => false,
     }
 }
 
 /// The operations have no byte in common, or the first waits till the bytes of the second aren't these.
-fn goes_behind(base: u64, bytes: &[u8], one: &Op, told: Option<&Reply>, other: &Op) -> bool
+fn goes_behind(
+    base: u64,
+    bytes: &[u8],
+    one: &OpRef<'_>,
+    told: Option<&ReplyRef<'_>>,
+    other: &OpRef<'_>,
+) -> bool
     ensures { IsTrue result →
         AreApart one.now other.now ⊎
         ((block : ℕ) (n : List ℕ) → AreSameAt base other.now bytes.now n → Agrees base block n one.now (told_of told.entry) → ⊥) }
@@ -139,13 +157,19 @@ fn goes_behind(base: u64, bytes: &[u8], one: &Op, told: Option<&Reply>, other: &
 }
 
 /// The operation has no byte of request `q`, or waits till those bytes aren't these.
-fn lets_first_by(log: &Log, bytes: &[u8], one: &Op, told: Option<&Reply>, q: usize) -> bool
+fn lets_first_by(
+    log: &Log,
+    bytes: &[u8],
+    one: &OpRef<'_>,
+    told: Option<&ReplyRef<'_>>,
+    q: usize,
+) -> bool
     ensures { IsTrue result → (j : ℕ) (other : Op) (asked : Option Reply) → slice_get log.now.events q ≡ Some (events.Sub j other asked) →
         AreApart one.now other ⊎
         ((n : List ℕ) → AreSameAt log.now.extent.base other bytes.now n → Answers log.now.extent n one.now (told_of told.entry) → ⊥) }
 {
     match log.event(q) {
-        Some(Event::Sub { op, .. }) => goes_behind(log.extent().base(), bytes, one, told, op),
+        Some(Event::Sub { op, .. }) => goes_behind(log.extent().base(), bytes, one, told, &op),
         _ => false,
     }
 }
@@ -155,7 +179,7 @@ fn lets_before(log: &Log, bytes: &[u8], b: usize, q: usize) -> bool
     ensures { IsTrue result → LetsFirst log.now bytes.now b q }
 {
     match log.event(b) {
-        Some(Event::Sub { op, reply, .. }) => lets_first_by(log, bytes, op, reply, q),
+        Some(Event::Sub { op, reply, .. }) => lets_first_by(log, bytes, &op, reply.as_ref(), q),
         Some(Event::Due { .. }) => true,
         Some(Event::Free) => true,
         None => false,

@@ -13,77 +13,57 @@ use crate::columns::column_of;
 use crate::ends::{End, Name, closed_end, open_end};
 use crate::page::Page;
 use arrayvec::ArrayString;
-use history_words::Record;
+use history_words::{AsClaim, RecordRef};
 use operation_text::write_op;
 use search_history::Before;
 use search_picture::{Request, Role};
-use seq_memory::Entry;
 use std::alloc::{AllocError, Global};
-use tlp_core::Op;
+use tlp_core::OpRef;
+use trace_store::{Records, TraceStore};
 
 /// How many entries of a history are looked at, at most.
 const ENTRIES: usize = 1_000_000_000;
 
 /// A request as it was submitted.
-#[derive(Clone, Copy)]
+#[derive(Drop)]
 struct Asked<'a> {
     name: Name,
-    op: &'a Op,
+    op: OpRef<'a>,
 }
 
-/// The request that the record submits.
-fn asked_by<'a>(item: &'a Record) -> Option<Asked<'a>>
-    ensures { IfSome result (λ a. (n : ℕ) × (item.now ≡ kinds.Sub a.name.requester a.name.number a.op.now n)) }
+/// The request that the record at the place submits.
+fn asked_at<'a>(records: &Records<'a>, place: usize) -> Option<Asked<'a>>
+    ensures { IfSome result (λ a. (n : ℕ) × (slice_get records.now place ≡ Some (kinds.Sub a.name.requester a.name.number a.op n))) }
 {
-    match item {
-        Record::Sub {
+    match records.get(place)? {
+        RecordRef::Sub {
             requester,
             number,
             op,
             ..
         } => Some(Asked {
-            name: Name {
-                requester: *requester,
-                number: *number,
-            },
+            name: Name { requester, number },
             op,
         }),
-        Record::Ans { .. } => None,
+        RecordRef::Ans { .. } => None,
     }
-}
-
-/// The request that the record at the place submits.
-fn asked_at<'a>(records: &'a [Record], place: usize) -> Option<Asked<'a>>
-    ensures { IfSome result (λ a. (n : ℕ) × (slice_get records.now place ≡ Some (kinds.Sub a.name.requester a.name.number a.op.now n))) }
-{
-    match records.get(place) {
-        Some(record) => asked_by(record),
-        None => None,
-    }
-}
-
-/// The entry is the request's.
-fn is_of(entry: &Entry, name: Name) -> bool
-    ensures { result ≡ true → (op : Op) × (entry.now ≡ record { requester = name.requester; number = name.number; op = op }) }
-{
-    entry.requester == name.requester && entry.number == name.number
 }
 
 /// The entry at the place is the request's.
-fn is_at(history: &[Entry], place: u32, name: Name) -> bool
-    ensures { result ≡ true → IsPlaced history.now name.requester name.number place }
+fn is_at(history: &TraceStore, place: u32, name: Name) -> bool
+    ensures { result ≡ true → IsPlaced history.now.memory.entries name.requester name.number place }
 {
-    match history.get(place as usize) {
-        Some(entry) => is_of(entry, name),
+    match history.request(place as usize) {
+        Some((requester, number)) => requester == name.requester && number == name.number,
         None => false,
     }
 }
 
 /// The place of the request in the history.
-fn place_in(history: &[Entry], name: Name) -> Option<u32>
-    ensures { IfSome result (IsPlaced history.now name.requester name.number) }
+fn place_in(history: &TraceStore, name: Name) -> Option<u32>
+    ensures { IfSome result (IsPlaced history.now.memory.entries name.requester name.number) }
 {
-    let count = history.len().min(ENTRIES) as u32;
+    let count = history.entries().min(ENTRIES) as u32;
     for place in 0..count {
         if is_at(history, place, name) {
             return Some(place);
@@ -93,11 +73,11 @@ fn place_in(history: &[Entry], name: Name) -> Option<u32>
 }
 
 /// The text of an operation.
-fn words_of(alloc: Global, op: &Op) -> Result<Vec<u8>, AllocError>
+fn words_of(alloc: Global, op: &OpRef<'_>) -> Result<Vec<u8>, AllocError>
     ensures { IfOk result (λ v. v.items ≡ op_text op.now) }
 {
     let mut text = ArrayString::new();
-    write_op(&op.lend(), &mut text);
+    write_op(op, &mut text);
     let mut words = Vec::new(alloc);
     words.extend_from_slice(text.as_bytes())?;
     Ok(words)
@@ -127,13 +107,13 @@ fn span_of(
     alloc: Global,
     page: &Page<'_>,
     before: &Option<Before>,
-    asked: Asked<'_>,
+    asked: &Asked<'_>,
     item: Chosen,
 ) -> Result<Option<Span>, AllocError>
     requires expected { IfSome before.now (λ b. IfSome b.expected (IsExpected page.now.trace b.count)) }
     requires few { length page.now.columns ≤ 40 }
-    requires asked { IsAskedAt page.now asked.name.requester asked.name.number asked.op.now item.request.submission }
-    ensures { IfOk result (λ o. IfSome o (IsSpan page.now asked.entry.name.requester asked.entry.name.number asked.entry.op.now item.request.submission)) }
+    requires asked { IsAskedAt page.now asked.now.name.requester asked.now.name.number asked.now.op item.request.submission }
+    ensures { IfOk result (λ o. IfSome o (IsSpan page.now asked.now.name.requester asked.now.name.number asked.now.op item.request.submission)) }
 {
     let Some(from) = column_of(page.columns, page.lines.of_record(item.request.submission)) else {
         return Ok(None);
@@ -148,7 +128,7 @@ fn span_of(
             None => Ok(None),
         },
         None => {
-            let end = open_end(alloc, page, asked.op)?;
+            let end = open_end(alloc, page, &asked.op)?;
             Ok(Some(Span {
                 from,
                 is_open: true,
@@ -162,14 +142,14 @@ fn span_of(
 fn bar_with(
     alloc: Global,
     page: &Page<'_>,
-    asked: Asked<'_>,
+    asked: &Asked<'_>,
     role: Role,
     span: Span,
 ) -> Result<Request, AllocError>
-    ensures { (place : ℕ) → IsSpan page.now asked.entry.name.requester asked.entry.name.number asked.entry.op.now place span → IfOk result (IsBar page.now) }
+    ensures { (place : ℕ) → IsSpan page.now asked.now.name.requester asked.now.name.number asked.now.op place span → IfOk result (IsBar page.now) }
 {
     let Span { from, is_open, end } = span;
-    let words = words_of(alloc, asked.op)?;
+    let words = words_of(alloc, &asked.op)?;
     let title = title_of(alloc, &words, &end.said)?;
     Ok(Request {
         requester: asked.name.requester,
@@ -195,14 +175,13 @@ fn bar_of(
     requires few { length page.now.columns ≤ 40 }
     ensures { IfOk result (λ o. IfSome o (IsBar page.now)) }
 {
-    let trace = page.trace;
-    let Some(asked) = asked_at(&trace.records, item.request.submission) else {
+    let Some(asked) = asked_at(&page.seen.records(), item.request.submission) else {
         return Ok(None);
     };
-    let Some(span) = span_of(alloc, page, before, asked, item)? else {
+    let Some(span) = span_of(alloc, page, before, &asked, item)? else {
         return Ok(None);
     };
-    let bar = bar_with(alloc, page, asked, item.role, span)?;
+    let bar = bar_with(alloc, page, &asked, item.role, span)?;
     Ok(Some(bar))
 }
 

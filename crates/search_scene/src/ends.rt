@@ -7,12 +7,12 @@ ghost use Rattle.search_scene.specs.Scenes.{IsAnswered, answered, briefly, unans
 use crate::columns::column_of;
 use crate::page::Page;
 use arrayvec::ArrayString;
-use log_events::reply_at;
+use log_requests::reply_at;
 use operation_text::{write_bytes, write_reply};
 use search_history::Before;
-use seq_memory::Reply;
+use seq_memory::ReplyRef;
 use std::alloc::{AllocError, Global};
-use tlp_core::Op;
+use tlp_core::OpRef;
 
 /// A request, by its requester and its number.
 #[derive(Clone, Copy)]
@@ -29,30 +29,34 @@ pub(crate) struct End {
 }
 
 /// Adds the text of a reply.
-fn put_reply(reply: &Reply, out: &mut Vec<u8>) -> Result<(), AllocError>
+fn put_reply(reply: &ReplyRef<'_>, out: &mut Vec<u8>) -> Result<(), AllocError>
     ensures { OnOk result (out.new.items ≡ out.old.items ++ reply_text reply.now) }
 {
     let mut text = ArrayString::new();
-    write_reply(&reply.lend(), &mut text);
+    write_reply(reply, &mut text);
     out.extend_from_slice(text.as_bytes())
 }
 
 /// Adds the data of a reply, or its text, if it has none.
-fn put_brief(reply: &Reply, out: &mut Vec<u8>) -> Result<(), AllocError>
+fn put_brief(reply: &ReplyRef<'_>, out: &mut Vec<u8>) -> Result<(), AllocError>
     ensures { OnOk result (out.new.items ≡ out.old.items ++ briefly reply.now) }
 {
     match reply {
-        Reply::Data(bytes) => {
+        ReplyRef::Data(bytes) => {
             let mut text = ArrayString::new();
             write_bytes(bytes.as_slice(), &mut text);
             out.extend_from_slice(text.as_bytes())
         }
-        Reply::Done | Reply::Unsupported | Reply::Aborted => put_reply(reply, out),
+        ReplyRef::Done | ReplyRef::Unsupported | ReplyRef::Aborted => put_reply(reply, out),
     }
 }
 
 /// What is said of an answer.
-fn said_of(alloc: Global, reply: &Reply, expected: Option<&Reply>) -> Result<Vec<u8>, AllocError>
+fn said_of(
+    alloc: Global,
+    reply: &ReplyRef<'_>,
+    expected: Option<&ReplyRef<'_>>,
+) -> Result<Vec<u8>, AllocError>
     ensures { IfOk result (λ v. v.items ≡ answered reply.now (option_map (λ r. r.now) expected.entry)) }
 {
     let mut said = Vec::new(alloc);
@@ -65,12 +69,16 @@ fn said_of(alloc: Global, reply: &Reply, expected: Option<&Reply>) -> Result<Vec
 }
 
 /// The reply that is expected in place of the one at the place, if it is known.
-fn expected_at<'a>(page: &Page<'_>, before: &'a Option<Before>, place: usize) -> Option<&'a Reply>
+fn expected_at<'a>(
+    page: &Page<'_>,
+    before: &'a Option<Before>,
+    place: usize,
+) -> Option<ReplyRef<'a>>
     requires { IfSome before.now (λ b. IfSome b.expected (IsExpected page.now.trace b.count)) }
-    ensures { IfSome result (λ r. IsExpected page.now.trace place r.now) }
+    ensures { IfSome result (IsExpected page.now.trace place) }
 {
     match before {
-        Some(known) if known.count == place => known.expected.as_ref(),
+        Some(known) if known.count == place => Some(known.expected.as_ref()?.lend()),
         _ => None,
     }
 }
@@ -87,19 +95,19 @@ pub(crate) fn closed_end(
     requires few { length page.now.columns ≤ 40 }
     ensures { IfOk result (λ o. IfSome o (λ e. IsAnswered page.now name.requester name.number e.to e.said.items)) }
 {
-    let trace = page.trace;
-    let Some(reply) = reply_at(&trace.records, Some(place), name.requester, name.number) else {
+    let records = page.seen.records();
+    let Some(reply) = reply_at(&records, place, name.requester, name.number) else {
         return Ok(None);
     };
     let Some(to) = column_of(page.columns, page.lines.of_record(place)) else {
         return Ok(None);
     };
-    let said = said_of(alloc, reply, expected_at(page, before, place))?;
+    let said = said_of(alloc, &reply, expected_at(page, before, place).as_ref())?;
     Ok(Some(End { to, said }))
 }
 
 /// What is said of a request without an answer.
-fn unanswered_words(op: &Op) -> &'static [u8]
+fn unanswered_words(op: &OpRef<'_>) -> &'static [u8]
     ensures { result.now ≡ unanswered op.now }
 {
     if op.is_posted() {
@@ -110,7 +118,7 @@ fn unanswered_words(op: &Op) -> &'static [u8]
 }
 
 /// The end of a bar that is open behind the last column.
-pub(crate) fn open_end(alloc: Global, page: &Page<'_>, op: &Op) -> Result<End, AllocError>
+pub(crate) fn open_end(alloc: Global, page: &Page<'_>, op: &OpRef<'_>) -> Result<End, AllocError>
     requires { length page.now.columns ≤ 40 }
     ensures to { IfOk result (λ e. e.to ≡ length page.now.columns) }
     ensures said { IfOk result (λ e. e.said.items ≡ unanswered op.now) }

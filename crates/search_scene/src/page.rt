@@ -1,16 +1,15 @@
 //! A log, and what a scene shows of it.
-use history_words::Trace;
-use seq_memory::Entry;
 use std::marker::Model;
 use trace_diagnostics::TraceLines;
+use trace_store::{RecordStore, TraceStore};
 
 /// A log and its lines, the lines that are columns, and a history.
 #[derive(Drop)]
 pub(crate) struct Page<'a> {
-    pub(crate) trace: &'a Trace,
+    pub(crate) seen: &'a RecordStore,
     pub(crate) lines: &'a TraceLines,
     pub(crate) columns: &'a [u64],
-    pub(crate) history: &'a [Entry],
+    pub(crate) history: &'a TraceStore,
 }
 
 impl<'a> Model for Page<'a> {
@@ -18,5 +17,5 @@ impl<'a> Model for Page<'a> {
 
     ghost Value = { Page };
 
-    ghost view = { λ p. record { trace = p.trace.now; lines = p.lines.now; columns = p.columns.now; history = p.history.now } };
+    ghost view = { λ p. record { trace = p.seen.now; lines = p.lines.now; columns = p.columns.now; history = p.history.now.memory.entries } };
 }

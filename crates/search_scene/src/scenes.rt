@@ -55,7 +55,7 @@ fn scene_for(
     reasons: &Reasons,
     limit: u64,
 ) -> Result<Scene, AllocError>
-    ensures { IfOk result (Shows case.entry.read.trace.now (case.entry.read.count - 1) (lines_in text.now)) }
+    ensures { IfOk result (Shows case.entry.read.seen.now (case.entry.read.count - 1) (lines_in text.now)) }
 {
     let told = reason_lines(alloc, text, case, reasons)?;
     let notes = notes_of(alloc, &told)?;
@@ -65,7 +65,7 @@ fn scene_for(
     let columns = columns_of(alloc, &lines, &chosen)?;
     let known = known_of(alloc, case, limit)?;
     let page = Page {
-        trace: case.read.trace,
+        seen: case.read.seen,
         lines: &lines,
         columns: &columns,
         history: &known.history,
@@ -87,7 +87,7 @@ fn scene_for(
 /// that are known of the records before the last one: the reply that is expected in its place, and a history of them.
 /// Fails where memory can't be allocated.
 pub fn scene_of(alloc: Global, text: &[u8], case: Case<'_>, limit: u64) -> Result<Scene, AllocError>
-    ensures { IfOk result (Shows case.entry.read.trace.now (case.entry.read.count - 1) (lines_in text.now)) }
+    ensures { IfOk result (Shows case.entry.read.seen.now (case.entry.read.count - 1) (lines_in text.now)) }
 {
     let reasons = reasons_of(alloc, case, limit)?;
     scene_for(alloc, text, case, &reasons, limit)

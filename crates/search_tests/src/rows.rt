@@ -2,7 +2,8 @@
 use search_history::{Sought, explained_before, search};
 use std::alloc::Global;
 use std::test::Fail;
-use trace_text::read_owned_trace;
+use trace_store::TraceStore;
+use trace_text::read_trace;
 
 /// What a search says of a log: whether a history is found, else the prefix that has none, and the
 /// one that has one.
@@ -121,16 +122,17 @@ fn told(alloc: Global, row: &Row) -> Result<bool, Fail> {
         "pciex-trace 2\nmemory 0 4096 64\n{}history\nend\n",
         row.records
     )?;
-    let Ok((mut trace, _)) = read_owned_trace(alloc, text.as_bytes()) else {
+    let Ok(read) = read_trace(alloc, text.as_bytes()) else {
         return Ok(false);
     };
-    match search(alloc, &mut trace, 1000)? {
-        (Sought::Found(_), _) => Ok(row.none.is_none()),
+    let mut store = TraceStore::of(alloc, read.into_seen());
+    match search(alloc, &mut store, 1000)? {
+        (Sought::Found, _) => Ok(row.none.is_none()),
         (Sought::None { prefix }, _) => {
-            if prefix > trace.records.len() {
+            if prefix > store.seen().len() {
                 return Ok(false);
             }
-            let explained = match explained_before(alloc, &trace, prefix, 1000)? {
+            let explained = match explained_before(alloc, store.seen(), prefix, 1000)? {
                 Some(before) => Some(before.count),
                 None => None,
             };

@@ -5,7 +5,7 @@ ghost use Rattle.seq_memory.specs.Limits.{IsBlock};
 ghost use Rattle.seq_memory.specs.Step as step;
 
 use seq_memory::Refusal;
-use tlp_core::{Op, OpRef, op_fault};
+use tlp_core::OpRef;
 
 /// Whether `count` bytes from `address` on lie in one block.
 #[tactic(auto, using(crate::proofs::Blocks::by_offset))]
@@ -51,28 +51,15 @@ fn refusal_at(base: u64, block: u16, size: usize, place: (u64, u32)) -> Option<R
 }
 
 /// Why the operation is not served, none where it is.
-pub fn refusal_lent(base: u64, block: u16, size: usize, op: &OpRef<'_>) -> Option<Refusal>
+pub fn refusal(base: u64, block: u16, size: usize, op: &OpRef<'_>) -> Option<Refusal>
     requires { IsBlock block }
     ensures value { result ≡ step.refusal base size block op.now }
+    ensures sound { IfNone result (op_fault op.now ≡ None) }
     ensures few { IfNone result (count_of op.now ≤ 128) }
     ensures low { IfNone result (base ≤ address_of op.now) }
     ensures high { IfNone result (address_of op.now + count_of op.now ≤ base + size) }
 {
     if op.fault().is_some() {
-        return Some(Refusal::Aborted);
-    }
-    refusal_at(base, block, size, (op.address(), op.size()))
-}
-
-/// As [`refusal_lent`], of an operation with bytes of its own.
-pub fn refusal(base: u64, block: u16, size: usize, op: &Op) -> Option<Refusal>
-    requires { IsBlock block }
-    ensures value { result ≡ step.refusal base size block op.now }
-    ensures few { IfNone result (count_of op.now ≤ 128) }
-    ensures low { IfNone result (base ≤ address_of op.now) }
-    ensures high { IfNone result (address_of op.now + count_of op.now ≤ base + size) }
-{
-    if op_fault(op).is_some() {
         return Some(Refusal::Aborted);
     }
     refusal_at(base, block, size, (op.address(), op.size()))

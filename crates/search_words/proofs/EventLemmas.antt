@@ -8,17 +8,22 @@ use Rattle.tlp_core.specs.Operation.{address_of, count_of}
 use Rattle.seq_memory.specs.Entries.{Reply}
 use Rattle.seq_memory.specs.Step.{after, answer}
 use Rattle.search_effects.specs.Effects.{Agrees, told_of}
-use Rattle.log_runs.specs.declared.Event.{Event}
-use Rattle.log_runs.specs.declared.Event.TheVariants as lent
+use Rattle.log_runs.specs.declared.log.Event.{Event}
+use Rattle.log_runs.specs.declared.log.Event.TheVariants as lent
 use Rattle.log_runs.specs.EventView.{EventView, event_of}
 use Rattle.log_runs.specs.EventView as events
 use Rattle.log_runs.specs.LogView.{LogView}
 use Rattle.search_rules.specs.Junk.{IsJunk, LeavesJunk, word}
 use Rattle.search_rules.specs.Rules.{IsJunkAt, LeavesJunkAt}
 
-pub sub_at : (es : List EventView) (b : ℕ) (r : Event) (i : ℕ) (op : Bor Op) (told : Option (Bor Reply)) → r ≡ lent.Sub i op told → Some (event_of r) ≡ slice_get es b
-    → slice_get es b ≡ Some (events.Sub i op.now (told_of told))
+pub sub_at : (es : List EventView) (b : ℕ) (r : Event) (i : ℕ) (op : Op) (told : Option Reply) → r ≡ lent.Sub i op told → Some (event_of r) ≡ slice_get es b
+    → slice_get es b ≡ Some (events.Sub i op told)
 sub_at es b r i op told is read = sym read ∙ ap (λ e. Some (event_of e)) is
+
+-- the same, with a reply that is lent
+pub sub_told : (es : List EventView) (b : ℕ) (r : Event) (i : ℕ) (op : Op) (told : Option Reply) (reply : Option (Bor Reply)) → r ≡ lent.Sub i op told → Some (event_of r) ≡ slice_get es b → told_of reply ≡ told
+    → slice_get es b ≡ Some (events.Sub i op (told_of reply))
+sub_told es b r i op told reply is read e = sub_at es b r i op told is read ∙ ap (λ t. Some (events.Sub i op t)) (sym e)
 
 -- ---- places
 

@@ -15,7 +15,7 @@ use crate::words::{Words, left_at, needed_at, number_of, place_of, value_in};
 use log_runs::{Event, Log};
 use search_effects::laws::what_takes_a_reply_away_yields;
 use search_rules::is_served;
-use tlp_core::Op;
+use tlp_core::OpRef;
 
 /// Requests in four lists. One may be in several of them.
 #[derive(Clone, Copy)]
@@ -111,7 +111,7 @@ fn near_by_left(words: &Words, stretch: Stretch, value: u64) -> Near<'_>
 }
 
 /// The operation's range has all of the word.
-fn has_word(base: u64, op: &Op, word: u64) -> bool
+fn has_word(base: u64, op: &OpRef<'_>, word: u64) -> bool
     ensures { IsTrue result → HasWord base op.now word }
 {
     place_of(base, op, word).is_some()
@@ -139,7 +139,7 @@ fn found_of(log: &Log, bytes: &[u8], q: usize, word: u64) -> Option<u64>
     let Some(Event::Sub { op, .. }) = log.event(q) else {
         return None;
     };
-    if !has_word(extent.base(), op, word) {
+    if !has_word(extent.base(), &op, word) {
         return None;
     }
     let value = value_in(bytes, (4 * word) as usize)?;
@@ -154,17 +154,13 @@ fn need_of(log: &Log, q: usize, word: u64) -> Option<u64>
     ensures words { IfSome result (λ v. word < 262144) }
 {
     let _extent = log.extent();
-    let Some(
-        Event::Sub {
-            op,
-            reply: Some(reply),
-            ..
-        },
-    ) = log.event(q)
-    else {
+    let Some(Event::Sub { op, reply, .. }) = log.event(q) else {
         return None;
     };
-    let value = needed_at(log, op, Some(reply), word)?;
+    let Some(reply) = reply else {
+        return None;
+    };
+    let value = needed_at(log, &op, Some(&reply), word)?;
     Some(value)
 }
 
@@ -179,10 +175,10 @@ fn left_of(log: &Log, g: usize, word: u64) -> Option<u64>
     let Some(Event::Sub { op, reply, .. }) = log.event(g) else {
         return None;
     };
-    if !is_served(log, op) {
+    if !is_served(log, &op) {
         return None;
     }
-    let value = left_at(log, op, reply, word)?;
+    let value = left_at(log, &op, reply.as_ref(), word)?;
     Some(value)
 }
 

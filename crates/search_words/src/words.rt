@@ -21,11 +21,11 @@ use log_runs::{Event, Log};
 use search_effects::laws::what_is_needed_is_there;
 use search_effects::{is_needed, is_put, left};
 use search_rules::overlooks;
-use seq_memory::Reply;
+use seq_memory::ReplyRef;
 use seq_memory::laws::refused_and_read_change_nothing;
 use std::alloc::{AllocError, Global};
 use std::marker::Model;
-use tlp_core::Op;
+use tlp_core::OpRef;
 
 /// How many bytes a request has at most that is known at each of its words.
 const MOST_BYTES: u32 = 128;
@@ -59,7 +59,7 @@ impl Model for Words {
 }
 
 /// Where in the operation's range the word begins, if all of it is there.
-pub(crate) fn place_of(base: u64, op: &Op, word: u64) -> Option<usize>
+pub(crate) fn place_of(base: u64, op: &OpRef<'_>, word: u64) -> Option<usize>
     ensures low { IfSome result (λ at. base ≤ address_of op.now) }
     ensures place { IfSome result (λ at. address_of op.now + at ≡ base + 4 * word) }
     ensures whole { IfSome result (λ at. at + 4 ≤ count_of op.now) }
@@ -103,7 +103,7 @@ pub(crate) fn value_in(bytes: &[u8], at: usize) -> Option<u64>
 }
 
 /// The operation needs the four bytes from that place of its range on.
-fn needs_four(op: &Op, at: usize) -> bool
+fn needs_four(op: &OpRef<'_>, at: usize) -> bool
     requires { at < 1048576 }
     ensures { IsTrue result → (i : ℕ) → i < 4 → effects.is_needed op.now (at + i) ≡ true }
 {
@@ -111,7 +111,7 @@ fn needs_four(op: &Op, at: usize) -> bool
 }
 
 /// The operation writes the four bytes from that place of its range on.
-fn puts_four(op: &Op, at: usize) -> bool
+fn puts_four(op: &OpRef<'_>, at: usize) -> bool
     requires { at < 1048576 }
     ensures { IsTrue result → (i : ℕ) → i < 4 → effects.is_put op.now (at + i) ≡ true }
 {
@@ -119,7 +119,7 @@ fn puts_four(op: &Op, at: usize) -> bool
 }
 
 /// What the operation, which was answered with these bytes, needs at the word, if it needs all of it.
-fn needed_in(base: u64, op: &Op, seen: &[u8], word: u64) -> Option<u64>
+fn needed_in(base: u64, op: &OpRef<'_>, seen: &[u8], word: u64) -> Option<u64>
     ensures needs { IfSome result (λ v. (m : List ℕ) →
         ((at : ℕ) → effects.is_needed op.now at ≡ true → at < length seen.now → slice_index m (address_of op.now - base + at) ≡ slice_index seen.now at) →
         value_in m (4 * word) ≡ v) }
@@ -134,19 +134,24 @@ fn needed_in(base: u64, op: &Op, seen: &[u8], word: u64) -> Option<u64>
 }
 
 /// What the request needs at the word, if it needs all of it.
-pub(crate) fn needed_at(log: &Log, op: &Op, told: Option<&Reply>, word: u64) -> Option<u64>
+pub(crate) fn needed_at(
+    log: &Log,
+    op: &OpRef<'_>,
+    told: Option<&ReplyRef<'_>>,
+    word: u64,
+) -> Option<u64>
     ensures needs { IfSome result (NeedsWord log.now.extent op.now (told_of told.entry) word) }
     ensures few { IfSome result (λ v. v < 4294967296) }
 {
     what_is_needed_is_there();
     match told {
-        Some(Reply::Data(data)) => needed_in(log.extent().base(), op, data.as_slice(), word),
+        Some(ReplyRef::Data(data)) => needed_in(log.extent().base(), op, data.as_slice(), word),
         _ => None,
     }
 }
 
 /// What the operation puts at the word, if it puts all of it: `new` is what it leaves in its range.
-fn put_in(base: u64, op: &Op, new: &[u8], word: u64) -> Option<u64>
+fn put_in(base: u64, op: &OpRef<'_>, new: &[u8], word: u64) -> Option<u64>
     ensures puts { IfSome result (λ v. (m : List ℕ) →
         ((at : ℕ) → at < length new.now → effects.is_put op.now at ≡ true → slice_index m (address_of op.now - base + at) ≡ slice_index new.now at) →
         value_in m (4 * word) ≡ v) }
@@ -161,7 +166,12 @@ fn put_in(base: u64, op: &Op, new: &[u8], word: u64) -> Option<u64>
 }
 
 /// What the request puts at the word, if it puts all of it and that is known.
-pub(crate) fn put_at(log: &Log, op: &Op, told: Option<&Reply>, word: u64) -> Option<u64>
+pub(crate) fn put_at(
+    log: &Log,
+    op: &OpRef<'_>,
+    told: Option<&ReplyRef<'_>>,
+    word: u64,
+) -> Option<u64>
     ensures leaves { IfSome result (LeavesWord log.now.extent op.now (told_of told.entry) word) }
     ensures few { IfSome result (λ v. v < 4294967296) }
 {
@@ -171,19 +181,24 @@ pub(crate) fn put_at(log: &Log, op: &Op, told: Option<&Reply>, word: u64) -> Opt
 }
 
 /// What the request leaves at the word, if that is known.
-pub(crate) fn left_at(log: &Log, op: &Op, told: Option<&Reply>, word: u64) -> Option<u64>
+pub(crate) fn left_at(
+    log: &Log,
+    op: &OpRef<'_>,
+    told: Option<&ReplyRef<'_>>,
+    word: u64,
+) -> Option<u64>
     ensures leaves { IfSome result (LeavesWord log.now.extent op.now (told_of told.entry) word) }
     ensures few { IfSome result (λ v. v < 4294967296) }
 {
     refused_and_read_change_nothing();
     match op {
-        Op::Read { .. } => needed_at(log, op, told, word),
+        OpRef::Read { .. } => needed_at(log, op, told, word),
         _ => put_at(log, op, told, word),
     }
 }
 
 /// The operation's range is whole words of the memory.
-fn has_whole_words(log: &Log, op: &Op) -> bool
+fn has_whole_words(log: &Log, op: &OpRef<'_>) -> bool
     ensures { IsTrue result → HasWholeWords log.now.extent.base op.now }
 {
     match op.address().checked_sub(log.extent().base()) {
@@ -193,7 +208,7 @@ fn has_whole_words(log: &Log, op: &Op) -> bool
 }
 
 /// The request names whole words, and it makes no difference to it what stands there.
-fn is_careless(log: &Log, op: &Op, told: Option<&Reply>) -> bool
+fn is_careless(log: &Log, op: &OpRef<'_>, told: Option<&ReplyRef<'_>>) -> bool
     ensures { IsTrue result → IsCareless log.now.extent op.now (told_of told.entry) }
 {
     has_whole_words(log, op) && overlooks(log, op, told, op)
@@ -203,8 +218,8 @@ fn is_careless(log: &Log, op: &Op, told: Option<&Reply>) -> bool
 #[derive(Clone, Copy)]
 struct Request<'a> {
     b: usize,
-    op: &'a Op,
-    told: Option<&'a Reply>,
+    op: &'a OpRef<'a>,
+    told: Option<&'a ReplyRef<'a>>,
 }
 
 /// A request of a log, and whether it is careless.
@@ -377,8 +392,8 @@ impl Words {
             Some(Event::Sub { op, reply, .. }) => {
                 let request = Request {
                     b: at,
-                    op,
-                    told: reply,
+                    op: &op,
+                    told: reply.as_ref(),
                 };
                 self.add_request(alloc, log, request)?;
             }
@@ -400,7 +415,7 @@ impl Words {
 }
 
 /// The words of the memory from the first up to the end of those that have bytes of the operation.
-fn words_near(log: &Log, op: &Op) -> (u64, u64)
+fn words_near(log: &Log, op: &OpRef<'_>) -> (u64, u64)
     ensures few { result.1 ≤ 262144 }
     ensures all { (w : ℕ) → Touches log.now.extent.base op.now w → w < log.now.extent.size / 4 → (result.0 ≤ w) × (w < result.1) }
 {

@@ -16,7 +16,7 @@ use crate::options::StepOptions;
 use arrayvec::ArrayString;
 use fabric_core::{ANSWER_ROOM, Config, ConfigFault, EventRef, Fabric, Refusal, SeenRef};
 use fabric_settle::{happen, settle};
-use history_words::Record;
+use history_words::{Claim, Record};
 use line_loop::{EngineFault, Verdict};
 use requester_core::Answer;
 use script_text::{
@@ -435,7 +435,11 @@ impl Stepper {
             return Ok(Verdict::Fine);
         };
         let trace = fabric.trace_of(records);
-        tell_trace(self.alloc, &trace, fabric.history(), out)
+        let claim = Claim {
+            trace: &trace,
+            history: fabric.history(),
+        };
+        tell_trace(self.alloc, &claim, out)
     }
 }
 

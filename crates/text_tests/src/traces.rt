@@ -203,9 +203,7 @@ const SECOND: &str =
 
 /// The text that is written of what is read.
 fn rewritten(alloc: Global, text: &[u8]) -> Option<String> {
-    let claim = read_trace(alloc, text).ok()?;
-    let (trace, history) = claim.to_owned(alloc).ok()?;
-    write_trace(alloc, &trace, history.as_slice()).ok()
+    write_trace(alloc, &read_trace(alloc, text).ok()?).ok()
 }
 
 /// Whether the text is read, and written as the second.

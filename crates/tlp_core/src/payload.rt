@@ -1,5 +1,7 @@
 //! The bytes of a payload, owned and lent.
-ghost use Rattle.std.specs.Prelude.{◌≡◌, ◌≤◌, length};
+ghost use Rattle.std.specs.Prelude.{◌≡◌, ◌≤◌, length, nat_eq};
+ghost use Rattle.std.specs.Cmp.{on_per, partial_equiv_from_equiv};
+ghost use Rattle.std.specs.Cmp.Lexicographic.{pointwise, nat_list_eq_equiv};
 ghost use Rattle.arrayvec.specs.ArrayVec.{array_vec_len};
 
 use crate::packet::MAX_PAYLOAD;
@@ -61,6 +63,17 @@ impl<'a> PayloadRef<'a> {
         ensures { result ≡ self.now }
     {
         payload_of(self.bytes)
+    }
+}
+
+impl<'a> PartialEq for PayloadRef<'a> {
+    ghost eq = { λ v w. pointwise nat_eq v.items w.items };
+
+    ghost laws = { on_per (λ v. v.items) (partial_equiv_from_equiv nat_list_eq_equiv) };
+
+    #[inline(always)]
+    fn eq(&self, other: &Self) -> bool {
+        self.bytes == other.bytes
     }
 }
 

@@ -1,6 +1,5 @@
 //! What the subcommands that read a trace share.
 ghost use Rattle.std.specs.Prelude.{◌≡◌, ◌++◌, ◌∷◌, [], IfOk, IfErr, OnErr, OnOk, Ok, Err};
-ghost use Rattle.history_words.specs.Claim.{claim_of};
 ghost use Rattle.trace_text.specs.Texts.{trace_text};
 ghost use Rattle.trace_text.specs.TraceReaderView.{nothing_read, after_line, after_long_line, at_end};
 ghost use Rattle.record_text.specs.Names.{fault_line};
@@ -8,10 +7,9 @@ ghost use Rattle.trace_diagnostics.specs.Told.{first_of};
 ghost use Rattle.trace_engine.specs.Reasons.{faulty_line};
 
 use arrayvec::ArrayString;
-use history_words::{AsClaim, Flaw, Trace};
+use history_words::{AsClaim, Flaw};
 use line_loop::Verdict;
 use record_text::{ReadFault, write_fault};
-use seq_memory::Entry;
 use std::alloc::{AllocError, Global};
 use std::io::Write;
 use std::marker::Model;
@@ -138,16 +136,15 @@ pub(crate) fn hand_over(text: Vec<u8>, out: &mut Vec<u8>) -> Result<(), AllocErr
 }
 
 /// Adds the text of the trace and its history.
-pub fn tell_trace(
+pub fn tell_trace<C: AsClaim>(
     alloc: Global,
-    trace: &Trace,
-    history: &[Entry],
+    claim: &C,
     out: &mut Vec<u8>,
 ) -> Result<Verdict, AllocError>
-    ensures ok { IfOk result (λ verdict. (verdict ≡ Verdict.Fine) × (out.new.items ≡ out.old.items ++ trace_text (claim_of trace.now history.now))) }
+    ensures ok { IfOk result (λ verdict. (verdict ≡ Verdict.Fine) × (out.new.items ≡ out.old.items ++ trace_text (C.claim claim.now))) }
     ensures err { OnErr result (out.new.items ≡ out.old.items) }
 {
-    let text = write_trace(alloc, trace, history)?;
+    let text = write_trace(alloc, claim)?;
     hand_over(text.into_bytes(), out)?;
     Ok(Verdict::Fine)
 }

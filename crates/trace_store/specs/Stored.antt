@@ -1,11 +1,10 @@
 -- Records and entries whose bytes stand in a list with those of others.
 use Rattle.std.specs.Prelude.{ℕ, List, map}
-use Rattle.std.specs.List.{All}
 use Rattle.seq_memory.specs.Entries.{Entry}
 use Rattle.seq_memory.specs.Limits.{Extent}
 use Rattle.history_words.specs.Records.{Record}
 use Rattle.history_words.specs.declared.record.RecordOf.TheVariants as records
-use Rattle.history_words.specs.Claim.{Claim}
+use Rattle.history_words.specs.TraceView.{TraceView}
 use Rattle.trace_store.specs.declared.kept.Fields.{Fields}
 use Rattle.trace_store.specs.declared.stored.StoredRecord.{StoredRecord}
 use Rattle.trace_store.specs.declared.stored.StoredEntry.{StoredEntry}
@@ -39,14 +38,6 @@ HasRecord bytes h = HasKind bytes h.fields h.kind
 abbrev pub HasEntry : List ℕ → StoredEntry → Type 0
 HasEntry bytes h = HasOp bytes h.kind h.fields
 
--- the trace and the history that are kept
-abbrev pub claim_in : Extent → List ℕ → List StoredRecord → List StoredEntry → Claim
-claim_in x bytes rs es = record {
-  memory = record { base = x.base; size = x.size; block = x.block; entries = map (entry_in bytes) es };
-  records = map (record_in bytes) rs;
-}
-
--- the list has the bytes of all
-pub record HasAll (bytes : List ℕ) (rs : List StoredRecord) (es : List StoredEntry) : Type 0 where
-  pub records : All (HasRecord bytes) rs
-  pub entries : All (HasEntry bytes) es
+-- what requesters saw, as it is kept
+abbrev pub seen_in : Extent → List ℕ → List StoredRecord → TraceView
+seen_in x bytes rs = record { base = x.base; size = x.size; block = x.block; records = map (record_in bytes) rs }

@@ -17,17 +17,25 @@ fn are_same(left: &[u8], right: &[u8]) -> bool
     }
 }
 
+/// An operation as it is kept.
+#[derive(Clone, Copy)]
+pub(crate) struct KeptOp<'a> {
+    pub bytes: &'a [u8],
+    pub kind: OpKind,
+    pub fields: &'a Fields,
+}
+
 /// The same operation, as both are kept.
 #[inline(always)]
-pub(crate) fn is_same_op(bytes: &[u8], left: (OpKind, &Fields), right: (OpKind, &Fields)) -> bool
-    requires left { HasOp bytes.now left.0 left.1.now }
-    requires right { HasOp bytes.now right.0 right.1.now }
-    ensures { result ≡ flaw.same_op (op_in bytes.now left.entry.0 left.entry.1.now) (op_in bytes.now right.entry.0 right.entry.1.now) }
+pub(crate) fn is_same_op(left: KeptOp<'_>, right: KeptOp<'_>) -> bool
+    requires left { HasOp left.bytes.now left.kind left.fields.now }
+    requires right { HasOp right.bytes.now right.kind right.fields.now }
+    ensures { result ≡ flaw.same_op (op_in left.entry.bytes.now left.entry.kind left.entry.fields.now) (op_in right.entry.bytes.now right.entry.kind right.entry.fields.now) }
 {
-    let (kind, fields) = left;
-    let (other, others) = right;
+    let fields = left.fields;
+    let others = right.fields;
     let is_there = fields.address == others.address;
-    match (kind, other) {
+    match (left.kind, right.kind) {
         (OpKind::Read, OpKind::Read) => {
             is_there
                 && fields.count == others.count
@@ -38,17 +46,17 @@ pub(crate) fn is_same_op(bytes: &[u8], left: (OpKind, &Fields), right: (OpKind, 
             is_there
                 && fields.first == others.first
                 && fields.last == others.last
-                && are_same(bytes_of(bytes, fields), bytes_of(bytes, others))
+                && are_same(bytes_of(left.bytes, fields), bytes_of(right.bytes, others))
         }
         (OpKind::FetchAdd(width), OpKind::FetchAdd(size))
         | (OpKind::Swap(width), OpKind::Swap(size)) => {
             is_there
                 && width.size() == size.size()
-                && operand_in(bytes, fields) == operand_in(bytes, others)
+                && operand_in(left.bytes, fields) == operand_in(right.bytes, others)
         }
         (OpKind::Cas(width), OpKind::Cas(size)) => {
-            let (compare, swap) = operands_in(bytes, fields);
-            let (expected, put) = operands_in(bytes, others);
+            let (compare, swap) = operands_in(left.bytes, fields);
+            let (expected, put) = operands_in(right.bytes, others);
             is_there && width.size() == size.size() && compare == expected && swap == put
         }
         _ => false,

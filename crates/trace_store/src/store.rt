@@ -1,18 +1,17 @@
 //! The trace and the history.
-ghost use Rattle.std.specs.Prelude.{◌≡◌, [], ◌∷◌, ◌++◌, map, OnOk, OnErr, IfOk};
+ghost use Rattle.std.specs.Prelude.{◌≡◌, [], ◌∷◌, ◌++◌, map, None, OnOk, OnErr, IfOk, Some, set, slice_get};
 ghost use Rattle.std.specs.List.{All};
 ghost use Rattle.seq_memory.specs.History.{extent_of};
 ghost use Rattle.history_words.specs.declared.record.RecordOf.TheVariants as records;
 ghost use Rattle.history_words.specs.Claim.{claim_of};
-ghost use Rattle.history_words.specs.Flaws as flaw;
-ghost use Rattle.history_words.specs.Flaws.{at_place};
-ghost use Rattle.history_words.specs.Lookup.{is_told_at};
-ghost use Rattle.trace_store.specs.Kept.{op_in};
-ghost use Rattle.trace_store.specs.Stored.{record_in, entry_in, HasRecord, HasEntry};
+ghost use Rattle.history_words.specs.Records.{Record};
+ghost use Rattle.trace_store.specs.Changes.{entry_at, seen_by, with_n, with_reply};
+ghost use Rattle.trace_store.specs.Stored.{entry_in, HasEntry};
 
-use crate::kept::{EMPTY, keep_op, keep_reply};
-use crate::stored::{RecordKind, StoredEntry, StoredRecord};
-use history_words::{AsClaim, Record, RecordHeader, RecordRef, Trace};
+use crate::kept::{EMPTY, keep_op};
+use crate::seen::RecordStore;
+use crate::stored::StoredEntry;
+use history_words::{AsClaim, RecordHeader, RecordRef, Trace};
 use seq_memory::{Entry, EntryRef, Extent, ReplyData, ReplyRef};
 use std::alloc::{AllocError, Global};
 use std::marker::Model;
@@ -22,37 +21,23 @@ use tlp_core::OpRef;
 /// in the order in which the memory did them.
 #[derive(Drop)]
 pub struct TraceStore {
-    extent: Extent,
-    records: Vec<StoredRecord>,
+    seen: RecordStore,
     entries: Vec<StoredEntry>,
+    /// The bytes of the entries.
     bytes: Vec<u8>,
 }
 
 impl Model for TraceStore {
-    ghost use Rattle.history_words.specs.Claim.{Claim};
-    ghost use Rattle.trace_store.specs.Stored.{claim_in, HasAll};
+    ghost use Rattle.std.specs.Prelude.{map};
+    ghost use Rattle.std.specs.List.{All};
+    ghost use Rattle.history_words.specs.Claim.{Claim, claim_of};
+    ghost use Rattle.trace_store.specs.Stored.{entry_in, HasEntry};
 
     ghost Value = { Claim };
 
-    ghost view = { λ s. claim_in s.extent s.bytes.items s.records.items s.entries.items };
+    ghost view = { λ s. claim_of s.seen (map (entry_in s.bytes.items) s.entries.items) };
 
-    ghost invariant = { λ s. HasAll s.bytes.items s.records.items s.entries.items };
-}
-
-/// The records with bytes of their own.
-fn owned_records(
-    alloc: Global,
-    bytes: &[u8],
-    all: &[StoredRecord],
-) -> Result<Vec<Record>, AllocError>
-    requires { All (HasRecord bytes.now) all.now }
-    ensures { IfOk result (λ v. v.items ≡ map (record_in bytes.now) all.now) }
-{
-    let mut records = Vec::with_capacity(alloc, all.len())?;
-    for stored in all {
-        records.push(stored.record(bytes).to_owned())?;
-    }
-    Ok(records)
+    ghost invariant = { λ s. All (HasEntry s.bytes.items) s.entries.items };
 }
 
 /// The entries with bytes of their own.
@@ -67,37 +52,30 @@ fn owned_entries(alloc: Global, bytes: &[u8], all: &[StoredEntry]) -> Result<Vec
     Ok(entries)
 }
 
-/// The record at the place, if there is one, submits the operation of the entry.
+/// Keeps an entry behind the others, and its bytes behind theirs.
 #[inline(always)]
-fn submits_at(bytes: &[u8], records: &[StoredRecord], place: usize, entry: &StoredEntry) -> bool
-    requires records { All (HasRecord bytes.now) records.now }
-    requires entry { HasEntry bytes.now entry.now }
-    ensures { result ≡ at_place (flaw.submits (op_in bytes.now entry.now.kind entry.now.fields)) (map (record_in bytes.now) records.now) place }
+fn keep_entry(
+    entries: &mut Vec<StoredEntry>,
+    bytes: &mut Vec<u8>,
+    requester: u8,
+    number: u32,
+    op: &OpRef<'_>,
+) -> Result<(), AllocError>
+    requires { All (HasEntry bytes.old.items) entries.old.items }
+    ensures ok { OnOk result (map (entry_in bytes.new.items) entries.new.items ≡
+        map (entry_in bytes.old.items) entries.old.items ++ (record { requester = requester; number = number; op = op.now }) ∷ []) }
+    ensures err { OnErr result (map (entry_in bytes.new.items) entries.new.items ≡ map (entry_in bytes.old.items) entries.old.items) }
+    ensures there { All (HasEntry bytes.new.items) entries.new.items }
 {
-    match records.get(place) {
-        Some(stored) => stored.submits(bytes, entry),
-        None => false,
-    }
-}
-
-/// The record at the place, if there is one, is an answer with that reply.
-#[inline(always)]
-fn tells_at(
-    bytes: &[u8],
-    records: &[StoredRecord],
-    place: Option<usize>,
-    made: &ReplyRef<'_>,
-) -> bool
-    requires { All (HasRecord bytes.now) records.now }
-    ensures { result ≡ is_told_at (map (record_in bytes.now) records.now) place made.now }
-{
-    let Some(a) = place else {
-        return false;
-    };
-    match records.get(a) {
-        Some(stored) => stored.tells(bytes, made),
-        None => false,
-    }
+    let mut fields = EMPTY;
+    let kind = keep_op(bytes, op, &mut fields)?;
+    entries.push(StoredEntry {
+        fields,
+        number,
+        requester,
+        kind,
+    })?;
+    Ok(())
 }
 
 impl TraceStore {
@@ -107,12 +85,33 @@ impl TraceStore {
         ensures entries { result.memory.entries ≡ [] }
         ensures records { result.records ≡ [] }
     {
+        TraceStore::of(alloc, RecordStore::new(alloc, extent))
+    }
+
+    /// What was seen, and no entries. Takes no memory.
+    pub fn of(alloc: Global, seen: RecordStore) -> TraceStore
+        ensures { result ≡ claim_of seen [] }
+    {
         TraceStore {
-            extent,
-            records: Vec::new(alloc),
+            seen,
             entries: Vec::new(alloc),
             bytes: Vec::new(alloc),
         }
+    }
+
+    /// What was seen, without the history.
+    pub fn into_seen(self) -> RecordStore
+        ensures { result ≡ seen_by self }
+    {
+        self.seen
+    }
+
+    /// What was seen.
+    #[inline(always)]
+    pub fn seen(&self) -> &RecordStore
+        ensures { result.now ≡ seen_by self.now }
+    {
+        &self.seen
     }
 
     /// Puts another memory in place of the one that it had.
@@ -121,7 +120,7 @@ impl TraceStore {
         ensures entries { self.new.memory.entries ≡ self.old.memory.entries }
         ensures records { self.new.records ≡ self.old.records }
     {
-        self.extent = extent;
+        self.seen.set_extent(extent);
     }
 
     /// Adds a record of a submission. `n` is the length of the history then.
@@ -136,16 +135,7 @@ impl TraceStore {
         ensures ok { OnOk result (self.new ≡ record self.old { records = self.old.records ++ records.Sub requester number op.now n ∷ [] }) }
         ensures err { OnErr result (self.new ≡ self.old) }
     {
-        let mut fields = EMPTY;
-        let kind = keep_op(&mut self.bytes, op, &mut fields)?;
-        self.records.push(StoredRecord {
-            fields,
-            n,
-            number,
-            requester,
-            kind: RecordKind::Sub(kind),
-        })?;
-        Ok(())
+        self.seen.submitted(requester, number, n, op)
     }
 
     /// Adds a record of an answer. `n` is the length of the history then.
@@ -160,16 +150,7 @@ impl TraceStore {
         ensures ok { OnOk result (self.new ≡ record self.old { records = self.old.records ++ records.Ans requester number reply.now n ∷ [] }) }
         ensures err { OnErr result (self.new ≡ self.old) }
     {
-        let mut fields = EMPTY;
-        let kind = keep_reply(&mut self.bytes, reply, &mut fields)?;
-        self.records.push(StoredRecord {
-            fields,
-            n,
-            number,
-            requester,
-            kind: RecordKind::Ans(kind),
-        })?;
-        Ok(())
+        self.seen.answered(requester, number, n, reply)
     }
 
     /// Adds an entry to the history.
@@ -184,27 +165,54 @@ impl TraceStore {
             }) }
         ensures err { OnErr result (self.new ≡ self.old) }
     {
-        let mut fields = EMPTY;
-        let kind = keep_op(&mut self.bytes, op, &mut fields)?;
-        self.entries.push(StoredEntry {
-            fields,
-            number,
-            requester,
-            kind,
-        })?;
-        Ok(())
+        keep_entry(&mut self.entries, &mut self.bytes, requester, number, op)
+    }
+
+    /// The request that the record at the place submits acts: adds its entry to the history, if it is one.
+    pub fn act(&mut self, place: usize) -> Result<(), AllocError>
+        ensures ok { OnOk result (self.new ≡
+            record self.old { memory = record self.old.memory { entries = self.old.memory.entries ++ entry_at self.old.records place } }) }
+        ensures err { OnErr result (self.new ≡ self.old) }
+    {
+        let Some(
+            RecordRef::Sub {
+                requester,
+                number,
+                op,
+                ..
+            },
+        ) = self.seen.get(place)
+        else {
+            return Ok(());
+        };
+        keep_entry(&mut self.entries, &mut self.bytes, requester, number, &op)
+    }
+
+    /// Sets the `n` of the record at the place, if there is one.
+    pub fn set_moment(&mut self, place: usize, n: u64)
+        ensures some { (r : Record) → slice_get self.old.records place ≡ Some r →
+            self.new ≡ record self.old { records = set self.old.records place (with_n n r) } }
+        ensures none { slice_get self.old.records place ≡ None → self.new ≡ self.old }
+    {
+        self.seen.set_moment(place, n);
+    }
+
+    /// Puts another reply in place of the one that the answer at the place has, as [`RecordStore::set_reply`] does.
+    pub fn set_reply(&mut self, place: usize, reply: &ReplyRef<'_>) -> Result<(), AllocError>
+        ensures some { OnOk result ((r : Record) → slice_get self.old.records place ≡ Some r →
+            self.new ≡ record self.old { records = set self.old.records place (with_reply r reply.now) }) }
+        ensures none { slice_get self.old.records place ≡ None → self.new ≡ self.old }
+        ensures err { OnErr result (self.new ≡ self.old) }
+    {
+        self.seen.set_reply(place, reply)
     }
 
     /// The trace and the history with bytes of their own.
     pub fn to_owned(&self, alloc: Global) -> Result<(Trace, Vec<Entry>), AllocError>
         ensures { IfOk result (λ t. claim_of t.0 t.1.items ≡ self.now) }
     {
-        let records = owned_records(alloc, &self.bytes, &self.records)?;
+        let trace = self.seen.to_owned(alloc)?;
         let entries = owned_entries(alloc, &self.bytes, &self.entries)?;
-        let trace = Trace {
-            extent: self.extent,
-            records,
-        };
         Ok((trace, entries))
     }
 }
@@ -213,11 +221,11 @@ impl AsClaim for TraceStore {
     ghost claim = { λ s. s };
 
     fn extent(&self) -> Extent {
-        self.extent
+        self.seen.extent()
     }
 
     fn records(&self) -> usize {
-        self.records.len()
+        self.seen.len()
     }
 
     fn entries(&self) -> usize {
@@ -226,7 +234,7 @@ impl AsClaim for TraceStore {
 
     #[inline(always)]
     fn header(&self, place: usize) -> Option<RecordHeader> {
-        Some(self.records.get(place)?.header())
+        self.seen.header(place)
     }
 
     #[inline(always)]
@@ -240,7 +248,7 @@ impl AsClaim for TraceStore {
         let Some(stored) = self.entries.get(index) else {
             return false;
         };
-        submits_at(&self.bytes, &self.records, place, stored)
+        self.seen.submits(place, &self.bytes, stored)
     }
 
     #[inline(always)]
@@ -254,13 +262,13 @@ impl AsClaim for TraceStore {
         let Some(stored) = self.entries.get(index) else {
             return false;
         };
-        let made = stored.perform(&self.bytes, self.extent, bytes, room);
-        tells_at(&self.bytes, &self.records, place, &made)
+        let made = stored.perform(&self.bytes, self.seen.extent(), bytes, room);
+        self.seen.tells(place, &made)
     }
 
     #[inline(always)]
     fn record(&self, place: usize) -> Option<RecordRef<'_>> {
-        Some(self.records.get(place)?.record(&self.bytes))
+        self.seen.get(place)
     }
 
     #[inline(always)]

@@ -8,7 +8,7 @@ ghost use Rattle.trace_store.specs.Kept.{op_in};
 ghost use Rattle.trace_store.specs.Stored.{record_in, entry_in, HasRecord, HasEntry};
 
 use crate::kept::{Fields, OpKind, ReplyKind, op_in, reply_in};
-use crate::same::{is_same_op, is_same_reply};
+use crate::same::{KeptOp, is_same_op, is_same_reply};
 use history_words::{RecordHeader, RecordRef};
 use seq_memory::{EntryRef, Extent, ReplyData, ReplyRef, perform_lent};
 use std::mem::size_of;
@@ -91,16 +91,26 @@ impl StoredRecord {
         }
     }
 
-    /// It submits the operation of the entry.
+    /// It submits the operation of the entry, whose bytes are others.
     #[inline(always)]
-    pub(crate) fn submits(&self, bytes: &[u8], entry: &StoredEntry) -> bool
+    pub(crate) fn submits(&self, bytes: &[u8], others: &[u8], entry: &StoredEntry) -> bool
         requires record { HasRecord bytes.now self.now }
-        requires entry { HasEntry bytes.now entry.now }
-        ensures { result ≡ flaw.submits (op_in bytes.now entry.now.kind entry.now.fields) (record_in bytes.now self.now) }
+        requires entry { HasEntry others.now entry.now }
+        ensures { result ≡ flaw.submits (op_in others.now entry.now.kind entry.now.fields) (record_in bytes.now self.now) }
     {
         match self.kind {
             RecordKind::Sub(kind) => {
-                is_same_op(bytes, (entry.kind, &entry.fields), (kind, &self.fields))
+                let op = KeptOp {
+                    bytes: others,
+                    kind: entry.kind,
+                    fields: &entry.fields,
+                };
+                let submitted = KeptOp {
+                    bytes,
+                    kind,
+                    fields: &self.fields,
+                };
+                is_same_op(op, submitted)
             }
             RecordKind::Ans(_) => false,
         }

@@ -1,22 +1,29 @@
 -- The text of lines, one after the other.
-use Rattle.std.proofs.Common.{◌≡◌, ◌∙◌, ◌++◌, ◌+◌, ◌∷◌, ◌<◌, ◌≤◌, List, ℕ, [], zero, suc, ap, sym, refl, drop, map, length, get_or, append_assoc, drop-cons, arith}
+use Rattle.std.proofs.Common.{◌≡◌, ◌∙◌, ◌++◌, ◌+◌, ◌∷◌, ◌<◌, ◌≤◌, List, ℕ, [], zero, suc, Some, None, ap, sym, refl, drop, map, length, append_assoc, drop-cons, arith}
 use Rattle.std.proofs.lemmas.List.{append-nil}
-use Rattle.std.specs.Prelude.{codes}
+use Rattle.std.proofs.lemmas.Option.{slice_get_within, get_or_from_slice_get}
+use Rattle.std.specs.Prelude.{codes, slice_get}
 use Rattle.history_words.specs.Claim.{Claim}
 use Rattle.trace_text.specs.Texts.{lines_text, memory_line, record_line, entry_line, records_text, trace_text}
 
 -- one line more
-pub text-next : {X : Type 0} (f : X → List ℕ) (xs : List X) (i : ℕ) (x : X) (text line text' : List ℕ) → i < length xs → x ≡ get_or xs i x
+pub text-next : {X : Type 0} (f : X → List ℕ) (xs : List X) (i : ℕ) (x : X) (text line text' : List ℕ) → slice_get xs i ≡ Some x
     → line ≡ f x ++ 10 ∷ [] → text' ≡ text ++ line
     → text' ++ lines_text (map f (drop (i + 1) xs)) ≡ text ++ lines_text (map f (drop i xs))
 unfolding lines_text
-text-next f xs i x text line text' lt is e g =
+text-next f xs i x text line text' at e g =
     let rest = lines_text (map f (drop (i + 1) xs)) in
     let next : i + 1 ≡ suc i = omega arith in
-    let cut : drop i xs ≡ x ∷ drop (suc i) xs = drop-cons xs i x lt ∙ ap (λ y. y ∷ drop (suc i) xs) (sym is) in
+    let cut : drop i xs ≡ x ∷ drop (suc i) xs = drop-cons xs i x (slice_get_within xs i x at) ∙ ap (λ y. y ∷ drop (suc i) xs) (get_or_from_slice_get xs i x x at) in
     let whole : lines_text (map f (drop i xs)) ≡ f x ++ 10 ∷ lines_text (map f (drop (suc i) xs)) = ap (λ ys. lines_text (map f ys)) cut in
     rw (g, e, next, whole) (append_assoc text (f x ++ 10 ∷ []) (lines_text (map f (drop (suc i) xs)))
     ∙ ap (λ (t : List ℕ). text ++ t) (append_assoc (f x) (10 ∷ []) (lines_text (map f (drop (suc i) xs)))))
+
+-- within the list there is a line
+pub text-there : {X : Type 0} (xs : List X) (i n : ℕ) → n ≡ length xs → i < n → slice_get xs i ≡ None → ⊥
+text-there [] i n e lt none = omega arith
+text-there (x ∷ xs) zero n e lt none = cc
+text-there (x ∷ xs) (suc i) n e lt none = text-there xs i (length xs) refl (omega arith) none
 
 -- no line is left
 pub text-past : {X : Type 0} (f : X → List ℕ) (xs : List X) (i : ℕ) (text : List ℕ) → length xs ≤ i → text ≡ text ++ lines_text (map f (drop i xs))

@@ -22,7 +22,6 @@
 mod form;
 mod laws;
 mod line;
-mod owned;
 mod reader;
 mod reading;
 mod rewriting;
@@ -33,6 +32,6 @@ pub use laws::{
     what_is_read_can_be_told,
 };
 pub use reader::TraceReader;
-pub use reading::{read_owned_trace, read_trace, read_trace_with_cause};
+pub use reading::{read_trace, read_trace_with_cause};
 pub use rewriting::TraceRewriter;
 pub use writing::write_trace;

@@ -1,13 +1,9 @@
 //! Reading the whole text of a trace.
 ghost use Rattle.std.specs.Prelude.{◌≡◌, IfOk, IfErr, Ok};
-ghost use Rattle.history_words.specs.Claim.{claim_of};
 ghost use Rattle.trace_text.specs.TraceReaderView.{read_of, Tells};
 
 use crate::form::TraceForm;
-use crate::owned::OwnedForm;
-use history_words::Trace;
 use record_text::{Misread, ReadFault, read_records};
-use seq_memory::Entry;
 use std::alloc::Global;
 use trace_store::TraceStore;
 
@@ -31,17 +27,6 @@ pub fn read_trace_with_cause(alloc: Global, text: &[u8]) -> Result<TraceStore, M
     ensures err { IfErr result (λ e. Tells text.now e.fault) }
 {
     match read_records(TraceForm::new(alloc), text) {
-        Ok(form) => Ok(form.claim()),
-        Err(misread) => Err(misread),
-    }
-}
-
-/// As [`read_trace_with_cause`], with records and entries of their own.
-pub fn read_owned_trace(alloc: Global, text: &[u8]) -> Result<(Trace, Vec<Entry>), Misread>
-    ensures ok { IfOk result (λ t. read_of text.now ≡ Ok (claim_of t.0 t.1.items)) }
-    ensures err { IfErr result (λ e. Tells text.now e.fault) }
-{
-    match read_records(OwnedForm::new(alloc), text) {
         Ok(form) => Ok(form.claim()),
         Err(misread) => Err(misread),
     }

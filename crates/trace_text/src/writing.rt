@@ -2,15 +2,14 @@
 ghost use Rattle.std.specs.Prelude.{◌≡◌, ◌≤◌, ◌++◌, ◌∷◌, [], length, map, string_bytes, IfOk, OnOk};
 ghost use Rattle.std.specs.Fmt.{decimal};
 ghost use Rattle.arrayvec.specs.ArrayString.{array_string_len};
-ghost use Rattle.history_words.specs.Claim.{claim_of};
 ghost use Rattle.trace_text.specs.TraceRewriterView.{added};
 ghost use Rattle.trace_text.specs.Texts.{memory_line, record_line, entry_line, lines_text, records_text, trace_text};
 
 use crate::line::Line;
 use arrayvec::ArrayString;
-use history_words::{Record, RecordRef, Trace};
+use history_words::{AsClaim, RecordRef};
 use operation_text::{write_decimal, write_hexadecimal, write_op, write_reply};
-use seq_memory::{Entry, EntryRef, Extent};
+use seq_memory::{EntryRef, Extent};
 use std::alloc::{AllocError, Global};
 
 /// Writes the kind of a record, its requester and its request's number.
@@ -110,52 +109,56 @@ pub(crate) fn put_line(said: &Line<'_>, line: &mut ArrayString<512>)
 }
 
 /// Adds the lines of the records.
-fn add_records(records: &[Record], text: &mut String) -> Result<(), AllocError>
-    ensures { OnOk result (string_bytes text.new ≡ string_bytes text.old ++ lines_text (map record_line records.now)) }
+fn add_records<C: AsClaim>(claim: &C, text: &mut String) -> Result<(), AllocError>
+    ensures { OnOk result (string_bytes text.new ≡ string_bytes text.old ++ lines_text (map record_line (C.claim claim.now).records)) }
 {
     let mut line = ArrayString::new();
-    for record in records {
-        line.clear();
-        put_record(&record.lend(), &mut line);
-        text.push_str(line.as_str())?;
+    for place in 0..claim.records() {
+        if let Some(record) = claim.record(place) {
+            line.clear();
+            put_record(&record, &mut line);
+            text.push_str(line.as_str())?;
+        }
     }
     Ok(())
 }
 
 /// Adds the lines of the entries.
-fn add_entries(history: &[Entry], text: &mut String) -> Result<(), AllocError>
-    ensures { OnOk result (string_bytes text.new ≡ string_bytes text.old ++ lines_text (map entry_line history.now)) }
+fn add_entries<C: AsClaim>(claim: &C, text: &mut String) -> Result<(), AllocError>
+    ensures { OnOk result (string_bytes text.new ≡ string_bytes text.old ++ lines_text (map entry_line (C.claim claim.now).memory.entries)) }
 {
     let mut line = ArrayString::new();
-    for entry in history {
-        line.clear();
-        put_entry(&entry.lend(), &mut line);
-        text.push_str(line.as_str())?;
+    for index in 0..claim.entries() {
+        if let Some(entry) = claim.entry(index) {
+            line.clear();
+            put_entry(&entry, &mut line);
+            text.push_str(line.as_str())?;
+        }
     }
     Ok(())
 }
 
 /// The text up to the entries of the history.
-fn write_records(alloc: Global, trace: &Trace) -> Result<String, AllocError>
-    ensures { IfOk result (λ text. string_bytes text ≡ records_text (claim_of trace.now [])) }
+fn write_records<C: AsClaim>(alloc: Global, claim: &C) -> Result<String, AllocError>
+    ensures { IfOk result (λ text. string_bytes text ≡ records_text (C.claim claim.now)) }
 {
     let mut text = String::new(alloc);
     text.push_str("pciex-trace 2\n")?;
     let mut line = ArrayString::new();
-    put_memory(trace.extent, &mut line);
+    put_memory(claim.extent(), &mut line);
     text.push_str(line.as_str())?;
-    add_records(&trace.records, &mut text)?;
+    add_records(claim, &mut text)?;
     text.push_str("history\n")?;
     Ok(text)
 }
 
 /// The text of the trace and the history, in the second version. What some text spells is read back
 /// from it.
-pub fn write_trace(alloc: Global, trace: &Trace, history: &[Entry]) -> Result<String, AllocError>
-    ensures { IfOk result (λ text. string_bytes text ≡ trace_text (claim_of trace.now history.now)) }
+pub fn write_trace<C: AsClaim>(alloc: Global, claim: &C) -> Result<String, AllocError>
+    ensures { IfOk result (λ text. string_bytes text ≡ trace_text (C.claim claim.now)) }
 {
-    let mut text = write_records(alloc, trace)?;
-    add_entries(history, &mut text)?;
+    let mut text = write_records(alloc, claim)?;
+    add_entries(claim, &mut text)?;
     text.push_str("end\n")?;
     Ok(text)
 }

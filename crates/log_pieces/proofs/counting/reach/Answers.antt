@@ -1,5 +1,6 @@
-use Rattle.std.proofs.Common.{◌≡◌, ◌∙◌, ◌+◌, ◌++◌, ◌∷◌, [], List, take, length, sym, ap, subst, arith, add-one, refl}
-use Rattle.std.proofs.Math.Seq.{take-suc, take-length}
+use Rattle.std.proofs.Common.{◌≡◌, ◌∙◌, ◌+◌, ◌++◌, ◌∷◌, [], List, take, length, sym, ap, subst, arith, refl}
+use Rattle.std.proofs.Math.Seq.{take-length}
+use Rattle.log_runs.proofs.Lists.{take_more_at}
 use Rattle.history_words.specs.Records.{Record}
 use Rattle.log_pieces.specs.Pieces.{pieces}
 use Rattle.log_pieces.specs.InPieces.{split_all}
@@ -21,9 +22,9 @@ loop-at-preserved c =
     let p = pieces c.args.cut.now.bytes c.args.cut.now.extent in
     let rs = c.args.records.now in
     let i = c.loop-at.at in
-    let r = c.index-records-at.result in
+    let r = c.in-Some.item in
     let known = c.loop-at.invariant in
-    let grown : take (i + 1) rs ≡ take i rs ++ r ∷ [] = ap (λ k. take k rs) (add-one i) ∙ take-suc rs i r c.loop-at-test.true ∙ ap (λ (y : Record). take i rs ++ y ∷ []) (sym c.index-records-at.is) in
+    let grown : take (i + 1) rs ≡ take i rs ++ r ∷ [] = take_more_at rs i r (sym c.get.ensures ∙ c.in-Some.is) in
     let before : AreRows p c.deref_mut.result.now (take i rs) = subst (λ (xs : List RowView). AreRows p xs (take i rs)) (sym c.deref_mut.ensures.value) known.rows in
     let rows : AreRows p c.count_record.new.rows (take i rs ++ r ∷ []) = c.in_ok-more.ensures.rows (take i rs) before in
     let size = refit c.count_record.new.rows c.loop-at.table.items c.loop-at.table.len (omega (arith, c.in_ok-more.ensures.len, known.rows.len, c.loop-at.table.ok)) in
@@ -37,5 +38,6 @@ pub returns-clause-reaches : goal.returns-clause-reaches
 returns-clause-reaches c =
     let p = pieces c.args.cut.now.bytes c.args.cut.now.extent in
     let rs = c.args.records.now in
-    let same : length (split_all p [] (take (length rs) rs)) ≡ length (split_all p [] rs) = ap (λ (qs : List Record). length (split_all p [] qs)) (take-length rs) in
+    let same : length (split_all p [] (take c.len.result rs)) ≡ length (split_all p [] rs) =
+    ap (λ k. length (split_all p [] (take k rs))) c.len.ensures ∙ ap (λ (qs : List Record). length (split_all p [] qs)) (take-length rs) in
     omega (arith, c.requires.reached, same)

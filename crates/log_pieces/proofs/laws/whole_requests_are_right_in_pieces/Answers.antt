@@ -1,4 +1,4 @@
-use Rattle.std.proofs.Common.{◌≡◌, ◌∙◌, ℕ, List, [], refl, sym, subst}
+use Rattle.std.proofs.Common.{◌≡◌, ℕ, List, [], refl, sym, subst}
 use Rattle.seq_memory.specs.Entries.{Entry}
 use Rattle.history_words.specs.TraceView.{TraceView, observed}
 use Rattle.history_words.specs.Claim.{claim_of}

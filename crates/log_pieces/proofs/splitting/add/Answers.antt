@@ -9,8 +9,8 @@ returns-in_ok-ops-in-Sub-clause-records c = on_ok c.submit.result c.submit.ensur
     let p = pieces c.args.cut.now.bytes c.args.cut.now.extent in
     let rows = c.args.rows.now in
     let d = c.index-rows-from.result in
-    sub_records p rows before c.in-Sub.requester c.in-Sub.number c.in-Sub.n c.in-Sub.op (get_or rows c.from.result d) d c.args.item.now c.deref.result.now
-    c.args.records.now.items c.submit.new.records.items known (omega arith) (ap (λ i. get_or rows i d) c.from.ensures) c.in-Sub.is
+    sub_records p rows before c.in-Sub.requester c.in-Sub.number c.in-Sub.n c.in-Sub.op (get_or rows c.from.result d) d c.args.item c.deref.result.now
+    c.args.records.now c.submit.new.records known (grind (arith, c.well_formed, c.in-Sub.is)) (ap (λ i. get_or rows i d) c.from.ensures) c.in-Sub.is
     (c.deref.ensures.value ∙ c.in_ok-ops-in-Sub.ensures) grown)
 
 pub returns-in_ok-ops-in-Sub-clause-rows : goal.returns-in_ok-ops-in-Sub-clause-rows
@@ -19,8 +19,8 @@ returns-in_ok-ops-in-Sub-clause-rows c = on_ok c.submit.result c.submit.ensures.
     let rows = c.args.rows.now in
     let d = c.index-rows-from.result in
     let row = get_or rows c.from.result d in
-    sub_rows p rows before c.from.result c.in-Sub.number c.in-Sub.n c.in-Sub.op row d c.submit.new.row c.args.item.now c.deref.result.now
-    known (omega (arith, c.from.ensures)) (ap (λ i. get_or rows i d) (c.from.ensures ∙ sym c.from.ensures)) (c.in-Sub.is ∙ ap (λ i. records.Sub i c.in-Sub.number c.in-Sub.op c.in-Sub.n) (sym c.from.ensures))
+    sub_rows p rows before c.from.result c.in-Sub.number c.in-Sub.n c.in-Sub.op row d c.submit.new.row c.args.item c.deref.result.now
+    known (grind (arith, c.well_formed, c.in-Sub.is, c.from.ensures)) (ap (λ i. get_or rows i d) (c.from.ensures ∙ sym c.from.ensures)) (c.in-Sub.is ∙ ap (λ i. records.Sub i c.in-Sub.number c.in-Sub.op c.in-Sub.n) (sym c.from.ensures))
     (c.deref.ensures.value ∙ c.in_ok-ops-in-Sub.ensures) grown)
 
 pub returns-in-Ans-clause-records : goal.returns-in-Ans-clause-records
@@ -28,10 +28,10 @@ returns-in-Ans-clause-records c = on_ok c.answer.result c.answer.ensures (λ gro
     let p = pieces c.args.cut.now.bytes c.args.cut.now.extent in
     let rows = c.args.rows.now in
     let d = c.index-rows-from-in-Ans.result in
-    answer_records p rows before c.in-Ans.requester c.in-Ans.number c.in-Ans.n c.in-Ans.reply (get_or rows c.from-in-Ans.result d) d c.args.item.now
-    c.args.records.now.items c.answer.new.records.items known (omega arith) (ap (λ i. get_or rows i d) c.from-in-Ans.ensures) c.in-Ans.is grown)
+    answer_records p rows before c.in-Ans.requester c.in-Ans.number c.in-Ans.n c.in-Ans.reply (get_or rows c.from-in-Ans.result d) d c.args.item
+    c.args.records.now c.answer.new.records known (grind (arith, c.well_formed, c.in-Ans.is)) (ap (λ i. get_or rows i d) c.from-in-Ans.ensures) c.in-Ans.is grown)
 
 pub returns-in-Ans-clause-rows : goal.returns-in-Ans-clause-rows
 returns-in-Ans-clause-rows c = on_ok c.answer.result c.answer.ensures (λ grown before known.
     let p = pieces c.args.cut.now.bytes c.args.cut.now.extent in
-    answer_rows p c.args.rows.now before c.in-Ans.requester c.in-Ans.number c.in-Ans.n c.in-Ans.reply c.args.item.now known c.in-Ans.is)
+    answer_rows p c.args.rows.now before c.in-Ans.requester c.in-Ans.number c.in-Ans.n c.in-Ans.reply c.args.item known c.in-Ans.is)

@@ -3,5 +3,5 @@ use Rattle.std.specs.List.{list_any}
 use Rattle.log_replies.specs.Completing.{lacks_reply}
 use Rattle.log_replies.proofs.completing.lack_replies.Given as goal
 
-abbrev pub invariant-loop-record : goal.invariant-loop-record
-invariant-loop-record l = list_any lacks_reply (take l.record-index l.records) ≡ false
+abbrev pub invariant-loop-place : goal.invariant-loop-place
+invariant-loop-place l = list_any lacks_reply (take l.place l.records) ≡ false

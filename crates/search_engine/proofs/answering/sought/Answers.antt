@@ -1,16 +1,22 @@
-use Rattle.std.proofs.Common.{arith, subst}
+use Rattle.std.proofs.Common.{◌≡◌, ◌∙◌, [], ap, subst, arith}
+use Rattle.history_words.specs.TraceView.{TraceView}
+use Rattle.log_runs.specs.Explainable.{SeenAlike}
+use Rattle.trace_store.specs.Changes.{seen_by}
 use Rattle.search_history.specs.Answers.{IsFound, IsNone}
 use Rattle.search_history.specs.declared.searching.Sought.{Sought}
 use Rattle.search_history.specs.declared.searching.Sought.TheVariants as answers
-use Rattle.search_engine.proofs.SizeLemmas.{alike_in_whole, unexplained_in_whole}
+use Rattle.search_engine.proofs.SizeLemmas.{alike_in_whole, seen_again, unexplained_in_whole}
 use Rattle.search_engine.proofs.answering.sought.Goals as goal
 
 pub returns-in-Found : goal.returns-in-Found
 returns-in-Found g c =
-    let found : IsFound c.search_watched.new.trace (answers.Found c.in-Found.history) = subst (λ (s : Sought). IsFound c.search_watched.new.trace s) c.in-Found.is c.in_ok-sought.ensures.found in
-    (alike_in_whole c.args.trace c.search_watched.new.trace c.search_watched.ensures.alike, found.0, found.1, omega (arith, c.in-Found.history.ok.0, c.in-Found.history.small))
+    let store = c.search_watched.new.store in
+    let found : IsFound store answers.Found = subst (λ (s : Sought). IsFound store s) c.in-Found.is c.in_ok-sought.ensures.found in
+    let same : seen_by c.of-store.result ≡ c.args.seen = ap seen_by c.of-store.ensures ∙ seen_again c.args.seen [] in
+    (alike_in_whole c.args.seen (seen_by store) (subst (λ (t : TraceView). SeenAlike t (seen_by store)) same c.search_watched.ensures.alike), found.0, found.1, omega (arith, c.entries-entries.ensures))
 
 pub returns-in-None : goal.returns-in-None
 returns-in-None g c =
-    let none : IsNone c.args.trace (answers.None c.in-None.prefix) = subst (λ (s : Sought). IsNone c.args.trace s) c.in-None.is c.in_ok-sought.ensures.none in
-    unexplained_in_whole c.args.trace c.in-None.prefix none.1.within none.1.unexplained
+    let same : seen_by c.of-store.result ≡ c.args.seen = ap seen_by c.of-store.ensures ∙ seen_again c.args.seen [] in
+    let none : IsNone c.args.seen (answers.None c.in-None.prefix) = subst (λ (s : Sought). IsNone c.args.seen s) c.in-None.is (subst (λ (t : TraceView). IsNone t c.in_ok-sought.sought) same c.in_ok-sought.ensures.none) in
+    unexplained_in_whole c.args.seen c.in-None.prefix none.1.within none.1.unexplained

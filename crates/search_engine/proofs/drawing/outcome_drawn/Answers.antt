@@ -1,4 +1,4 @@
-use Rattle.std.proofs.Common.{◌≡◌, ℕ, ◌-◌, length, refl, inl, inr, subst, arith, Result, Ok, Err}
+use Rattle.std.proofs.Common.{◌≡◌, ◌-◌, length, refl, inl, inr, subst, arith, Result, Ok, Err}
 use Rattle.record_text.specs.declared.fault.ReadFault.{ReadFault}
 use Rattle.history_words.specs.TraceView.{TraceView}
 use Rattle.log_events.specs.Formed.{AreFormed}

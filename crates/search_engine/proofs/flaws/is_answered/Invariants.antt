@@ -3,5 +3,5 @@ use Rattle.std.specs.List.{list_any}
 use Rattle.history_words.specs.Trace.{answers_to}
 use Rattle.search_engine.proofs.flaws.is_answered.Given as goal
 
-abbrev pub invariant-loop-record : goal.invariant-loop-record
-invariant-loop-record l = list_any (answers_to l.requester l.number) (take l.record-index l.records) ≡ false
+abbrev pub invariant-loop-place : goal.invariant-loop-place
+invariant-loop-place l = list_any (answers_to l.requester l.number) (take l.place l.records) ≡ false

@@ -1,4 +1,4 @@
-use Rattle.std.proofs.Common.{IfOk, Option, length, subst}
+use Rattle.std.proofs.Common.{Option, length, subst}
 use Rattle.std.specs.Prelude.{IfNone}
 use Rattle.std.proofs.lemmas.Result.{IfOk-weaker}
 use Rattle.history_words.specs.declared.flaws.Flaw.{Flaw}
@@ -9,6 +9,6 @@ use Rattle.search_engine.proofs.flaws.judged.Goals as goal
 
 pub returns-in-None : goal.returns-in-None
 returns-in-None g c =
-    let rs = c.args.trace.records in
+    let rs = c.args.seen.records in
     let formed : AreFormed rs (length rs) = subst (λ (o : Option Flaw). IfNone o (AreFormed rs (length rs))) c.in-None.is c.in_ok-flaw.ensures.formed in
-    IfOk-weaker c.sought_in.result _ _ (λ f h. judged_of c.args.demand.options.granularity (bounds_of c.args.demand) c.args.trace f formed h) c.sought_in.ensures
+    IfOk-weaker c.sought_in.result _ _ (λ f h. judged_of c.args.demand.options.granularity (bounds_of c.args.demand) c.args.seen f formed h) c.sought_in.ensures

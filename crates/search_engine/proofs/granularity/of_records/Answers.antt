@@ -9,7 +9,7 @@ use Rattle.search_engine.proofs.granularity.of_records.Goals as goal
 
 pub returns-in_ok-pieces-in-None : goal.returns-in_ok-pieces-in-None
 returns-in_ok-pieces-in-None c =
-    let t = c.args.trace in
+    let t = c.args.seen in
     let size = c.args.demand.options.granularity in
     let dead : AreUnexplained Whole (in_pieces size t) c.in-None.count = subst (λ (f : Finding). IsFindingOf Whole (bounds_of c.args.demand) (in_pieces size t) f) c.in-None.is c.requires in
     record {
@@ -18,4 +18,4 @@ returns-in_ok-pieces-in-None c =
     }
 
 pub returns-in_default : goal.returns-in_default
-returns-in_default c = of_log c.args.demand.options.granularity (bounds_of c.args.demand) c.args.trace c.args.finding c.requires c.in_default.not-None
+returns-in_default c = of_log c.args.demand.options.granularity (bounds_of c.args.demand) c.args.seen c.args.finding c.requires c.in_default.not-None

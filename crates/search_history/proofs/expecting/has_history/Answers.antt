@@ -1,14 +1,11 @@
-use Rattle.std.proofs.Common.{◌≡◌, ◌∙◌, ap, length, ℕ, subst, sym, take}
-use Rattle.history_words.specs.TraceView.{TraceView}
+use Rattle.std.proofs.Common.{◌∙◌, ℕ, subst, sym, take}
 use Rattle.log_runs.specs.Tasks.{IsWellFormed}
 use Rattle.search_history.proofs.Runs.{well_formed, formed_if, of_all}
 use Rattle.search_history.proofs.expecting.has_history.Goals as goal
 
 pub is_explainable-requires-clause-formed : goal.is_explainable-requires-clause-formed
 is_explainable-requires-clause-formed c =
-    let seen = c.deref.result.now in
-    let rs = c.args.trace.now.records in
-    let same : seen ≡ rs = c.deref.ensures.value ∙ ap (λ (v : TraceView). v.records) c.trace.view_is in
-    let n : length c.as_slice.result.now ≡ length rs = ap length (c.as_slice.ensures.value ∙ ap (λ (v : TraceView). v.records) c.trace.view_is) in
-    let formed : IsWellFormed seen = well_formed seen (formed_if c.in_ok-form.form.flaw seen (sym c.is_some.ensures ∙ c.if-is_some.false) c.in_ok-form.ensures.formed) in
-    subst (λ (k : ℕ). IsWellFormed (take k rs)) (sym n) (of_all rs IsWellFormed (subst IsWellFormed same formed))
+    let rs = c.args.seen.now.records in
+    let lent = c.records.result in
+    let formed : IsWellFormed lent = well_formed lent (formed_if c.in_ok-form.form.flaw lent (sym c.is_some.ensures ∙ c.if-is_some.false) c.in_ok-form.ensures.formed) in
+    subst (λ (k : ℕ). IsWellFormed (take k rs)) (sym c.len.ensures) (of_all rs IsWellFormed (subst IsWellFormed c.records.ensures formed))

@@ -4,9 +4,9 @@ use Rattle.search_history.proofs.judging.judged.Goals as goal
 
 pub returns-clause-run : goal.returns-clause-run
 returns-clause-run g c = λ joined formed.
-    outcome_of c.args.records.trace.now c.args.records.count c.in_ok-log.log c.in_ok-found.found.outcome (c.in_ok-log.ensures.all joined) c.in_ok-log.ensures.extent c.in_ok-found.ensures.right formed
+    outcome_of c.args.records.seen.now c.args.records.count c.in_ok-log.log c.in_ok-found.found.outcome (c.in_ok-log.ensures.all joined) c.in_ok-log.ensures.extent c.in_ok-found.ensures.right formed
 
 pub returns-clause-none : goal.returns-clause-none
 returns-clause-none g c = λ dead.
-    none_from_dead c.args.records.trace.now c.args.records.count c.in_ok-log.log c.explainable_has_a_run.ensures c.in_ok-log.ensures.events c.in_ok-log.ensures.extent
+    none_from_dead c.args.records.seen.now c.args.records.count c.in_ok-log.log c.explainable_has_a_run.ensures c.in_ok-log.ensures.events c.in_ok-log.ensures.extent
     (dead_of c.in_ok-log.log c.in_ok-found.found.outcome c.in_ok-found.ensures.right dead)

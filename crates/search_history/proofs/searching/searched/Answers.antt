@@ -1,6 +1,5 @@
-use Rattle.std.proofs.Common.{◌≡◌, ◌∙◌, ap, length, Option, ℕ, subst, sym, take}
+use Rattle.std.proofs.Common.{length, Option, ℕ, subst, sym, take}
 use Rattle.std.specs.Prelude.{IfNone}
-use Rattle.history_words.specs.TraceView.{TraceView}
 use Rattle.log_events.specs.Formed.{AreFormed}
 use Rattle.log_events.specs.Joined.{ArePartners}
 use Rattle.log_runs.specs.Explainable.{prefix}
@@ -11,14 +10,12 @@ use Rattle.search_history.proofs.searching.searched.Goals as goal
 
 pub returns-clause-run : goal.returns-clause-run
 returns-clause-run g c =
-    let seen = c.deref.result.now in
-    let rs = c.args.trace.now.records in
+    let lent = c.records.result in
+    let rs = c.args.seen.now.records in
     let places = c.in_ok-form.form.partners in
-    let same : seen ≡ rs = c.deref.ensures.value ∙ ap (λ (v : TraceView). v.records) c.trace.view_is in
-    let joined : ArePartners places seen = subst (λ (o : Option ℕ). IfNone o (ArePartners places seen)) c.in-None.is c.in_ok-form.ensures.joined in
-    let formed : AreFormed seen (length seen) = subst (λ (o : Option ℕ). IfNone o (AreFormed seen (length seen))) c.in-None.is c.in_ok-form.ensures.formed in
-    let n : length c.as_slice.result.now ≡ length rs = ap length (c.as_slice.ensures.value ∙ ap (λ (v : TraceView). v.records) c.trace.view_is) in
-    whole c.args.trace.now c.in_ok-found-in-None.found.0
-    (subst (λ (k : ℕ). IsVerdictOf (prefix k c.args.trace.now) c.in_ok-found-in-None.found.0) n
-    (c.in_ok-found-in-None.ensures.run (subst (λ (k : ℕ). ArePartners places (take k rs)) (sym n) (of_all rs (ArePartners places) (subst (ArePartners places) same joined)))
-    (subst (λ (k : ℕ). IsWellFormed (take k rs)) (sym n) (of_all rs IsWellFormed (subst IsWellFormed same (well_formed seen formed))))))
+    let joined : ArePartners places lent = subst (λ (o : Option ℕ). IfNone o (ArePartners places lent)) c.in-None.is c.in_ok-form.ensures.joined in
+    let formed : AreFormed lent (length lent) = subst (λ (o : Option ℕ). IfNone o (AreFormed lent (length lent))) c.in-None.is c.in_ok-form.ensures.formed in
+    whole c.args.seen.now c.in_ok-found-in-None.found.0
+    (subst (λ (k : ℕ). IsVerdictOf (prefix k c.args.seen.now) c.in_ok-found-in-None.found.0) c.len.ensures
+    (c.in_ok-found-in-None.ensures.run (subst (λ (k : ℕ). ArePartners places (take k rs)) (sym c.len.ensures) (of_all rs (ArePartners places) (subst (ArePartners places) c.records.ensures joined)))
+    (subst (λ (k : ℕ). IsWellFormed (take k rs)) (sym c.len.ensures) (of_all rs IsWellFormed (subst IsWellFormed c.records.ensures (well_formed lent formed))))))

@@ -4,6 +4,6 @@ use Rattle.search_history.proofs.shortest.halved.Given as goal
 
 abbrev pub invariant-loop-turn : goal.invariant-loop-turn
 invariant-loop-turn l = record {
-  none : IsUnexplained l.records.trace.now l.high;
+  none : IsUnexplained l.records.seen.now l.high;
   order : l.low ≤ l.high;
 }

@@ -1,7 +1,7 @@
 use Rattle.search_effects.specs.Effects.{told_of}
-use Rattle.search_rules.proofs.PairLemmas.{sub_at}
+use Rattle.search_rules.proofs.PairLemmas.{sub_told}
 use Rattle.search_rules.proofs.junk.leaves_junk_behind.Goals as goal
 
 pub returns-in-Some-Sub : goal.returns-in-Some-Sub
 returns-in-Some-Sub c = λ yes.
-    (c.in-Some-Sub.field-0-0, c.in-Some-Sub.op.now, told_of c.in-Some-Sub.reply, sub_at c.args.log.now.events c.args.g c.in-Some-Sub.field-0 c.in-Some-Sub.field-0-0 c.in-Some-Sub.op c.in-Some-Sub.reply c.in-Some-Sub.field-0-is c.in-Some-Sub.ensures, c.leaves_junk.ensures yes)
+    (c.in-Some-Sub.field-0-0, c.in-Some-Sub.op, told_of c.as_ref.result, sub_told c.args.log.now.events c.args.g c.in-Some-Sub.field-0 c.in-Some-Sub.field-0-0 c.in-Some-Sub.op c.in-Some-Sub.reply c.as_ref.result c.in-Some-Sub.field-0-is c.in-Some-Sub.ensures c.as_ref.ensures.value, c.leaves_junk.ensures yes)

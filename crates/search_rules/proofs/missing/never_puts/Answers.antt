@@ -1,12 +1,12 @@
 use Rattle.search_effects.specs.Effects.{told_of}
-use Rattle.search_rules.proofs.PairLemmas.{sub_at, due_is_idle, free_is_idle}
+use Rattle.search_rules.proofs.PairLemmas.{sub_told, due_is_idle, free_is_idle}
 use Rattle.search_rules.proofs.ByteLemmas.{puts_at, idle_puts}
 use Rattle.search_rules.proofs.missing.never_puts.Goals as goal
 
 pub returns-in-Some-Sub : goal.returns-in-Some-Sub
 returns-in-Some-Sub c = λ yes.
-    puts_at c.args.log.now c.args.b c.args.need.place c.args.need.value c.in-Some-Sub.field-0-0 c.in-Some-Sub.op.now (told_of c.in-Some-Sub.reply)
-    (sub_at c.args.log.now.events c.args.b c.in-Some-Sub.field-0 c.in-Some-Sub.field-0-0 c.in-Some-Sub.op c.in-Some-Sub.reply c.in-Some-Sub.field-0-is c.in-Some-Sub.ensures) (c.keeps_byte.ensures yes)
+    puts_at c.args.log.now c.args.b c.args.need.place c.args.need.value c.in-Some-Sub.field-0-0 c.in-Some-Sub.op (told_of c.as_ref.result)
+    (sub_told c.args.log.now.events c.args.b c.in-Some-Sub.field-0 c.in-Some-Sub.field-0-0 c.in-Some-Sub.op c.in-Some-Sub.reply c.as_ref.result c.in-Some-Sub.field-0-is c.in-Some-Sub.ensures c.as_ref.ensures.value) (c.keeps_byte.ensures yes)
 
 pub returns-in-Some-Due : goal.returns-in-Some-Due
 returns-in-Some-Due c = λ yes.

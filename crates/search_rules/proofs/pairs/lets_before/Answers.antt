@@ -1,12 +1,12 @@
 use Rattle.search_effects.specs.Effects.{told_of}
-use Rattle.search_rules.proofs.PairLemmas.{sub_at, due_is_idle, free_is_idle}
+use Rattle.search_rules.proofs.PairLemmas.{sub_told, due_is_idle, free_is_idle}
 use Rattle.search_rules.proofs.FirstLemmas.{first_at, idle_first}
 use Rattle.search_rules.proofs.pairs.lets_before.Goals as goal
 
 pub returns-in-Some-Sub : goal.returns-in-Some-Sub
 returns-in-Some-Sub c = λ yes.
-    first_at c.args.log.now c.args.bytes.now c.args.b c.args.q c.in-Some-Sub.field-0-0 c.in-Some-Sub.op.now (told_of c.in-Some-Sub.reply)
-    (sub_at c.args.log.now.events c.args.b c.in-Some-Sub.field-0 c.in-Some-Sub.field-0-0 c.in-Some-Sub.op c.in-Some-Sub.reply c.in-Some-Sub.field-0-is c.in-Some-Sub.ensures) (c.lets_first_by.ensures yes)
+    first_at c.args.log.now c.args.bytes.now c.args.b c.args.q c.in-Some-Sub.field-0-0 c.in-Some-Sub.op (told_of c.as_ref.result)
+    (sub_told c.args.log.now.events c.args.b c.in-Some-Sub.field-0 c.in-Some-Sub.field-0-0 c.in-Some-Sub.op c.in-Some-Sub.reply c.as_ref.result c.in-Some-Sub.field-0-is c.in-Some-Sub.ensures c.as_ref.ensures.value) (c.lets_first_by.ensures yes)
 
 pub returns-in-Some-Due : goal.returns-in-Some-Due
 returns-in-Some-Due c = λ yes.

@@ -8,5 +8,5 @@ use Rattle.search_rules.proofs.pairs.lets_first_by.Goals as goal
 
 pub returns-in-Some-Sub : goal.returns-in-Some-Sub
 returns-in-Some-Sub c = λ yes.
-    first_by c.args.log.now.extent (slice_get c.args.log.now.events c.args.q) c.in-Some-Sub.field-0-0 c.base.result c.args.one.now c.in-Some-Sub.op.now (told_of c.args.told) (told_of c.in-Some-Sub.field-0-2) c.args.bytes.now (c.base.ensures.value ∙ ap (λ (e : Extent). e.base) c.extent.ensures)
+    first_by c.args.log.now.extent (slice_get c.args.log.now.events c.args.q) c.in-Some-Sub.field-0-0 c.base.result c.args.one.now c.in-Some-Sub.op (told_of c.args.told) c.in-Some-Sub.field-0-2 c.args.bytes.now (c.base.ensures.value ∙ ap (λ (e : Extent). e.base) c.extent.ensures)
     (sub_at c.args.log.now.events c.args.q c.in-Some-Sub.field-0 c.in-Some-Sub.field-0-0 c.in-Some-Sub.op c.in-Some-Sub.field-0-2 c.in-Some-Sub.field-0-is c.in-Some-Sub.ensures) (c.goes_behind.ensures yes)

@@ -2,10 +2,10 @@ use Rattle.std.proofs.Common.{◌∙◌, ap}
 use Rattle.std.specs.Prelude.{slice_get}
 use Rattle.seq_memory.specs.Limits.{Extent}
 use Rattle.search_effects.specs.Effects.{told_of}
-use Rattle.search_rules.proofs.PairLemmas.{sub_at, brings_by}
+use Rattle.search_rules.proofs.PairLemmas.{sub_told, brings_by}
 use Rattle.search_rules.proofs.pairs.never_brings_by.Goals as goal
 
 pub returns-in-Some-Sub : goal.returns-in-Some-Sub
 returns-in-Some-Sub c = λ yes.
-    brings_by c.args.log.now.extent (slice_get c.args.log.now.events c.args.q) c.in-Some-Sub.field-0-0 c.block.result c.args.one.now c.in-Some-Sub.op.now (told_of c.args.told) (told_of c.in-Some-Sub.reply) (c.block.ensures.value ∙ ap (λ (e : Extent). e.block) c.extent.ensures)
-    (sub_at c.args.log.now.events c.args.q c.in-Some-Sub.field-0 c.in-Some-Sub.field-0-0 c.in-Some-Sub.op c.in-Some-Sub.reply c.in-Some-Sub.field-0-is c.in-Some-Sub.ensures) (c.keeps_out.ensures yes)
+    brings_by c.args.log.now.extent (slice_get c.args.log.now.events c.args.q) c.in-Some-Sub.field-0-0 c.block.result c.args.one.now c.in-Some-Sub.op (told_of c.args.told) (told_of c.as_ref.result) (c.block.ensures.value ∙ ap (λ (e : Extent). e.block) c.extent.ensures)
+    (sub_told c.args.log.now.events c.args.q c.in-Some-Sub.field-0 c.in-Some-Sub.field-0-0 c.in-Some-Sub.op c.in-Some-Sub.reply c.as_ref.result c.in-Some-Sub.field-0-is c.in-Some-Sub.ensures c.as_ref.ensures.value) (c.keeps_out.ensures yes)

@@ -1,16 +1,16 @@
 use Rattle.search_effects.specs.Effects.{told_of}
-use Rattle.search_rules.proofs.PairLemmas.{sub_at, due_is_idle, free_is_idle, brings_at, yields_at, idle_brings, idle_yields}
+use Rattle.search_rules.proofs.PairLemmas.{sub_told, due_is_idle, free_is_idle, brings_at, yields_at, idle_brings, idle_yields}
 use Rattle.search_rules.proofs.pairs.yields.Goals as goal
 
 pub returns-in-Some-Sub-clause-brings : goal.returns-in-Some-Sub-clause-brings
 returns-in-Some-Sub-clause-brings c = λ yes.
-    brings_at c.args.log.now c.args.b c.args.q c.in-Some-Sub.field-0-0 c.in-Some-Sub.op.now (told_of c.in-Some-Sub.reply)
-    (sub_at c.args.log.now.events c.args.b c.in-Some-Sub.field-0 c.in-Some-Sub.field-0-0 c.in-Some-Sub.op c.in-Some-Sub.reply c.in-Some-Sub.field-0-is c.in-Some-Sub.ensures) (c.yields_by.ensures.brings yes)
+    brings_at c.args.log.now c.args.b c.args.q c.in-Some-Sub.field-0-0 c.in-Some-Sub.op (told_of c.as_ref.result)
+    (sub_told c.args.log.now.events c.args.b c.in-Some-Sub.field-0 c.in-Some-Sub.field-0-0 c.in-Some-Sub.op c.in-Some-Sub.reply c.as_ref.result c.in-Some-Sub.field-0-is c.in-Some-Sub.ensures c.as_ref.ensures.value) (c.yields_by.ensures.brings yes)
 
 pub returns-in-Some-Sub-clause-order : goal.returns-in-Some-Sub-clause-order
 returns-in-Some-Sub-clause-order c = λ yes.
-    yields_at c.args.log.now c.args.b c.args.q c.in-Some-Sub.field-0-0 c.in-Some-Sub.op.now (told_of c.in-Some-Sub.reply)
-    (sub_at c.args.log.now.events c.args.b c.in-Some-Sub.field-0 c.in-Some-Sub.field-0-0 c.in-Some-Sub.op c.in-Some-Sub.reply c.in-Some-Sub.field-0-is c.in-Some-Sub.ensures) (c.yields_by.ensures.order yes)
+    yields_at c.args.log.now c.args.b c.args.q c.in-Some-Sub.field-0-0 c.in-Some-Sub.op (told_of c.as_ref.result)
+    (sub_told c.args.log.now.events c.args.b c.in-Some-Sub.field-0 c.in-Some-Sub.field-0-0 c.in-Some-Sub.op c.in-Some-Sub.reply c.as_ref.result c.in-Some-Sub.field-0-is c.in-Some-Sub.ensures c.as_ref.ensures.value) (c.yields_by.ensures.order yes)
 
 pub returns-in-Some-Due-clause-brings : goal.returns-in-Some-Due-clause-brings
 returns-in-Some-Due-clause-brings c = λ yes.

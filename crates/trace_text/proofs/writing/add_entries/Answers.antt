@@ -1,16 +1,22 @@
-use Rattle.std.proofs.Common.{◌++◌, ◌∷◌, [], ◌∙◌, ap}
+use Rattle.std.proofs.Common.{◌∙◌, ap, sym}
 use Rattle.std.specs.Prelude.{string_bytes}
-use Rattle.seq_memory.specs.Entries.{Entry}
 use Rattle.trace_text.specs.Texts.{entry_line}
-use Rattle.trace_text.proofs.TextLemmas.{text-next, text-past}
+use Rattle.trace_text.proofs.TextLemmas.{text-next, text-past, text-there}
+use Rattle.trace_text.proofs.writing.add_entries.Goals.{in-Some+in_ok-push_str, in_default}
 use Rattle.trace_text.proofs.writing.add_entries.Goals as goal
 
-pub loop-entry-preserved : goal.loop-entry-preserved
-loop-entry-preserved c =
-    text-next entry_line c.args.history.now c.loop-entry.entry-index c.entry-item.result (string_bytes c.loop-entry.text) c.as_str.result.now (string_bytes c.push_str.new.self)
-    c.loop-entry-test.true c.entry-item.is (c.as_str.ensures.value ∙ c.put_entry.ensures ∙ ap (λ (e : Entry). entry_line e ++ 10 ∷ []) c.lend.ensures) c.in_ok-push_str.ensures.bytes
-    ∙ c.loop-entry.invariant
+pub loop-index-preserved : goal.loop-index-preserved
+loop-index-preserved g c =
+    let xs = (g.C.AsClaim.claim c.args.claim.now).memory.entries in
+    elim c.match-entry.branch [
+      | in-Some+in_ok-push_str w ↦
+          text-next entry_line xs c.loop-index.index w.in-Some.entry (string_bytes c.loop-index.text) w.as_str.result.now (string_bytes c.match-entry.text) (sym c.entry.ensures ∙ w.in-Some.is)
+          (w.as_str.ensures.value ∙ w.put_entry.ensures) (ap string_bytes w.text-is ∙ w.in_ok-push_str.ensures.bytes)
+          ∙ c.loop-index.invariant
+      | in_default w ↦ absurd (text-there xs c.loop-index.index _ c.entries-index-end.ensures c.loop-index-test.true (sym c.entry.ensures ∙ w.in_default.is))
+    ]
 
 pub returns : goal.returns
-returns c =
-    text-past entry_line c.args.history.now c.loop-entry.entry-index (string_bytes c.loop-entry.text) c.loop-entry-test.false ∙ c.loop-entry.invariant
+returns g c =
+    let xs = (g.C.AsClaim.claim c.args.claim.now).memory.entries in
+    text-past entry_line xs c.loop-index.index (string_bytes c.loop-index.text) (rw (← c.entries-index-end.ensures) c.loop-index-test.false) ∙ c.loop-index.invariant

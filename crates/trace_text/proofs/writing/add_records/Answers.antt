@@ -1,16 +1,22 @@
-use Rattle.std.proofs.Common.{◌++◌, ◌∷◌, [], ◌∙◌, ap}
+use Rattle.std.proofs.Common.{◌∙◌, ap, sym}
 use Rattle.std.specs.Prelude.{string_bytes}
-use Rattle.history_words.specs.Records.{Record}
 use Rattle.trace_text.specs.Texts.{record_line}
-use Rattle.trace_text.proofs.TextLemmas.{text-next, text-past}
+use Rattle.trace_text.proofs.TextLemmas.{text-next, text-past, text-there}
+use Rattle.trace_text.proofs.writing.add_records.Goals.{in-Some+in_ok-push_str, in_default}
 use Rattle.trace_text.proofs.writing.add_records.Goals as goal
 
-pub loop-record-preserved : goal.loop-record-preserved
-loop-record-preserved c =
-    text-next record_line c.args.records.now c.loop-record.record-index c.record-item.result (string_bytes c.loop-record.text) c.as_str.result.now (string_bytes c.push_str.new.self)
-    c.loop-record-test.true c.record-item.is (c.as_str.ensures.value ∙ c.put_record.ensures ∙ ap (λ (r : Record). record_line r ++ 10 ∷ []) c.lend.ensures) c.in_ok-push_str.ensures.bytes
-    ∙ c.loop-record.invariant
+pub loop-place-preserved : goal.loop-place-preserved
+loop-place-preserved g c =
+    let xs = (g.C.AsClaim.claim c.args.claim.now).records in
+    elim c.match-record.branch [
+      | in-Some+in_ok-push_str w ↦
+          text-next record_line xs c.loop-place.place w.in-Some.record (string_bytes c.loop-place.text) w.as_str.result.now (string_bytes c.match-record.text) (sym c.record.ensures ∙ w.in-Some.is)
+          (w.as_str.ensures.value ∙ w.put_record.ensures) (ap string_bytes w.text-is ∙ w.in_ok-push_str.ensures.bytes)
+          ∙ c.loop-place.invariant
+      | in_default w ↦ absurd (text-there xs c.loop-place.place _ c.records-place-end.ensures c.loop-place-test.true (sym c.record.ensures ∙ w.in_default.is))
+    ]
 
 pub returns : goal.returns
-returns c =
-    text-past record_line c.args.records.now c.loop-record.record-index (string_bytes c.loop-record.text) c.loop-record-test.false ∙ c.loop-record.invariant
+returns g c =
+    let xs = (g.C.AsClaim.claim c.args.claim.now).records in
+    text-past record_line xs c.loop-place.place (string_bytes c.loop-place.text) (rw (← c.records-place-end.ensures) c.loop-place-test.false) ∙ c.loop-place.invariant

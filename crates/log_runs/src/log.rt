@@ -1,0 +1,220 @@
+//! What a search goes through.
+ghost use Rattle.std.specs.Prelude.{◌≡◌, IfOk, List, length, map, option_and_then, option_map, slice_get};
+ghost use Rattle.history_words.specs.Records.{Record};
+ghost use Rattle.log_runs.specs.EventView.{event_in, event_of, part_event, reply_there, submission_there, unanswered};
+
+use history_words::RecordRef;
+use seq_memory::{Extent, ReplyRef};
+use std::alloc::{AllocError, Global};
+use std::marker::Model;
+use tlp_core::OpRef;
+use trace_store::Records;
+
+/// What a log has at one place. A request is named by the place of its submission, from 0.
+#[derive(Drop)]
+pub enum Event<'a> {
+    /// A submission, and the reply that the log has for it, if it has one.
+    Sub {
+        requester: u8,
+        op: OpRef<'a>,
+        reply: Option<ReplyRef<'a>>,
+    },
+    /// The answer to the request at that place.
+    Due {
+        request: usize,
+    },
+    /// An answer of which a search makes nothing.
+    Free,
+}
+
+/// An event, by the places of its records.
+#[derive(Clone, Copy, Debug)]
+pub enum EventAt {
+    /// The submission at that place, and the answer with the reply that the log has for it, if it has one.
+    Sub {
+        submission: usize,
+        answer: Option<usize>,
+    },
+    /// The answer to a request.
+    Due {
+        request: usize,
+    },
+    /// An answer of which a search makes nothing.
+    Free,
+}
+
+/// An event of a part of a log.
+#[derive(Clone, Copy, Debug)]
+pub enum PartEvent {
+    /// The one that the whole log has at that place.
+    Whole(usize),
+    /// The same, but if it is a submission, without its reply.
+    Unanswered(usize),
+    /// The answer to a request, by the place that this has in the part.
+    Due { request: usize },
+    /// An answer of which a search makes nothing.
+    Free,
+}
+
+/// What a search goes through: the events of a log, and where its memory lies. The operations and
+/// replies are lent by the records.
+#[derive(Drop)]
+pub struct Log<'a> {
+    extent: Extent,
+    records: Records<'a>,
+    events: Vec<EventAt>,
+}
+
+impl<'a> Model for Log<'a> {
+    ghost use Rattle.std.specs.Prelude.{map};
+    ghost use Rattle.log_runs.specs.EventView.{event_in};
+    ghost use Rattle.log_runs.specs.LogView.{LogView};
+
+    ghost Value = { LogView };
+
+    ghost view = { λ m. record { extent = m.extent; events = map (event_in m.records) m.events.items } };
+}
+
+/// The reply of the answer at the place.
+#[inline(always)]
+fn reply_at<'a>(records: &Records<'a>, place: usize) -> Option<ReplyRef<'a>>
+    ensures { result ≡ reply_there (slice_get records.now place) }
+{
+    match records.get(place) {
+        Some(RecordRef::Ans { reply, .. }) => Some(reply),
+        _ => None,
+    }
+}
+
+/// The event of the submission at the place, which has that reply.
+#[inline(always)]
+fn submission_at<'a>(records: &Records<'a>, place: usize, reply: Option<ReplyRef<'a>>) -> Event<'a>
+    ensures { event_of result ≡ submission_there (slice_get records.now place) reply.entry }
+{
+    match records.get(place) {
+        Some(RecordRef::Sub { requester, op, .. }) => Event::Sub {
+            requester,
+            op,
+            reply,
+        },
+        _ => Event::Free,
+    }
+}
+
+/// The event, with what its records lend.
+#[inline(always)]
+fn lent<'a>(records: &Records<'a>, event: EventAt) -> Event<'a>
+    ensures { event_of result ≡ event_in records.now event }
+{
+    match event {
+        EventAt::Sub { submission, answer } => {
+            let reply = match answer {
+                Some(place) => reply_at(records, place),
+                None => None,
+            };
+            submission_at(records, submission, reply)
+        }
+        EventAt::Due { request } => Event::Due { request },
+        EventAt::Free => Event::Free,
+    }
+}
+
+/// The event; if it is a submission, without its reply.
+#[tactic(auto, using(crate::proofs::Placed::without))]
+fn without_answer(event: EventAt) -> EventAt
+    ensures { (rs : List Record) → event_in rs result ≡ unanswered (event_in rs event) }
+{
+    match event {
+        EventAt::Sub { submission, .. } => EventAt::Sub {
+            submission,
+            answer: None,
+        },
+        EventAt::Due { request } => EventAt::Due { request },
+        EventAt::Free => EventAt::Free,
+    }
+}
+
+/// The event of a part of a log that has these events.
+fn placed(events: &[EventAt], event: PartEvent) -> EventAt
+    ensures { (rs : List Record) → event_in rs result ≡ part_event (map (event_in rs) events.now) event }
+{
+    match event {
+        PartEvent::Whole(at) => match events.get(at) {
+            Some(event) => *event,
+            None => EventAt::Free,
+        },
+        PartEvent::Unanswered(at) => match events.get(at) {
+            Some(event) => without_answer(*event),
+            None => EventAt::Free,
+        },
+        PartEvent::Due { request } => EventAt::Due { request },
+        PartEvent::Free => EventAt::Free,
+    }
+}
+
+/// The events of a part.
+fn all_placed(
+    alloc: Global,
+    events: &[EventAt],
+    parts: &[PartEvent],
+) -> Result<Vec<EventAt>, AllocError>
+    ensures { IfOk result (λ v. (rs : List Record) → map (event_in rs) v.items ≡ map (part_event (map (event_in rs) events.now)) parts.now) }
+{
+    let mut all = Vec::with_capacity(alloc, parts.len())?;
+    for part in parts {
+        all.push(placed(events, *part))?;
+    }
+    Ok(all)
+}
+
+impl<'a> Log<'a> {
+    /// The log of these events, whose records these are, over that memory.
+    pub fn new(extent: Extent, records: Records<'a>, events: Vec<EventAt>) -> Log<'a>
+        ensures { result ≡ record { extent = extent; events = map (event_in records.entry) events.items } }
+    {
+        Log {
+            extent,
+            records,
+            events,
+        }
+    }
+
+    /// Where its memory lies.
+    pub fn extent(&self) -> Extent
+        ensures { result ≡ self.now.extent }
+    {
+        self.extent
+    }
+
+    /// How many events there are.
+    pub fn len(&self) -> usize
+        ensures { result ≡ length self.now.events }
+    {
+        self.events.len()
+    }
+
+    /// The event at that place.
+    #[inline(always)]
+    pub fn event(&self, at: usize) -> Option<Event<'a>>
+        ensures { option_map event_of result ≡ slice_get self.now.events at }
+    {
+        Some(lent(&self.records, *self.events.get(at)?))
+    }
+
+    /// A log of such events over that memory, with the same records.
+    pub fn part(
+        &self,
+        alloc: Global,
+        extent: Extent,
+        events: &[PartEvent],
+    ) -> Result<Log<'a>, AllocError>
+        ensures { IfOk result (λ l. l ≡ record { extent = extent; events = map (part_event self.now.events) events.now }) }
+    {
+        let events = all_placed(alloc, &self.events, events)?;
+        Ok(Log {
+            extent,
+            records: self.records.first(self.records.len()),
+            events,
+        })
+    }
+}

@@ -1,0 +1,10 @@
+use Rattle.std.proofs.Common.{refl}
+use Rattle.search_history.proofs.Runs.{seen_same}
+use Rattle.search_history.proofs.searching.answered.Goals as goal
+use Rattle.trace_store.specs.Changes.{seen_by}
+
+pub returns-in-None-clause-alike : goal.returns-in-None-clause-alike
+returns-in-None-clause-alike c = seen_same (seen_by c.args.store.now) (seen_by c.args.store.now) refl
+
+pub returns-in-Limit-clause-alike : goal.returns-in-Limit-clause-alike
+returns-in-Limit-clause-alike c = seen_same (seen_by c.args.store.now) (seen_by c.args.store.now) refl
