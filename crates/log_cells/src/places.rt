@@ -1,10 +1,10 @@
 //! Which bytes the events of a log name.
 ghost use Rattle.std.specs.Prelude.{◌≡◌, ◌+◌, ◌≤◌, ◌⊎◌, ℕ, IfOk, IsTrue, Some, slice_get};
 ghost use Rattle.tlp_core.specs.Operation.{address_of, count_of};
-ghost use Rattle.log_runs.specs.EventView.{EventView, event_of};
+ghost use Rattle.log_runs.specs.EventView.{EventView};
 ghost use Rattle.log_cells.specs.Places.{ArePlaces, IsPlaceOf};
 
-use log_runs::{Event, Log};
+use log_runs::{EventHeader, Log};
 use std::alloc::{AllocError, Global};
 use tlp_core::OpRef;
 
@@ -52,23 +52,17 @@ fn known(places: &[Place], request: usize) -> Place {
     }
 }
 
-/// The place of a request, or of the request that an answer answers.
-fn place_of_event(event: Event<'_>, places: &[Place]) -> Place
-    ensures { IsPlaceOf (event_of event.entry) result }
-{
-    match event {
-        Event::Sub { op, .. } => place_of(&op),
-        Event::Due { request } => known(places, request),
-        Event::Free => NOWHERE,
-    }
-}
-
 /// The place of the event there.
 fn place_at(log: &Log<'_>, at: usize, places: &[Place]) -> Place
     ensures { (e : EventView) → slice_get log.now.events at ≡ Some e → IsPlaceOf e result }
 {
-    match log.event(at) {
-        Some(event) => place_of_event(event, places),
+    match log.header(at) {
+        Some(EventHeader::Sub { address, size, .. }) => Place {
+            from: address,
+            count: size,
+        },
+        Some(EventHeader::Due { request }) => known(places, request),
+        Some(EventHeader::Free) => NOWHERE,
         None => NOWHERE,
     }
 }

@@ -1,3 +1,4 @@
+pub mod Heading
 pub mod CountLemmas
 pub mod JoinLemmas
 pub mod EventLemmas

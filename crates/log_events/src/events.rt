@@ -6,10 +6,11 @@ ghost use Rattle.history_words.specs.Records.{Record};
 ghost use Rattle.history_words.specs.declared.record.RecordOf.TheVariants as kinds;
 ghost use Rattle.log_runs.specs.EventView.{event_in};
 ghost use Rattle.log_runs.specs.Tasks.{known, Says, AreEvents, AreAllEvents};
+ghost use Rattle.log_events.specs.Formed as spec;
 ghost use Rattle.log_events.specs.Joined.{partner, ArePartners, SaysAll};
 
 use crate::partners::Partners;
-use history_words::RecordRef;
+use history_words::{RecordHeader, RecordRef};
 use log_runs::{EventAt, Log};
 use seq_memory::{Extent, ReplyRef};
 use std::alloc::{AllocError, Global};
@@ -51,18 +52,21 @@ pub fn answer_at(
     }
 }
 
-/// The record submits the request.
-fn submits(item: &RecordRef<'_>, requester: u8, number: u32) -> bool
-    ensures yes { IsTrue result → (op : Op) × (n : ℕ) × (item.now ≡ kinds.Sub requester number op n) }
-    ensures own { (n : ℕ) (op : Op) → item.now ≡ kinds.Sub requester number op n → result ≡ true }
+/// The record at the place submits the request.
+pub(crate) fn submits(records: &Records<'_>, at: usize, requester: u8, number: u32) -> bool
+    ensures some { IsTrue result → (op : Op) × (n : ℕ) × (slice_get records.now at ≡ Some (kinds.Sub requester number op n)) }
+    ensures own { (n : ℕ) (op : Op) → slice_get records.now at ≡ Some (kinds.Sub requester number op n) → result ≡ true }
+    ensures value { (r : Record) → slice_get records.now at ≡ Some r → result ≡ spec.submits requester number r }
 {
-    match item {
-        RecordRef::Sub {
-            requester: who,
-            number: own,
-            ..
-        } => *who == requester && *own == number,
-        RecordRef::Ans { .. } => false,
+    match records.header(at) {
+        Some(
+            RecordHeader::Sub {
+                requester: who,
+                number: own,
+                ..
+            },
+        ) => who == requester && own == number,
+        _ => false,
     }
 }
 
@@ -77,7 +81,7 @@ pub(crate) fn submission_at(
     ensures own { (b n : ℕ) (op : Op) → at ≡ Some b → slice_get records.now b ≡ Some (kinds.Sub requester number op n) → result ≡ Some b }
 {
     let at = at?;
-    if submits(&records.get(at)?, requester, number) {
+    if submits(records, at, requester, number) {
         Some(at)
     } else {
         None

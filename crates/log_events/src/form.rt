@@ -14,9 +14,9 @@ ghost use Rattle.log_events.specs.Formed as spec;
 ghost use Rattle.log_events.specs.Joined.{AreJoined, ArePartners};
 
 use crate::counts::Counts;
-use crate::events::submission_at;
+use crate::events::{submission_at, submits};
 use crate::partners::Partners;
-use history_words::RecordRef;
+use history_words::RecordHeader;
 use log_runs::laws::{numbers_name_submissions, submissions_grow_by_records};
 use std::alloc::{AllocError, Global};
 use trace_store::Records;
@@ -61,38 +61,13 @@ fn place(rows: &[Vec<usize>], requester: u8, number: u32) -> Option<usize> {
         .copied()
 }
 
-/// The record submits the request.
-fn submits(item: &RecordRef<'_>, requester: u8, number: u32) -> bool
-    ensures { result ≡ spec.submits requester number item.now }
-{
-    match item {
-        RecordRef::Sub {
-            requester: who,
-            number: own,
-            ..
-        } => *who == requester && *own == number,
-        RecordRef::Ans { .. } => false,
-    }
-}
-
-/// The record at the place submits the request.
-fn submits_at(records: &Records<'_>, at: usize, requester: u8, number: u32) -> bool
-    ensures some { IsTrue result → (op : Op) × (n : ℕ) × (slice_get records.now at ≡ Some (kinds.Sub requester number op n)) }
-    ensures value { (r : Record) → slice_get records.now at ≡ Some r → result ≡ spec.submits requester number r }
-{
-    match records.get(at) {
-        Some(item) => submits(&item, requester, number),
-        None => false,
-    }
-}
-
 /// The place of the first of the records that submits the request.
 fn first_submission(records: &Records<'_>, requester: u8, number: u32) -> Option<usize>
     ensures some { IfSome result (λ b. (op : Op) × (n : ℕ) × (slice_get records.now b ≡ Some (kinds.Sub requester number op n))) }
     ensures none { IfNone result (list_any (spec.submits requester number) records.now ≡ false) }
 {
     for at in 0..records.len() {
-        if submits_at(records, at, requester, number) {
+        if submits(records, at, requester, number) {
             return Some(at);
         }
     }
@@ -119,8 +94,8 @@ fn place_of(
 fn is_posted_at(records: &Records<'_>, at: usize) -> bool
     ensures { (i k n : ℕ) (op : Op) → slice_get records.now at ≡ Some (kinds.Sub i k op n) → result ≡ is_posted op }
 {
-    match records.get(at) {
-        Some(RecordRef::Sub { op, .. }) => op.is_posted(),
+    match records.header(at) {
+        Some(RecordHeader::Sub { is_posted, .. }) => is_posted,
         _ => false,
     }
 }
@@ -208,9 +183,9 @@ impl Tables {
     {
         submissions_grow_by_records();
         numbers_name_submissions();
-        match records.get(at) {
+        match records.header(at) {
             Some(
-                RecordRef::Sub {
+                RecordHeader::Sub {
                     requester,
                     number,
                     ..
@@ -222,7 +197,7 @@ impl Tables {
                 self.submit(requester, at)?;
             }
             Some(
-                RecordRef::Ans {
+                RecordHeader::Ans {
                     requester,
                     number,
                     ..

@@ -10,7 +10,7 @@
 pub mod laws;
 mod log;
 
-pub use log::{Event, EventAt, Log, PartEvent};
+pub use log::{Event, EventAt, EventHeader, Log, PartEvent};
 
 /// A step of a run through a log.
 #[derive(Clone, Copy, Debug, PartialEq, Eq)]

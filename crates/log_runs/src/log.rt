@@ -1,9 +1,10 @@
 //! What a search goes through.
-ghost use Rattle.std.specs.Prelude.{◌≡◌, IfOk, List, length, map, option_and_then, option_map, slice_get};
+ghost use Rattle.std.specs.Prelude.{◌≡◌, IfOk, List, is_some, length, map, option_and_then, option_map, slice_get};
 ghost use Rattle.history_words.specs.Records.{Record};
 ghost use Rattle.log_runs.specs.EventView.{event_in, event_of, part_event, reply_there, submission_there, unanswered};
+ghost use Rattle.log_runs.specs.Headers.{header_of, header_there};
 
-use history_words::RecordRef;
+use history_words::{RecordHeader, RecordRef};
 use seq_memory::{Extent, ReplyRef};
 use std::alloc::{AllocError, Global};
 use std::marker::Model;
@@ -18,6 +19,26 @@ pub enum Event<'a> {
         requester: u8,
         op: OpRef<'a>,
         reply: Option<ReplyRef<'a>>,
+    },
+    /// The answer to the request at that place.
+    Due {
+        request: usize,
+    },
+    /// An answer of which a search makes nothing.
+    Free,
+}
+
+/// An event without its operation and its reply.
+#[derive(Clone, Copy, Debug)]
+pub enum EventHeader {
+    /// A submission: by whom, whether it is posted, and whether the log has a reply for it; the first address and the
+    /// number of the bytes that it names.
+    Sub {
+        requester: u8,
+        is_posted: bool,
+        is_answered: bool,
+        address: u64,
+        size: u32,
     },
     /// The answer to the request at that place.
     Due {
@@ -119,6 +140,59 @@ fn lent<'a>(records: &Records<'a>, event: EventAt) -> Event<'a>
     }
 }
 
+/// An answer stands at the place.
+#[inline(always)]
+fn is_answer(records: &Records<'_>, place: usize) -> bool
+    ensures { result ≡ is_some (reply_there (slice_get records.now place)) }
+{
+    matches!(records.header(place), Some(RecordHeader::Ans { .. }))
+}
+
+/// The header of the submission at the place, which has a reply or none.
+#[inline(always)]
+fn submission_header(records: &Records<'_>, place: usize, is_answered: bool) -> EventHeader
+    ensures { result ≡ header_there (slice_get records.now place) is_answered }
+{
+    let Some(
+        RecordHeader::Sub {
+            requester,
+            is_posted,
+            ..
+        },
+    ) = records.header(place)
+    else {
+        return EventHeader::Free;
+    };
+    let Some((address, size)) = records.range(place) else {
+        return EventHeader::Free;
+    };
+    EventHeader::Sub {
+        requester,
+        is_posted,
+        is_answered,
+        address,
+        size,
+    }
+}
+
+/// The event without its operation and its reply.
+#[inline(always)]
+fn header_in(records: &Records<'_>, event: EventAt) -> EventHeader
+    ensures { result ≡ header_of (event_in records.now event) }
+{
+    match event {
+        EventAt::Sub { submission, answer } => {
+            let is_answered = match answer {
+                Some(place) => is_answer(records, place),
+                None => false,
+            };
+            submission_header(records, submission, is_answered)
+        }
+        EventAt::Due { request } => EventHeader::Due { request },
+        EventAt::Free => EventHeader::Free,
+    }
+}
+
 /// The event; if it is a submission, without its reply.
 #[tactic(auto, using(crate::proofs::Placed::without))]
 fn without_answer(event: EventAt) -> EventAt
@@ -199,6 +273,14 @@ impl<'a> Log<'a> {
         ensures { option_map event_of result ≡ slice_get self.now.events at }
     {
         Some(lent(&self.records, *self.events.get(at)?))
+    }
+
+    /// The event at that place, without its operation and its reply. It reads less than [`Log::event`].
+    #[inline(always)]
+    pub fn header(&self, at: usize) -> Option<EventHeader>
+        ensures { result ≡ option_map header_of (slice_get self.now.events at) }
+    {
+        Some(header_in(&self.records, *self.events.get(at)?))
     }
 
     /// A log of such events over that memory, with the same records.

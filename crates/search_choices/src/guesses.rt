@@ -11,8 +11,8 @@ pub struct Turn {
     pub part: u32,
     /// How many act before it in the run through the part.
     pub before: u32,
-    /// Those are submitted before this place of the log.
-    pub since: usize,
+    /// Those are submitted before this place of the log; `u32::MAX` if that has more bits.
+    pub since: u32,
 }
 
 /// The request is in no part.
@@ -59,7 +59,7 @@ fn next_with(place: &Place, turns: &[Turn], q: usize) -> Option<usize> {
     }
     let first = first_in(place, turns, turn.part)?;
     match turns.get(first) {
-        Some(turn) => if turn.since <= place.event() {
+        Some(turn) => if turn.since as usize <= place.event() {
             Some(first)
         } else {
             None

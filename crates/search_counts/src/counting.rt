@@ -6,7 +6,8 @@ ghost use Rattle.search_counts.specs.Counts.{puts_of, takes_of};
 use crate::laws::what_is_overdrawn_is_dead;
 use crate::roles::{Role, first_of, role_of};
 use crate::taken::{Taken, all_taken, answers_of};
-use log_runs::Log;
+use log_runs::{Event, Log};
+use search_rules::Answered;
 use std::alloc::{AllocError, Global};
 
 /// How many requests are looked at in all, about.
@@ -52,15 +53,26 @@ fn is_overdrawn(log: &Log, places: &[usize], q: usize, most: usize) -> bool
     ensures { IsTrue result → Dead log.now (start log.now) }
 {
     what_is_overdrawn_is_dead();
+    let Some(Event::Sub { op, reply, .. }) = log.event(q) else {
+        return false;
+    };
+    let Some(reply) = reply else {
+        return false;
+    };
+    let found = Answered {
+        request: q,
+        op: &op,
+        reply: &reply,
+    };
     let mut tally = Tally {
         takes: 0,
-        puts: first_of(log, q),
+        puts: first_of(log, found),
     };
     for b in 0..log.len() {
         if tally.puts >= most {
             return false;
         }
-        tally = tally.plus(role_of(log, q, b, place_of(places, b)));
+        tally = tally.plus(role_of(log, found, b, place_of(places, b)));
     }
     tally.puts < tally.takes
 }

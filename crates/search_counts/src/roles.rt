@@ -5,13 +5,14 @@ ghost use Rattle.log_runs.specs.EventView as events;
 ghost use Rattle.log_runs.specs.Runs.{acted_on, bytes_after};
 ghost use Rattle.search_effects.specs.Effects as effects;
 ghost use Rattle.search_effects.specs.Effects.{Agrees, told_of};
+ghost use Rattle.search_rules.specs.Answered.{IsAnswered};
 ghost use Rattle.search_rules.specs.Rules.{Answers, Suits};
 ghost use Rattle.search_counts.specs.Counts.{IsFirst, IsRole};
 
-use log_runs::{Event, Log};
+use log_runs::{Event, EventHeader, Log};
 use search_effects::breaks;
 use search_effects::laws::what_is_needed_is_there;
-use search_rules::{is_served, never_brings};
+use search_rules::{Answered, is_apart, is_served, never_brings_answered};
 use seq_memory::ReplyRef;
 use tlp_core::OpRef;
 
@@ -67,59 +68,43 @@ fn finds_alike(
     old.as_slice() == need.as_slice()
 }
 
-/// The operation finds what request `q` found, by the replies, and takes it away.
-fn takes_by(
-    log: &Log,
-    one: &OpRef<'_>,
-    told: Option<&ReplyRef<'_>>,
-    other: &OpRef<'_>,
-    asked: Option<&ReplyRef<'_>>,
-) -> bool
+/// The operation finds what the answered request found, by the replies, and takes it away.
+fn takes_by(log: &Log, one: &OpRef<'_>, told: Option<&ReplyRef<'_>>, found: Answered<'_>) -> bool
     ensures finds { IsTrue result → (m : List ℕ) → length m ≡ log.now.extent.size → Answers log.now.extent m one.now (told_of told.entry) →
-        Answers log.now.extent m other.now (told_of asked.entry) }
+        Answers log.now.extent m found.entry.op.now (Some found.entry.reply.now) }
     ensures leaves { IsTrue result → (m : List ℕ) → length m ≡ log.now.extent.size → Answers log.now.extent m one.now (told_of told.entry) →
-        Answers log.now.extent (bytes_after log.now.extent m one.now) other.now (told_of asked.entry) → ⊥ }
+        Answers log.now.extent (bytes_after log.now.extent m one.now) found.entry.op.now (Some found.entry.reply.now) → ⊥ }
 {
+    let Answered {
+        op: other,
+        reply,
+        ..
+    } = found;
     let Some(seen) = told else {
         return false;
     };
-    let Some(reply) = asked else {
+    if !finds_alike(one, seen, other, reply) {
         return false;
-    };
+    }
     if !is_served(log, one) {
         return false;
     }
     if !is_served(log, other) {
         return false;
     }
-    if !finds_alike(one, seen, other, reply) {
-        return false;
-    }
     breaks(log.extent().block(), one, told, other, reply)
 }
 
-/// The operation finds what request `q` found, and takes it away.
-fn takes_from(log: &Log, one: &OpRef<'_>, told: Option<&ReplyRef<'_>>, q: usize) -> bool
-    ensures finds { IsTrue result → (m : List ℕ) → length m ≡ log.now.extent.size → Answers log.now.extent m one.now (told_of told.entry) →
-        Suits log.now.extent m (slice_get log.now.events q) }
-    ensures leaves { IsTrue result → (m : List ℕ) → length m ≡ log.now.extent.size → Answers log.now.extent m one.now (told_of told.entry) →
-        Suits log.now.extent (bytes_after log.now.extent m one.now) (slice_get log.now.events q) → ⊥ }
-{
-    match log.event(q) {
-        Some(Event::Sub { op, reply, .. }) => takes_by(log, one, told, &op, reply.as_ref()),
-        _ => false,
-    }
-}
-
-/// Request `b` finds what request `q` found, and takes it away.
-fn takes(log: &Log, b: usize, q: usize) -> bool
+/// Request `b` finds what the answered request found, and takes it away.
+fn takes(log: &Log, b: usize, found: Answered<'_>) -> bool
+    requires { IsAnswered log.now found }
     ensures finds { IsTrue result → (m : List ℕ) → length m ≡ log.now.extent.size → Suits log.now.extent m (slice_get log.now.events b) →
-        Suits log.now.extent m (slice_get log.now.events q) }
+        Suits log.now.extent m (slice_get log.now.events found.entry.request) }
     ensures leaves { IsTrue result → (m : List ℕ) → length m ≡ log.now.extent.size → Suits log.now.extent m (slice_get log.now.events b) →
-        Suits log.now.extent (acted_on log.now.extent m (slice_get log.now.events b)) (slice_get log.now.events q) → ⊥ }
+        Suits log.now.extent (acted_on log.now.extent m (slice_get log.now.events b)) (slice_get log.now.events found.entry.request) → ⊥ }
 {
     match log.event(b) {
-        Some(Event::Sub { op, reply, .. }) => takes_from(log, &op, reply.as_ref(), q),
+        Some(Event::Sub { op, reply, .. }) => takes_by(log, &op, reply.as_ref(), found),
         _ => false,
     }
 }
@@ -128,20 +113,24 @@ fn takes(log: &Log, b: usize, q: usize) -> bool
 fn answers(log: &Log, place: usize, b: usize) -> bool
     ensures { IsTrue result → slice_get log.now.events place ≡ Some (events.Due b) }
 {
-    match log.event(place) {
-        Some(Event::Due { request }) => request == b,
+    match log.header(place) {
+        Some(EventHeader::Due { request }) => request == b,
         _ => false,
     }
 }
 
-/// What request `b`, which may be answered at that place, does to what request `q` found.
-pub(crate) fn role_of(log: &Log, q: usize, b: usize, place: usize) -> Role
-    ensures { IsRole log.now q b result }
+/// What request `b`, which may be answered at that place, does to what the answered request found.
+pub(crate) fn role_of(log: &Log, found: Answered<'_>, b: usize, place: usize) -> Role
+    requires { IsAnswered log.now found }
+    ensures { IsRole log.now found.entry.request b result }
 {
-    if answers(log, place, b) && takes(log, b, q) {
+    if is_apart(log, b, found.request) {
+        return Role::Keeps;
+    }
+    if answers(log, place, b) && takes(log, b, found) {
         return Role::Takes;
     }
-    if never_brings(log, b, q) {
+    if never_brings_answered(log, b, found) {
         return Role::Keeps;
     }
     Role::MayPut
@@ -160,13 +149,10 @@ fn has_byte(bytes: &[u8]) -> bool
 }
 
 /// Zeros don't answer the operation so.
-fn changes_zeros(op: &OpRef<'_>, told: Option<&ReplyRef<'_>>) -> bool
-    ensures { IsTrue result → (base block n : ℕ) → Agrees base block (replicate n 0) op.now (told_of told.entry) → ⊥ }
+fn changes_zeros(op: &OpRef<'_>, reply: &ReplyRef<'_>) -> bool
+    ensures { IsTrue result → (base block n : ℕ) → answer base block (replicate n 0) op.now ≡ reply.now → ⊥ }
 {
     what_is_needed_is_there();
-    let Some(reply) = told else {
-        return false;
-    };
     let ReplyRef::Data(data) = reply else {
         return false;
     };
@@ -176,17 +162,15 @@ fn changes_zeros(op: &OpRef<'_>, told: Option<&ReplyRef<'_>>) -> bool
     has_byte(data.as_slice())
 }
 
-/// How often what request `q` found may be there at the start.
-pub(crate) fn first_of(log: &Log, q: usize) -> usize
-    ensures first { IsFirst log.now q result }
+/// How often what the answered request found may be there at the start.
+pub(crate) fn first_of(log: &Log, found: Answered<'_>) -> usize
+    requires { IsAnswered log.now found }
+    ensures first { IsFirst log.now found.entry.request result }
     ensures few { result ≤ 1 }
 {
-    match log.event(q) {
-        Some(Event::Sub { op, reply, .. }) => if changes_zeros(&op, reply.as_ref()) {
-            0
-        } else {
-            1
-        },
-        _ => 1,
+    if changes_zeros(found.op, found.reply) {
+        0
+    } else {
+        1
     }
 }

@@ -1,5 +1,5 @@
 //! What AtomicOps were answered. Nothing rests on what these functions say.
-use log_runs::{Event, Log};
+use log_runs::{Event, EventHeader, Log};
 use seq_memory::ReplyRef;
 use std::alloc::{AllocError, Global};
 use tlp_core::OpRef;
@@ -35,7 +35,7 @@ fn taken_by(log: &Log, b: usize, place: usize) -> Option<Taken> {
 pub(crate) fn all_taken(alloc: Global, log: &Log) -> Result<Vec<Taken>, AllocError> {
     let mut all = Vec::new(alloc);
     for place in 0..log.len() {
-        if let Some(Event::Due { request }) = log.event(place)
+        if let Some(EventHeader::Due { request }) = log.header(place)
             && let Some(taken) = taken_by(log, request, place)
         {
             all.push(taken)?;
@@ -49,7 +49,7 @@ pub(crate) fn all_taken(alloc: Global, log: &Log) -> Result<Vec<Taken>, AllocErr
 pub(crate) fn answers_of(alloc: Global, log: &Log) -> Result<Vec<usize>, AllocError> {
     let mut places = vec![in alloc; usize::MAX; log.len()]?;
     for place in 0..log.len() {
-        if let Some(Event::Due { request }) = log.event(place)
+        if let Some(EventHeader::Due { request }) = log.header(place)
             && request < places.len()
         {
             places[request] = place;

@@ -24,6 +24,6 @@ mod waiting;
 pub use covering::{covers, spans};
 pub use pairs::{breaks, clashes, never_brings, yields};
 pub use puts::{is_quiet, left, never_puts};
-pub use ranges::{are_apart, is_needed, is_put};
+pub use ranges::{are_apart, is_needed, is_put, lie_apart};
 pub use seeing::{never_gives, sees_none};
 pub use waiting::waits;

@@ -1,5 +1,5 @@
 //! Two requests.
-ghost use Rattle.std.specs.Prelude.{◌≡◌, ◌+◌, ◌<◌, ◌≢◌, ◌⊎◌, ℕ, true, None, Some, List, length, IsTrue, slice_index};
+ghost use Rattle.std.specs.Prelude.{◌≡◌, ◌+◌, ◌<◌, IfSome, ◌≢◌, ◌⊎◌, ℕ, true, None, Some, List, length, IsTrue, slice_index};
 ghost use Rattle.tlp_core.specs.Operation.{address_of, count_of};
 ghost use Rattle.seq_memory.specs.Limits.{IsBlock};
 ghost use Rattle.seq_memory.specs.declared.reply.ReplyOf.TheVariants as replies;
@@ -8,11 +8,11 @@ ghost use Rattle.search_effects.specs.Effects as effects;
 ghost use Rattle.search_effects.specs.Effects.{Agrees, AreSameAt, told_of};
 
 use crate::laws::{apart_requests_commute, what_is_needed_is_there};
-use crate::puts::{is_quiet, is_read, left};
+use crate::puts::{changed, is_atomic, is_quiet, is_read, left};
 use crate::ranges::{are_apart, is_needed, is_put, place_in};
 use seq_memory::ReplyRef;
 use seq_memory::laws::{only_the_place_changes, refused_and_read_change_nothing};
-use tlp_core::OpRef;
+use tlp_core::{OpRef, PayloadRef};
 
 /// The first operation puts another byte at the place of the second than the second needs.
 fn puts_other(one: &OpRef<'_>, new: &[u8], other: &OpRef<'_>, need: &[u8], at: usize) -> bool
@@ -115,6 +115,50 @@ pub fn clashes(
     some_need_other(one, old.as_slice(), other, need.as_slice())
 }
 
+/// With which data the operation was answered, if it is an AtomicOp and was.
+fn atomic_data<'a>(one: &OpRef<'_>, told: Option<&'a ReplyRef<'a>>) -> Option<&'a PayloadRef<'a>>
+    ensures atomic { IfSome result (λ old. effects.is_atomic one.now ≡ true) }
+    ensures told { IfSome result (λ old. told_of told.entry ≡ Some (replies.Data old.now)) }
+{
+    if !is_atomic(one) {
+        return None;
+    }
+    let Some(seen) = told else {
+        return None;
+    };
+    let ReplyRef::Data(old) = seen else {
+        return None;
+    };
+    Some(old)
+}
+
+/// Right after the AtomicOp, which was answered with those bytes, the memory answers `reply` to `other` only if it did
+/// before.
+fn atomic_never_brings(
+    block: u16,
+    one: &OpRef<'_>,
+    old: &PayloadRef<'_>,
+    other: &OpRef<'_>,
+    reply: &ReplyRef<'_>,
+) -> bool
+    requires block { IsBlock block }
+    requires atomic { effects.is_atomic one.now ≡ true }
+    ensures { IsTrue result → (base : ℕ) (m : List ℕ) → answer base block m one.now ≡ replies.Data old.now →
+        answer base block (after base block m one.now) other.now ≡ reply.now → answer base block m other.now ≡ reply.now }
+{
+    what_is_needed_is_there();
+    only_the_place_changes();
+    refused_and_read_change_nothing();
+    let new = changed(block, one, old.as_slice());
+    if new.as_slice() == old.as_slice() {
+        return true;
+    }
+    let ReplyRef::Data(need) = reply else {
+        return false;
+    };
+    some_put_other(one, new.as_slice(), other, need.as_slice())
+}
+
 /// Right after `one`, which was answered `told` or not at all, the memory answers `reply` to `other`
 /// only if it did before.
 pub fn never_brings(
@@ -132,6 +176,9 @@ pub fn never_brings(
     refused_and_read_change_nothing();
     if are_apart(one, other) {
         return true;
+    }
+    if let Some(old) = atomic_data(one, told) {
+        return atomic_never_brings(block, one, old, other, reply);
     }
     if is_quiet(block, one, told) {
         return true;

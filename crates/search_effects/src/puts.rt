@@ -16,7 +16,7 @@ use seq_memory::laws::{only_the_place_changes, refused_and_read_change_nothing};
 use tlp_core::{OpRef, Payload, PayloadRef, Width, payload_of};
 
 /// What an operation leaves of the bytes at its place.
-fn changed(block: u16, op: &OpRef<'_>, old: &[u8]) -> Payload
+pub(crate) fn changed(block: u16, op: &OpRef<'_>, old: &[u8]) -> Payload
     requires block { IsBlock block }
     requires few { length old.now ≤ 128 }
     ensures { result.items ≡ after (address_of op.now) block old.now op.now }
@@ -26,7 +26,7 @@ fn changed(block: u16, op: &OpRef<'_>, old: &[u8]) -> Payload
     new
 }
 
-fn is_atomic(op: &OpRef<'_>) -> bool
+pub(crate) fn is_atomic(op: &OpRef<'_>) -> bool
     ensures { result ≡ effects.is_atomic op.now }
 {
     match op {

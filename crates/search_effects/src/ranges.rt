@@ -1,7 +1,8 @@
 //! Which bytes a request needs and puts.
 ghost use Rattle.std.specs.Prelude.{◌≡◌, ◌+◌, ◌-◌, ◌*◌, ◌/◌, ◌≤◌, IsTrue, IfSome};
 ghost use Rattle.tlp_core.specs.Enables.{dw_enables};
-ghost use Rattle.tlp_core.specs.Operation.{address_of};
+ghost use Rattle.tlp_core.specs.Ops.{Op};
+ghost use Rattle.tlp_core.specs.Operation.{address_of, count_of};
 ghost use Rattle.seq_memory.specs.Step as step;
 ghost use Rattle.search_effects.specs.Effects as effects;
 ghost use Rattle.std.specs.Prelude.{slice_index_or, false};
@@ -75,11 +76,18 @@ pub fn is_put(op: &OpRef<'_>, at: usize) -> bool
 pub fn are_apart(one: &OpRef<'_>, other: &OpRef<'_>) -> bool
     ensures { IsTrue result → effects.AreApart one.now other.now }
 {
-    let (a, b) = (one.address(), other.address());
-    if a <= b {
-        u64::from(one.size()) <= b - a
+    lie_apart((one.address(), one.size()), (other.address(), other.size()))
+}
+
+/// Of two ranges, each with its first address and its number of bytes, no address is in both.
+#[inline(always)]
+pub fn lie_apart(one: (u64, u32), other: (u64, u32)) -> bool
+    ensures { IsTrue result → (op w : Op) → address_of op ≡ one.0 → count_of op ≡ one.1 → address_of w ≡ other.0 → count_of w ≡ other.1 → effects.AreApart op w }
+{
+    if one.0 <= other.0 {
+        u64::from(one.1) <= other.0 - one.0
     } else {
-        u64::from(other.size()) <= a - b
+        u64::from(other.1) <= one.0 - other.0
     }
 }
 

@@ -84,7 +84,7 @@ impl Look {
         }
         Look::Marked {
             from: 0,
-            marks: left | sketch.frees,
+            marks: left | sketch.frees(),
         }
     }
 }
@@ -123,7 +123,7 @@ impl Scene<'_, '_> {
     /// It is worth a look whether the request may act: it has one of the marks, and the first bytes that it
     /// needs are there.
     pub(crate) fn is_worth(self, marks: u32, sketch: Sketch) -> bool {
-        sketch.marks & marks != 0 && sketch.may_fit(self.log.extent().base(), self.place.bytes())
+        sketch.marks & marks != 0 && sketch.may_fit(self.place.bytes())
     }
 
     /// At what a look is worth it right after the request acted, if that is known: at the only one that needs
@@ -196,7 +196,7 @@ impl Scene<'_, '_> {
             return false;
         };
         other < self.place.event()
-            && (sketch.mask == 0 || is_junk_at(self.log, self.place.bytes(), other, at.word))
+            && (sketch.needs_nothing() || is_junk_at(self.log, self.place.bytes(), other, at.word))
             && sketch.requester() & self.writers_before(own, other) == 0
             && (sketch.is_quiet() || is_within(self.log, other, at.request))
     }

@@ -4,7 +4,7 @@ ghost use Rattle.log_runs.specs.Runs.{Dead};
 ghost use Rattle.search_others.specs.Known.{AreOthers};
 ghost use Rattle.search_places.specs.Places.{IsPlace};
 
-use log_runs::{Event, Log, Step};
+use log_runs::{EventHeader, Log, Step};
 use search_others::{Loss, Others, missed_at};
 use search_places::{Done, Place};
 use search_words::span_of;
@@ -88,14 +88,14 @@ impl Losses {
         let Step::Act(request) = done.step else {
             return Ok(());
         };
-        let (Some((first, end)), Some(Event::Sub { op, .. })) = (
+        let (Some((first, end)), Some(EventHeader::Sub { address, .. })) = (
             span_of(log, request),
-            log.event(request),
+            log.header(request),
         ) else {
             return Ok(());
         };
         let old = Overwritten {
-            from: op.address().saturating_sub(log.extent().base()) as usize,
+            from: address.saturating_sub(log.extent().base()) as usize,
             bytes: done.old.as_slice(),
         };
         for word in first..end {

@@ -112,7 +112,7 @@ fn note(
     steps: &[Step],
 ) {
     let mut before = 0u32;
-    let mut since = 0usize;
+    let mut since = 0u32;
     for step in steps {
         if let Step::Act(b) = step
             && let Some(name) = names.get(*b)
@@ -125,7 +125,7 @@ fn note(
                 since,
             };
             before = before.saturating_add(1);
-            since = since.max(name.saturating_add(1));
+            since = since.max(u32::try_from(name.saturating_add(1)).unwrap_or(u32::MAX));
         }
     }
 }

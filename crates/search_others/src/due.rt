@@ -3,19 +3,26 @@ ghost use Rattle.std.specs.Prelude.{ℕ, ◌≡◌, ◌≤◌, Some, IfSome, IfO
 ghost use Rattle.log_runs.specs.EventView as events;
 ghost use Rattle.search_others.specs.Known.{AreEarliest, AreLower};
 
-use log_runs::{Event, Log};
+use log_runs::{EventHeader, Log};
 use std::alloc::{AllocError, Global};
 
 /// No place.
-const NOWHERE: usize = usize::MAX;
+const NOWHERE: u32 = u32::MAX;
 
-fn nowhere(alloc: Global, count: usize) -> Result<Vec<usize>, AllocError> {
+fn nowhere(alloc: Global, count: usize) -> Result<Vec<u32>, AllocError> {
     vec![in alloc; NOWHERE; count]
+}
+
+/// The place in 32 bits; one before it, if it has more.
+fn narrow(at: usize) -> u32
+    ensures { result ≤ at }
+{
+    u32::try_from(at).unwrap_or(u32::MAX)
 }
 
 /// The request's entry is no more than that.
 #[tactic(auto, using(crate::proofs::DueLemmas::beyond, crate::proofs::DueLemmas::lower_set, crate::proofs::DueLemmas::cut_set))]
-fn cut(due: &mut [usize], b: usize, most: usize)
+fn cut(due: &mut [u32], b: usize, most: u32)
     ensures lower { AreLower due.old due.new }
     ensures cut { slice_index due.new b ≤ most }
 {
@@ -29,21 +36,21 @@ fn cut(due: &mut [usize], b: usize, most: usize)
 }
 
 /// The entry of the request that is answered at that place, if one is, is no more than that.
-fn cut_at(log: &Log, due: &mut [usize], at: usize)
+fn cut_at(log: &Log, due: &mut [u32], at: usize)
     ensures lower { AreLower due.old due.new }
     ensures cut { (b : ℕ) → slice_get log.now.events at ≡ Some (events.Due b) → slice_index due.new b ≤ at }
 {
-    match log.event(at) {
-        Some(Event::Due { request }) => cut(due, request, at),
-        Some(Event::Sub { .. }) => {}
-        Some(Event::Free) => {}
+    match log.header(at) {
+        Some(EventHeader::Due { request }) => cut(due, request, narrow(at)),
+        Some(EventHeader::Sub { .. }) => {}
+        Some(EventHeader::Free) => {}
         None => {}
     }
 }
 
 /// The place of each request's first answer, by the place of its submission.
 #[tactic(auto, using(crate::proofs::DueLemmas::earliest_next, crate::proofs::DueLemmas::earliest_end))]
-fn answers(alloc: Global, log: &Log) -> Result<Vec<usize>, AllocError>
+fn answers(alloc: Global, log: &Log) -> Result<Vec<u32>, AllocError>
     ensures { IfOk result (λ v. AreEarliest log.now v.items) }
 {
     let mut due = nowhere(alloc, log.len())?;
@@ -54,17 +61,24 @@ fn answers(alloc: Global, log: &Log) -> Result<Vec<usize>, AllocError>
 }
 
 /// Of the requester's later answered requests the least place where one is due, and that of a request.
-fn lower(log: &Log, due: &mut [usize], least: &mut [usize], b: usize)
+fn lower(log: &Log, due: &mut [u32], least: &mut [u32], b: usize)
     ensures { AreLower due.old due.new }
 {
-    let Some(Event::Sub { requester, op, .. }) = log.event(b) else {
+    let Some(
+        EventHeader::Sub {
+            requester,
+            is_posted,
+            ..
+        },
+    ) = log.header(b)
+    else {
         return;
     };
     let who = usize::from(requester);
     if who >= least.len() || b >= due.len() {
         return;
     }
-    if op.is_posted() {
+    if is_posted {
         cut(due, b, least[who]);
     } else if due[b] < least[who] {
         least[who] = due[b];
@@ -74,7 +88,7 @@ fn lower(log: &Log, due: &mut [usize], least: &mut [usize], b: usize)
 /// The place of each request's answer, by the place of its submission; of a posted write, of the
 /// first answer to a later request of its requester.
 #[tactic(auto, using(crate::proofs::DueLemmas::earliest_lower))]
-pub(crate) fn places(alloc: Global, log: &Log) -> Result<Vec<usize>, AllocError>
+pub(crate) fn places(alloc: Global, log: &Log) -> Result<Vec<u32>, AllocError>
     ensures { IfOk result (λ v. AreEarliest log.now v.items) }
 {
     let mut due = answers(alloc, log)?;
@@ -87,20 +101,18 @@ pub(crate) fn places(alloc: Global, log: &Log) -> Result<Vec<usize>, AllocError>
 }
 
 /// The place before which the request must act, and the request whose answer stands there.
-pub(crate) fn held_until(due: &[usize], log: &Log, q: usize) -> Option<(usize, usize)>
+pub(crate) fn held_until(due: &[u32], log: &Log, q: usize) -> Option<(usize, usize)>
     ensures { IfSome result (λ d. slice_get log.now.events d.0 ≡ Some (events.Due d.1)) }
 {
-    let Some(a) = due.get(q) else {
-        return None;
-    };
-    match log.event(*a) {
-        Some(Event::Due { request }) => Some((*a, request)),
+    let a = *due.get(q)? as usize;
+    match log.header(a) {
+        Some(EventHeader::Due { request }) => Some((a, request)),
         _ => None,
     }
 }
 
 /// The place of the request's answer.
-pub(crate) fn place_of(due: &[usize], log: &Log, q: usize) -> Option<usize>
+pub(crate) fn place_of(due: &[u32], log: &Log, q: usize) -> Option<usize>
     ensures { IfSome result (λ a. slice_get log.now.events a ≡ Some (events.Due q)) }
 {
     let Some((a, r)) = held_until(due, log, q) else {

@@ -12,8 +12,8 @@ use std::marker::Model;
 /// What is known of a log's requests.
 #[derive(Drop)]
 pub struct Others {
-    /// The place of each request's answer.
-    due: Vec<usize>,
+    /// The place of each request's answer, or one before it, if it has more than 32 bits.
+    due: Vec<u32>,
     pub(crate) words: Words,
 }
 
@@ -63,7 +63,7 @@ impl Others {
         ensures { result ≡ slice_index self.now.due b }
     {
         match self.due.get(b) {
-            Some(at) => *at,
+            Some(at) => *at as usize,
             None => 0,
         }
     }

@@ -12,7 +12,7 @@ ghost use Rattle.search_places.specs.Ready as ready;
 
 use crate::bytes::reply_to;
 use crate::place::Place;
-use log_runs::{Event, Log};
+use log_runs::{Event, EventHeader, Log};
 use search_effects::waits;
 use seq_memory::{ReplyData, ReplyRef};
 use tlp_core::OpRef;
@@ -21,14 +21,14 @@ use tlp_core::OpRef;
 fn is_write(log: &Log, requester: u8, c: usize) -> bool
     ensures { result ≡ pending.is_write requester (slice_get log.now.events c) }
 {
-    match log.event(c) {
+    match log.header(c) {
         Some(
-            Event::Sub {
+            EventHeader::Sub {
                 requester: who,
-                op,
+                is_posted,
                 ..
             },
-        ) => requester == who && op.is_posted(),
+        ) => requester == who && is_posted,
         _ => false,
     }
 }
@@ -99,9 +99,9 @@ impl Place {
     pub fn may_pass(&self, log: &Log) -> bool
         ensures { IsTrue result ↔ MayPass self.now.state (slice_get log.now.events self.now.state.event) }
     {
-        match log.event(self.event) {
-            Some(Event::Sub { .. } | Event::Free) => true,
-            Some(Event::Due { request }) => self.has_acted(request),
+        match log.header(self.event) {
+            Some(EventHeader::Sub { .. } | EventHeader::Free) => true,
+            Some(EventHeader::Due { request }) => self.has_acted(request),
             None => false,
         }
     }
@@ -119,8 +119,8 @@ impl Place {
         ensures value { result ≡ ready.waits_for log.now self.now.state b c (slice_get log.now.events b) }
         ensures shut { IsTrue result → MayAct log.now self.now.state b → ⊥ }
     {
-        match log.event(b) {
-            Some(Event::Sub { requester, .. }) => {
+        match log.header(b) {
+            Some(EventHeader::Sub { requester, .. }) => {
                 does_block(log, requester, b, c) && !self.has_acted(c)
             }
             _ => false,

@@ -3,7 +3,7 @@ ghost use Rattle.std.specs.Prelude.{◌≡◌, ◌≤◌, ◌==◌, ◌&&◌, �
 ghost use Rattle.search_places.specs.Pending.{has};
 ghost use Rattle.search_places.specs.Pending as spec;
 
-use log_runs::{Event, Log};
+use log_runs::{EventHeader, Log};
 use std::alloc::{AllocError, Global};
 use std::marker::Model;
 
@@ -95,8 +95,8 @@ impl Requests {
 fn is_post(log: &Log, b: usize) -> bool
     ensures { result ≡ spec.is_post (slice_get log.now.events b) }
 {
-    match log.event(b) {
-        Some(Event::Sub { op, .. }) => op.is_posted(),
+    match log.header(b) {
+        Some(EventHeader::Sub { is_posted, .. }) => is_posted,
         _ => false,
     }
 }

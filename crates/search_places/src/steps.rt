@@ -7,41 +7,27 @@ ghost use Rattle.search_places.specs.Pending as pending;
 ghost use Rattle.search_places.specs.Places.{IsPlace};
 ghost use Rattle.search_places.specs.Undo.{old_at, old_of, CameBy};
 
-use crate::bytes::{act_on, bytes_of, restore};
+use crate::bytes::{act_on, restore};
 use crate::place::Place;
-use arrayvec::ArrayVec;
-use log_runs::{Event, Log, Step};
+use log_runs::{EventHeader, Log, Step};
 use std::alloc::AllocError;
-use tlp_core::MAX_PAYLOAD;
+use tlp_core::Payload;
 
 /// A step that was taken, and the bytes that it overwrote.
 #[derive(Drop)]
 pub struct Done {
     pub step: Step,
-    pub old: ArrayVec<u8, MAX_PAYLOAD>,
+    pub old: Payload,
 }
 
 /// The event at that place is a submission.
 fn submits(log: &Log, b: usize) -> bool
     ensures { result ≡ pending.submits (slice_get log.now.events b) }
 {
-    match log.event(b) {
-        Some(Event::Sub { .. }) => true,
-        _ => false,
-    }
+    matches!(log.header(b), Some(EventHeader::Sub { .. }))
 }
 
 impl Place {
-    /// The bytes that the step overwrites.
-    fn overwritten(&self, log: &Log, step: Step) -> ArrayVec<u8, MAX_PAYLOAD>
-        ensures { result.items ≡ old_of log.now self.now.state step }
-    {
-        match step {
-            Step::Pass => ArrayVec::new(),
-            Step::Act(b) => bytes_of(log, self.bytes.as_slice(), b),
-        }
-    }
-
     /// The request is pending.
     fn enter(&mut self, log: &Log, b: usize) -> Result<(), AllocError>
         ensures state { OnOk result (self.new.state ≡ self.old.state) }
@@ -79,34 +65,52 @@ impl Place {
         Ok(())
     }
 
-    /// The request acts.
-    fn act(&mut self, log: &Log, b: usize)
+    /// The request has acted, and isn't pending.
+    fn mark_acted(&mut self, log: &Log, b: usize)
         requires place { IsPlace log.now self.old }
         requires allowed { Allowed log.now self.old.state (kinds.Act b) }
-        ensures state { self.new.state ≡ next log.now self.old.state (kinds.Act b) }
+        ensures event { self.new.state.event ≡ self.old.state.event }
+        ensures acted { self.new.state.acted ≡ slice_set self.old.state.acted b true }
+        ensures bytes { self.new.state.bytes ≡ self.old.state.bytes }
         ensures place { IsPlace log.now self.new }
     {
         self.mark(b, true);
         self.leave(log, b);
-        act_on(log, self.bytes.as_mut_slice(), b);
     }
 
-    /// One step.
-    fn go(&mut self, log: &Log, step: Step) -> Result<(), AllocError>
+    /// The request acts. The bytes that it overwrites.
+    fn act(&mut self, log: &Log, b: usize) -> Payload
+        requires place { IsPlace log.now self.old }
+        requires allowed { Allowed log.now self.old.state (kinds.Act b) }
+        ensures old { result.items ≡ old_of log.now self.old.state (kinds.Act b) }
+        ensures state { self.new.state ≡ next log.now self.old.state (kinds.Act b) }
+        ensures place { IsPlace log.now self.new }
+    {
+        self.mark_acted(log, b);
+        act_on(log, self.bytes.as_mut_slice(), b)
+    }
+
+    /// One step. The bytes that it overwrites.
+    #[inline(always)]
+    fn go(&mut self, log: &Log, step: Step) -> Result<Payload, AllocError>
         requires place { IsPlace log.now self.old }
         requires allowed { Allowed log.now self.old.state step }
+        ensures old { IfOk result (λ old. old.items ≡ old_of log.now self.old.state step) }
         ensures state { OnOk result (self.new.state ≡ next log.now self.old.state step) }
         ensures place { OnOk result (IsPlace log.now self.new) }
     {
         match step {
-            Step::Pass => self.pass(log)?,
-            Step::Act(b) => self.act(log, b),
+            Step::Pass => {
+                self.pass(log)?;
+                Ok(Payload::new())
+            }
+            Step::Act(b) => Ok(self.act(log, b)),
         }
-        Ok(())
     }
 
     /// Takes a step that may be taken here. The result serves to take it back. Err only where there
     /// is no memory; the place is of no more use then.
+    #[inline(always)]
     pub fn take(&mut self, log: &Log, step: Step) -> Result<Done, AllocError>
         requires place { IsPlace log.now self.old }
         requires allowed { Allowed log.now self.old.state step }
@@ -115,8 +119,7 @@ impl Place {
         ensures pass { IfOk result (λ d. d.step ≡ kinds.Pass → d.old.items ≡ []) }
         ensures place { OnOk result (IsPlace log.now self.new) }
     {
-        let old = self.overwritten(log, step);
-        self.go(log, step)?;
+        let old = self.go(log, step)?;
         Ok(Done { step, old })
     }
 

@@ -144,3 +144,7 @@ module _ (x : Extent) (base size block : ℕ) (op : Op) (reply : Reply) (o : Opt
   pub served_unanswered : o ≡ None → ((b k : ℕ) (m : List ℕ) → refusal b (length m) k op ≡ None → answer b k m op ≡ reply → ⊥) → (m : List ℕ) → length m ≡ x.size → reply_of x m op ≡ reply → ⊥
   unfolding reply_of
   served_unanswered e never m long answered = never x.base x.block m (ap (λ z. refusal x.base z x.block op) long ∙ is_there ∙ e) answered
+
+pub unserved : (served : Bool) → not served ≡ true → served ≡ false
+unserved false e = refl
+unserved true e = absurd cc

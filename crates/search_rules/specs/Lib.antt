@@ -1,3 +1,4 @@
 pub mod Rules
 pub mod Junk
 pub mod Alike
+pub mod Answered

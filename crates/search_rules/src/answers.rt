@@ -7,7 +7,7 @@ ghost use Rattle.log_runs.specs.Runs.{Dead, reply_of, start};
 ghost use Rattle.search_rules.specs.Rules.{Answers, NeverSuits};
 
 use crate::laws::what_is_never_answered_is_dead;
-use log_runs::{Event, Log};
+use log_runs::{Event, EventHeader, Log};
 use search_effects::never_gives;
 use seq_memory::{Refusal, ReplyRef};
 use tlp_core::OpRef;
@@ -71,8 +71,8 @@ fn is_dead_at(log: &Log, at: usize) -> bool
     ensures { IsTrue result → Dead log.now (start log.now) }
 {
     what_is_never_answered_is_dead();
-    match log.event(at) {
-        Some(Event::Due { request }) => never_suits(log, request),
+    match log.header(at) {
+        Some(EventHeader::Due { request }) => never_suits(log, request),
         _ => false,
     }
 }

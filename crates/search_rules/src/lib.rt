@@ -25,4 +25,7 @@ pub use alike::are_alike;
 pub use answers::first_unanswerable;
 pub use junk::{is_junk_at, is_served, is_within, leaves_junk_at, overlooks};
 pub use missing::{Need, need_at, never_puts};
-pub use pairs::{changes_nothing, follows, lets_first, never_brings, yields};
+pub use pairs::{
+    Answered, changes_nothing, follows, is_apart, is_quiet, lets_first, never_brings,
+    never_brings_answered, yields,
+};

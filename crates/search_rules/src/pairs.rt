@@ -2,17 +2,19 @@
 ghost use Rattle.std.specs.Prelude.{ℕ, ◌≡◌, ◌⊎◌, List, Option, Some, IfSome, true, IsTrue, length, slice_get};
 ghost use Rattle.tlp_core.specs.Ops.{Op};
 ghost use Rattle.seq_memory.specs.Entries.{Reply};
-ghost use Rattle.tlp_core.specs.Operation.{is_posted};
+ghost use Rattle.tlp_core.specs.Operation.{address_of, count_of, is_posted};
 ghost use Rattle.seq_memory.specs.Limits.{IsBlock};
 ghost use Rattle.seq_memory.specs.Step.{after};
 ghost use Rattle.search_effects.specs.Effects.{Agrees, AreApart, AreSameAt, told_of};
 ghost use Rattle.log_runs.specs.EventView as events;
 ghost use Rattle.log_runs.specs.Runs.{bytes_after};
+ghost use Rattle.search_rules.specs.Answered.{IsAnswered};
 ghost use Rattle.search_rules.specs.Rules.{Answers, Suits, Ends, NeverBrings, Yields, LetsFirst, Follows, ChangesNothing};
 
 use crate::junk::is_served;
-use log_runs::{Event, Log};
-use search_effects::{are_apart, waits};
+use log_runs::{Event, EventHeader, Log};
+use search_effects::laws::apart_requests_commute;
+use search_effects::{are_apart, lie_apart, waits};
 use seq_memory::ReplyRef;
 use seq_memory::laws::refused_and_read_change_nothing;
 use tlp_core::OpRef;
@@ -48,10 +50,76 @@ fn never_brings_by(log: &Log, one: &OpRef<'_>, told: Option<&ReplyRef<'_>>, q: u
     }
 }
 
+/// The first address and the number of the bytes of request `q`, which was answered.
+#[inline(always)]
+fn answered_range(log: &Log, q: usize) -> Option<(u64, u32)>
+    ensures { IfSome result (λ r. (j : ℕ) × (other : Op) × (asked : Option Reply) × (slice_get log.now.events q ≡ Some (events.Sub j other asked)) ×
+        (address_of other ≡ r.0) × (count_of other ≡ r.1)) }
+{
+    match log.header(q) {
+        Some(
+            EventHeader::Sub {
+                is_answered: true,
+                address,
+                size,
+                ..
+            },
+        ) => Some((address, size)),
+        _ => None,
+    }
+}
+
+/// What is at place `b` of the log is no request, or has no byte of request `q`, which was answered.
+#[inline(always)]
+pub fn is_apart(log: &Log, b: usize, q: usize) -> bool
+    ensures { IsTrue result → NeverBrings log.now b q }
+{
+    apart_requests_commute();
+    match log.header(b) {
+        Some(EventHeader::Sub { address, size, .. }) => match answered_range(log, q) {
+            Some(range) => lie_apart((address, size), range),
+            None => false,
+        },
+        Some(EventHeader::Due { .. }) => true,
+        Some(EventHeader::Free) => true,
+        None => false,
+    }
+}
+
+/// A request that was answered.
+#[derive(Clone, Copy)]
+pub struct Answered<'a> {
+    pub request: usize,
+    pub op: &'a OpRef<'a>,
+    pub reply: &'a ReplyRef<'a>,
+}
+
+/// Right after the event at place `b` the memory suits the answered request only if it did before.
+pub fn never_brings_answered(log: &Log, b: usize, answered: Answered<'_>) -> bool
+    requires { IsAnswered log.now answered }
+    ensures { IsTrue result → NeverBrings log.now b answered.entry.request }
+{
+    match log.event(b) {
+        Some(Event::Sub { op, reply, .. }) => search_effects::never_brings(
+            log.extent().block(),
+            &op,
+            reply.as_ref(),
+            answered.op,
+            answered.reply,
+        ),
+        Some(Event::Due { .. }) => true,
+        Some(Event::Free) => true,
+        None => false,
+    }
+}
+
 /// Right after request `b` acted the memory suits request `q` only if it did before.
 pub fn never_brings(log: &Log, b: usize, q: usize) -> bool
     ensures { IsTrue result → NeverBrings log.now b q }
 {
+    if is_apart(log, b, q) {
+        return true;
+    }
     match log.event(b) {
         Some(Event::Sub { op, reply, .. }) => never_brings_by(log, &op, reply.as_ref(), q),
         Some(Event::Due { .. }) => true,
@@ -116,16 +184,16 @@ pub fn yields(log: &Log, b: usize, q: usize) -> bool
     }
 }
 
-/// The operation isn't served, or changes nothing where the memory answers it so.
-fn is_quiet(log: &Log, op: &OpRef<'_>, told: Option<&ReplyRef<'_>>) -> bool
+/// The operation changes nothing where the memory answers it so, or wasn't answered and isn't served.
+pub fn is_quiet(log: &Log, op: &OpRef<'_>, told: Option<&ReplyRef<'_>>) -> bool
     ensures { IsTrue result → (m : List ℕ) → length m ≡ log.now.extent.size → Answers log.now.extent m op.now (told_of told.entry) →
         bytes_after log.now.extent m op.now ≡ m }
 {
     refused_and_read_change_nothing();
-    if !is_served(log, op) {
+    if search_effects::is_quiet(log.extent().block(), op, told) {
         return true;
     }
-    search_effects::is_quiet(log.extent().block(), op, told)
+    told.is_none() && !is_served(log, op)
 }
 
 /// Wherever request `q` may act, it changes nothing: also where it isn't served.
@@ -200,8 +268,8 @@ pub fn lets_first(log: &Log, bytes: &[u8], b: usize, q: usize) -> bool
 fn is_of(log: &Log, r: usize, requester: u8) -> bool
     ensures { IsTrue result → (op : Op) × (told : Option Reply) × (slice_get log.now.events r ≡ Some (events.Sub requester op told)) }
 {
-    match log.event(r) {
-        Some(Event::Sub { requester: who, .. }) => who == requester,
+    match log.header(r) {
+        Some(EventHeader::Sub { requester: who, .. }) => who == requester,
         _ => false,
     }
 }
@@ -210,12 +278,14 @@ fn is_of(log: &Log, r: usize, requester: u8) -> bool
 fn writer(log: &Log, q: usize) -> Option<u8>
     ensures { IfSome result (λ i. (w : Op) × (asked : Option Reply) × (is_posted w ≡ true) × (slice_get log.now.events q ≡ Some (events.Sub i w asked))) }
 {
-    match log.event(q) {
-        Some(Event::Sub { requester, op, .. }) => if op.is_posted() {
-            Some(requester)
-        } else {
-            None
-        },
+    match log.header(q) {
+        Some(
+            EventHeader::Sub {
+                requester,
+                is_posted: true,
+                ..
+            },
+        ) => Some(requester),
         _ => None,
     }
 }

@@ -1,8 +1,10 @@
 //! Whether a run leads through a log to its end.
-ghost use Rattle.std.specs.Prelude.{◌≡◌, ◌<◌, ◌≤◌, IfOk, OnOk, IfSome, IfNone, length};
+ghost use Rattle.std.specs.Prelude.{◌≡◌, ◌<◌, ◌≤◌, ◌↔◌, IfOk, OnOk, IsTrue, length};
+ghost use Rattle.log_runs.specs.LogView.{LogView};
 ghost use Rattle.search_forced.specs.Catalogs.{IsCatalog};
 ghost use Rattle.search_run.specs.Frames.{IsAt};
-ghost use Rattle.search_run.specs.Outcomes.{IsRun, IsRight};
+ghost use Rattle.search_run.specs.Ends.{Ends};
+ghost use Rattle.search_run.specs.Outcomes.{IsRight};
 ghost use Rattle.search_run.specs.Watched.{Saw};
 
 use crate::walk::{Walk, advance, begin, settle};
@@ -52,38 +54,31 @@ pub struct Bounds {
     pub work: u64,
 }
 
-/// Takes the steps that may be taken at once. All steps that were taken, if they lead to the end.
-fn finished(
+/// How the search of a walk ended.
+#[derive(Clone, Copy, Debug)]
+pub(crate) enum End {
+    /// The walk led from the start of the log to its end.
+    Run,
+    /// No steps do.
+    Dead,
+    /// It wasn't found out within this bound.
+    Limit(Bound),
+}
+
+/// Takes the steps that may be taken at once. Whether they lead to the end.
+fn finishes(
     walk: &mut Walk,
     alloc: Global,
     log: &Log,
     catalog: &Catalog,
-) -> Result<Option<Vec<Step>>, AllocError>
+) -> Result<bool, AllocError>
     requires at { IsAt log.now walk.old }
     requires catalog { IsCatalog log.now catalog.now }
     ensures at { OnOk result (IsAt log.now walk.new) }
-    ensures run { IfOk result (λ o. IfSome o (λ v. IsRun log.now v.items)) }
-    ensures more { IfOk result (λ o. IfNone o (walk.new.here.state.event ≡ length log.now.events → ⊥)) }
+    ensures over { IfOk result (λ over. IsTrue over ↔ walk.new.here.state.event ≡ length log.now.events) }
 {
     settle(walk, alloc, log, catalog)?;
-    if walk.here.event() == log.len() {
-        let steps = walk.stack.steps(alloc)?;
-        return Ok(Some(steps));
-    }
-    Ok(None)
-}
-
-/// What was found out at so many choices.
-fn explored(outcome: Outcome, states: u64, walk: &Walk) -> Exploration
-    ensures outcome { result.outcome ≡ outcome }
-    ensures states { result.states ≡ states }
-{
-    Exploration {
-        outcome,
-        states,
-        reach: walk.reach,
-        work: walk.work,
-    }
+    Ok(walk.here.event() == log.len())
 }
 
 /// Where a run is looked for, and within which bounds.
@@ -104,21 +99,21 @@ fn spot_of(walk: &Walk) -> Spot {
     }
 }
 
-/// Goes on from the start of the log, within the bounds.
+/// Goes on from the start of the log, within the bounds. How it ended, and how many choices were looked at.
 fn choose<W: Watch>(
     walk: &mut Walk,
     alloc: Global,
     course: Course<'_>,
     watch: &mut W,
-) -> Result<Exploration, AllocError>
+) -> Result<(End, u64), AllocError>
     requires at { IsAt course.log.now walk.old }
     requires catalog { IsCatalog course.log.now course.catalog.now }
-    ensures right { IfOk result (λ r. IsRight course.entry.log.now r.outcome) }
-    ensures states { IfOk result (λ r. r.states ≤ course.entry.bounds.choices) }
-    ensures limit { IfOk result (λ r. r.outcome ≡ Outcome.Limit Bound.Choices → r.states ≡ course.entry.bounds.choices) }
-    ensures work { IfOk result (λ r. r.outcome ≡ Outcome.Limit Bound.Work → course.entry.bounds.work < 18446744073709551615) }
-    ensures less { IfOk result (λ r. r.outcome ≡ Outcome.Limit Bound.Work → r.states < course.entry.bounds.choices) }
-    ensures saw { IfOk result (λ r. Saw W.sees r.states watch.old watch.new) }
+    ensures right { IfOk result (λ r. Ends course.entry.log.now walk.new r.0) }
+    ensures states { IfOk result (λ r. r.1 ≤ course.entry.bounds.choices) }
+    ensures limit { IfOk result (λ r. r.0 ≡ End.Limit Bound.Choices → r.1 ≡ course.entry.bounds.choices) }
+    ensures work { IfOk result (λ r. r.0 ≡ End.Limit Bound.Work → course.entry.bounds.work < 18446744073709551615) }
+    ensures less { IfOk result (λ r. r.0 ≡ End.Limit Bound.Work → r.1 < course.entry.bounds.choices) }
+    ensures saw { IfOk result (λ r. Saw W.sees r.1 watch.old watch.new) }
 {
     let Course {
         log,
@@ -127,20 +122,75 @@ fn choose<W: Watch>(
     } = course;
     let limit = bounds.choices;
     for states in 0..limit {
-        if let Some(steps) = finished(walk, alloc, log, catalog)? {
-            return Ok(explored(Outcome::Run(steps), states, walk));
+        if finishes(walk, alloc, log, catalog)? {
+            return Ok((End::Run, states));
         }
         if walk.work == 0 && bounds.work < u64::MAX {
-            return Ok(explored(Outcome::Limit(Bound::Work), states, walk));
+            return Ok((End::Limit(Bound::Work), states));
         }
         watch.choice(spot_of(walk));
         if !advance(walk, alloc, log, catalog)? {
-            return Ok(explored(Outcome::Dead, states + 1, walk));
+            return Ok((End::Dead, states + 1));
         }
     }
-    match finished(walk, alloc, log, catalog)? {
-        Some(steps) => Ok(explored(Outcome::Run(steps), limit, walk)),
-        None => Ok(explored(Outcome::Limit(Bound::Choices), limit, walk)),
+    if finishes(walk, alloc, log, catalog)? {
+        return Ok((End::Run, limit));
+    }
+    Ok((End::Limit(Bound::Choices), limit))
+}
+
+/// A search that is asked for.
+#[derive(Clone, Copy)]
+struct Quest<'a> {
+    log: &'a Log<'a>,
+    way: Way<'a>,
+    bounds: Bounds,
+}
+
+/// Goes from the start of the log, within the bounds. How it ended, and how many choices were looked at. What it knew of the
+/// log's requests is free again.
+fn ended<W: Watch>(
+    walk: &mut Walk,
+    alloc: Global,
+    quest: Quest<'_>,
+    watch: &mut W,
+) -> Result<(End, u64), AllocError>
+    requires { IsAt quest.log.now walk.old }
+    ensures right { IfOk result (λ r. Ends quest.entry.log.now walk.new r.0) }
+    ensures states { IfOk result (λ r. r.1 ≤ quest.entry.bounds.choices) }
+    ensures limit { IfOk result (λ r. r.0 ≡ End.Limit Bound.Choices → r.1 ≡ quest.entry.bounds.choices) }
+    ensures work { IfOk result (λ r. r.0 ≡ End.Limit Bound.Work → quest.entry.bounds.work < 18446744073709551615) }
+    ensures less { IfOk result (λ r. r.0 ≡ End.Limit Bound.Work → r.1 < quest.entry.bounds.choices) }
+    ensures saw { IfOk result (λ r. Saw W.sees r.1 watch.old watch.new) }
+{
+    let Quest { log, way, bounds } = quest;
+    let mut catalog = catalog_of(alloc, log, way)?;
+    if finishes(walk, alloc, log, &catalog)? {
+        return Ok((End::Run, 0));
+    }
+    catalog.note_calm(log);
+    catalog.note_alike(alloc, log)?;
+    let course = Course {
+        log,
+        catalog: &catalog,
+        bounds,
+    };
+    let found = choose(walk, alloc, course, watch)?;
+    Ok(found)
+}
+
+/// What the search of the walk says that ended so.
+fn outcome_of(alloc: Global, walk: &Walk, end: End) -> Result<Outcome, AllocError>
+    ensures right { IfOk result (λ outcome. (log : LogView) → Ends log walk.now end → IsRight log outcome) }
+    ensures limit { IfOk result (λ outcome. (bound : Bound) → outcome ≡ Outcome.Limit bound → end ≡ End.Limit bound) }
+{
+    match end {
+        End::Run => {
+            let steps = walk.stack.steps(alloc)?;
+            Ok(Outcome::Run(steps))
+        }
+        End::Dead => Ok(Outcome::Dead),
+        End::Limit(bound) => Ok(Outcome::Limit(bound)),
     }
 }
 
@@ -160,19 +210,15 @@ pub fn explore_watched<W: Watch>(
     ensures less { IfOk result (λ r. r.outcome ≡ Outcome.Limit Bound.Work → r.states < bounds.choices) }
     ensures saw { IfOk result (λ r. Saw W.sees r.states watch.old watch.new) }
 {
-    let mut catalog = catalog_of(alloc, log, way)?;
     let mut walk = begin(alloc, log, bounds.work)?;
-    if let Some(steps) = finished(&mut walk, alloc, log, &catalog)? {
-        return Ok(explored(Outcome::Run(steps), 0, &walk));
-    }
-    catalog.note_calm(log);
-    catalog.note_alike(alloc, log)?;
-    let course = Course {
-        log,
-        catalog: &catalog,
-        bounds,
-    };
-    choose(&mut walk, alloc, course, watch)
+    let (end, states) = ended(&mut walk, alloc, Quest { log, way, bounds }, watch)?;
+    let outcome = outcome_of(alloc, &walk, end)?;
+    Ok(Exploration {
+        outcome,
+        states,
+        reach: walk.reach,
+        work: walk.work,
+    })
 }
 
 /// [`explore_watched`], which nobody sees.

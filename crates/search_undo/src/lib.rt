@@ -53,19 +53,25 @@ pub fn act(base: u64, block: u16, bytes: &mut [u8], op: &OpRef<'_>)
     let _ = perform_lent(base, block, bytes, op, &mut room);
 }
 
-/// The bytes at the operation's place, if it is served, for [`put_back`]; else none.
-pub fn saved(base: u64, block: u16, bytes: &[u8], op: &OpRef<'_>) -> Payload
+/// Performs the operation on the bytes, as [`act`] does. The bytes that were at its place, if it is served, for
+/// [`put_back`]; else none.
+pub fn overwrite(base: u64, block: u16, bytes: &mut [u8], op: &OpRef<'_>) -> Payload
     requires { IsBlock block }
-    ensures { result.items ≡ saved_at base block bytes.now op.now }
+    ensures bytes { bytes.new ≡ after base block bytes.old op.now }
+    ensures old { result.items ≡ saved_at base block bytes.old op.now }
 {
+    refused_and_read_change_nothing();
     if refusal(base, block, bytes.len(), op).is_some() {
         return payload_of(&[]);
     }
     let from = (op.address() - base) as usize;
-    payload_of(&bytes[from..from + op.size() as usize])
+    let old = payload_of(&bytes[from..from + op.size() as usize]);
+    let mut room = ReplyData::new();
+    let _ = perform_lent(base, block, bytes, op, &mut room);
+    old
 }
 
-/// Makes the bytes what they were before the operation, if `old` is what [`saved`] returned then.
+/// Makes the bytes what they were before the operation, if `old` is what [`overwrite`] returned then.
 pub fn put_back(base: u64, block: u16, bytes: &mut [u8], op: &OpRef<'_>, old: &[u8])
     requires { IsBlock block }
     ensures { (m : List ℕ) → bytes.old ≡ after base block m op.now → old.now ≡ saved_at base block m op.now → bytes.new ≡ m }

@@ -4,6 +4,7 @@
 //! such a word either is in one of the lists that are returned for it, or is nothing to the request.
 ghost use Rattle.std.specs.Prelude.{◌≡◌, ◌+◌, ◌*◌, ◌<◌, ◌≤◌, ◌/◌, ◌⊎◌, ℕ, Option, Some, IfSome, IsTrue, length, slice_get};
 ghost use Rattle.tlp_core.specs.Ops.{Op};
+ghost use Rattle.tlp_core.specs.Operation.{address_of, count_of};
 ghost use Rattle.seq_memory.specs.Entries.{Reply};
 ghost use Rattle.log_runs.specs.EventView as events;
 ghost use Rattle.search_words.specs.Lists.{Has, InList};
@@ -11,11 +12,10 @@ ghost use Rattle.search_words.specs.Words.{value_in, AllRise, IsWords, MayNeed, 
 ghost use Rattle.search_rules.specs.Rules.{NeverBrings, Yields, LetsFirst, Names, IsJunkAt, LeavesJunkAt, AreApartThere};
 
 use crate::lists::window;
-use crate::words::{Words, left_at, needed_at, number_of, place_of, value_in};
-use log_runs::{Event, Log};
+use crate::words::{Words, left_at, needed_at, number_of, place_in, value_in};
+use log_runs::{Event, EventHeader, Log};
 use search_effects::laws::what_takes_a_reply_away_yields;
 use search_rules::is_served;
-use tlp_core::OpRef;
 
 /// Requests in four lists. One may be in several of them.
 #[derive(Clone, Copy)]
@@ -45,13 +45,13 @@ pub fn span_of(log: &Log, q: usize) -> Option<(u64, u64)>
     ensures own { IfSome result (λ r. (w : ℕ) → Names log.now q w → (r.0 ≤ w) × (w < r.1)) }
     ensures all { IfSome result (λ r. (b : ℕ) → AreApartThere log.now b q ⊎ ((w : ℕ) × (r.0 ≤ w) × (w < r.1) × NamesWord log.now b w)) }
 {
-    let Some(Event::Sub { op, .. }) = log.event(q) else {
+    let Some(EventHeader::Sub { address, size, .. }) = log.header(q) else {
         return None;
     };
     let extent = log.extent();
-    let offset = op.address().checked_sub(extent.base())?;
-    let end = offset.checked_add(u64::from(op.size()))?;
-    if op.size() == 0 || end > extent.size() as u64 {
+    let offset = address.checked_sub(extent.base())?;
+    let end = offset.checked_add(u64::from(size))?;
+    if size == 0 || end > extent.size() as u64 {
         return None;
     }
     Some((offset / 4, (end + 3) / 4))
@@ -110,11 +110,11 @@ fn near_by_left(words: &Words, stretch: Stretch, value: u64) -> Near<'_>
     }
 }
 
-/// The operation's range has all of the word.
-fn has_word(base: u64, op: &OpRef<'_>, word: u64) -> bool
-    ensures { IsTrue result → HasWord base op.now word }
+/// The range, by its first address and its number of bytes, has all of the word.
+fn has_word(base: u64, range: (u64, u32), word: u64) -> bool
+    ensures { IsTrue result → (op : Op) → address_of op ≡ range.0 → count_of op ≡ range.1 → HasWord base op word }
 {
-    place_of(base, op, word).is_some()
+    place_in(base, range, word).is_some()
 }
 
 /// The requests of the stretch to which it makes no difference what stands at the word.
@@ -136,10 +136,10 @@ fn found_of(log: &Log, bytes: &[u8], q: usize, word: u64) -> Option<u64>
     ensures words { IfSome result (λ v. word < 262144) }
 {
     let extent = log.extent();
-    let Some(Event::Sub { op, .. }) = log.event(q) else {
+    let Some(EventHeader::Sub { address, size, .. }) = log.header(q) else {
         return None;
     };
-    if !has_word(extent.base(), &op, word) {
+    if !has_word(extent.base(), (address, size), word) {
         return None;
     }
     let value = value_in(bytes, (4 * word) as usize)?;

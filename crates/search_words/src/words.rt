@@ -58,22 +58,33 @@ impl Model for Words {
     ghost view = { λ t. record { needed = t.needed; careless = t.careless; blind = t.blind; left = t.left; loose = t.loose; named = t.named; wide = t.wide.items } };
 }
 
+/// Where in a range the word begins, if all of it is there. The range is given by its first address and its number of
+/// bytes.
+pub(crate) fn place_in(base: u64, range: (u64, u32), word: u64) -> Option<usize>
+    ensures low { IfSome result (λ at. base ≤ range.0) }
+    ensures place { IfSome result (λ at. range.0 + at ≡ base + 4 * word) }
+    ensures whole { IfSome result (λ at. at + 4 ≤ range.1) }
+{
+    let start = base.checked_add(word.checked_mul(4)?)?;
+    let (address, size) = range;
+    if address < base || size < 4 {
+        return None;
+    }
+    let at = start.checked_sub(address)?;
+    if at > u64::from(size - 4) {
+        return None;
+    }
+    Some(at as usize)
+}
+
 /// Where in the operation's range the word begins, if all of it is there.
-pub(crate) fn place_of(base: u64, op: &OpRef<'_>, word: u64) -> Option<usize>
+fn place_of(base: u64, op: &OpRef<'_>, word: u64) -> Option<usize>
     ensures low { IfSome result (λ at. base ≤ address_of op.now) }
     ensures place { IfSome result (λ at. address_of op.now + at ≡ base + 4 * word) }
     ensures whole { IfSome result (λ at. at + 4 ≤ count_of op.now) }
     ensures few { IfSome result (λ at. at < 1048576) }
 {
-    let start = base.checked_add(word.checked_mul(4)?)?;
-    if op.address() < base || op.size() < 4 {
-        return None;
-    }
-    let at = start.checked_sub(op.address())?;
-    if at > u64::from(op.size() - 4) {
-        return None;
-    }
-    Some(at as usize)
+    place_in(base, (op.address(), op.size()), word)
 }
 
 /// A number for a word and a value of it.
@@ -207,10 +218,18 @@ fn has_whole_words(log: &Log, op: &OpRef<'_>) -> bool
     }
 }
 
+/// It may make no difference to the request what stands in its range: it is no AtomicOp that was answered with data.
+fn may_overlook(op: &OpRef<'_>, told: Option<&ReplyRef<'_>>) -> bool {
+    matches!(op, OpRef::Read { .. }) || !matches!(told, Some(ReplyRef::Data(_)))
+}
+
 /// The request names whole words, and it makes no difference to it what stands there.
 fn is_careless(log: &Log, op: &OpRef<'_>, told: Option<&ReplyRef<'_>>) -> bool
     ensures { IsTrue result → IsCareless log.now.extent op.now (told_of told.entry) }
 {
+    if !may_overlook(op, told) {
+        return false;
+    }
     has_whole_words(log, op) && overlooks(log, op, told, op)
 }
 

@@ -1,8 +1,8 @@
 -- Parts of a list of bytes that grows.
 use Rattle.std.proofs.Common.{◌≡◌, ◌<◌, ◌≤◌, ◌∙◌, ap, sym, refl, ℕ, ◌+◌, ◌^◌, Bool, true, false, List, [], ◌++◌, length, take, drop, arith}
 use Rattle.std.specs.Prelude.{nat_le, if◌then◌else◌}
-use Rattle.std.proofs.lemmas.Bool.{leb-false}
-use Rattle.std.proofs.lemmas.List.{take-append-le, take-append-drop, drop-take, length-take, append-nil, drop_all}
+use Rattle.std.proofs.lemmas.Bool.{leb-false, leb-true}
+use Rattle.std.proofs.lemmas.List.{take-append-le, take-append-drop, drop-take, length-take, length-take-le, length-drop, append-nil, drop_all}
 use Rattle.std.proofs.Math.Seq.{drop-append_seam, take-length}
 use Rattle.seq_memory.specs.Step.{bytes_at}
 use Rattle.byteorder.specs.Endian.{little_number, little_bytes}
@@ -51,3 +51,11 @@ spelled old new k n size fits e =
 -- bytes that fill the room are held there
 pub in_room : (bytes room : List ℕ) → length room ≡ 8 → held bytes room 8 ≡ room
 in_room bytes room e = ap (λ (n : ℕ). take n room) (sym e) ∙ take-length room
+
+-- as many bytes as are held
+pub held_length : (bytes room : List ℕ) (size : ℕ) → length room ≡ 8 → Holds bytes room size → length (held bytes room size) ≡ size
+held_length bytes room size long h = chosen (nat_le size 8) refl
+  where
+    chosen : (b : Bool) → nat_le size 8 ≡ b → length (if b then take size room else bytes_at bytes (little_number 8 room) size) ≡ size
+    chosen true e = length-take-le size room (omega (arith, leb-true size 8 e, long))
+    chosen false e = length-take-le size (drop (little_number 8 room) bytes) (omega (arith, h (leb-false size 8 e), length-drop (little_number 8 room) bytes))

@@ -1,7 +1,8 @@
 //! An operation and a reply whose bytes stand in its fields, or in a list with those of others.
-ghost use Rattle.std.specs.Prelude.{◌≡◌, ◌+◌, ◌^◌, ◌<◌, ◌≤◌, length, take, drop, IfOk, OnOk};
+ghost use Rattle.std.specs.Prelude.{ℕ, List, ◌≡◌, ◌+◌, ◌^◌, ◌<◌, ◌≤◌, length, take, drop, IfOk, OnOk};
 ghost use Rattle.byteorder.specs.Endian.{little_number};
 ghost use Rattle.tlp_core.specs.Operands.{number_of, IsOperand};
+ghost use Rattle.tlp_core.specs.Operation.{count_of};
 ghost use Rattle.trace_store.specs.Kept.{held, held_in, both_in, op_in, reply_in, IsSize, Holds, HasOp, HasReply, Grows};
 
 use byteorder::{ByteOrder, LittleEndian};
@@ -83,13 +84,17 @@ fn number(bytes: &[u8]) -> u128
     operand_of(bytes).1
 }
 
-/// An operand.
+/// An operand. Most stand in the room.
 #[inline(always)]
+#[tactic(auto, using(crate::proofs::Parts::in_room))]
 pub(crate) fn operand_in(bytes: &[u8], fields: &Fields) -> u128
     requires size { IsSize fields.now.count }
     requires held { Holds bytes.now fields.now.room fields.now.count }
     ensures { result ≡ number_of (held_in bytes.now fields.now) }
 {
+    if fields.count == 8 {
+        return number(&fields.room);
+    }
     number(bytes_of(bytes, fields))
 }
 
@@ -104,6 +109,21 @@ pub(crate) fn operands_in(bytes: &[u8], fields: &Fields) -> (u128, u128)
     let count = usize::from(fields.count);
     let both = part(bytes, &fields.room, count + count);
     (number(&both[..count]), number(&both[count..]))
+}
+
+/// How many bytes the operation names, wherever its own stand.
+#[inline(always)]
+#[tactic(auto, using(crate::proofs::Parts::held_length))]
+pub(crate) fn size_in(kind: OpKind, fields: &Fields) -> u32
+    ensures { (bytes : List ℕ) → HasOp bytes kind fields.now → result ≡ count_of (op_in bytes kind fields.now) }
+{
+    match kind {
+        OpKind::Read => 4 * u32::from(fields.count),
+        OpKind::Write => u32::from(fields.count),
+        OpKind::FetchAdd(width) | OpKind::Swap(width) | OpKind::Cas(width) => {
+            u32::from(width.size())
+        }
+    }
 }
 
 /// The operation, with its bytes where they stand.

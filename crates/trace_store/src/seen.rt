@@ -1,5 +1,5 @@
 //! What requesters saw.
-ghost use Rattle.std.specs.Prelude.{◌≡◌, ◌<◌, [], ◌∷◌, ◌++◌, IfOk, IfSome, OnErr, OnOk, None, Some, ℕ, length, map, option_map, set, slice_get, take};
+ghost use Rattle.std.specs.Prelude.{◌≡◌, ◌<◌, [], ◌∷◌, ◌++◌, IfOk, IfSome, OnErr, OnOk, None, Some, ℕ, length, map, option_and_then, option_map, set, slice_get, take};
 ghost use Rattle.std.specs.List.{All};
 ghost use Rattle.history_words.specs.Flaws as flaw;
 ghost use Rattle.history_words.specs.Flaws.{at_place};
@@ -10,6 +10,7 @@ ghost use Rattle.history_words.specs.TraceView.{observed};
 ghost use Rattle.history_words.specs.declared.record.RecordOf.TheVariants as kinds;
 ghost use Rattle.trace_store.specs.Changes.{with_n, with_reply};
 ghost use Rattle.trace_store.specs.Kept.{op_in};
+ghost use Rattle.trace_store.specs.Ranges.{range_of};
 ghost use Rattle.trace_store.specs.Stored.{record_in, HasEntry, HasRecord};
 
 use crate::kept::{EMPTY, keep_op, keep_reply};
@@ -86,6 +87,14 @@ impl<'a> Records<'a> {
         ensures { result ≡ option_map header_of (slice_get self.now place) }
     {
         Some(self.all.get(place)?.header())
+    }
+
+    /// The first address and the number of the bytes that are named by the operation that is submitted at the place.
+    #[inline(always)]
+    pub fn range(&self, place: usize) -> Option<(u64, u32)>
+        ensures { result ≡ option_and_then range_of (slice_get self.now place) }
+    {
+        self.all.get(place)?.range()
     }
 
     /// The first `count`, or all if there are fewer.

@@ -1,5 +1,6 @@
 //! A record and an entry whose bytes stand in them, or in a list with those of others.
 ghost use Rattle.std.specs.Prelude.{ℕ, ◌≡◌, List};
+ghost use Rattle.trace_store.specs.Ranges.{range_of};
 ghost use Rattle.seq_memory.specs.Step.{after, answer};
 ghost use Rattle.history_words.specs.Flaws as flaw;
 ghost use Rattle.history_words.specs.Headers.{header_of};
@@ -7,7 +8,7 @@ ghost use Rattle.history_words.specs.Lookup.{answers_with};
 ghost use Rattle.trace_store.specs.Kept.{op_in};
 ghost use Rattle.trace_store.specs.Stored.{record_in, entry_in, HasRecord, HasEntry};
 
-use crate::kept::{Fields, OpKind, ReplyKind, op_in, reply_in};
+use crate::kept::{Fields, OpKind, ReplyKind, op_in, reply_in, size_in};
 use crate::same::{KeptOp, is_same_op, is_same_reply};
 use history_words::{RecordHeader, RecordRef};
 use seq_memory::{EntryRef, Extent, ReplyData, ReplyRef, perform_lent};
@@ -63,6 +64,17 @@ impl StoredRecord {
                 number: self.number,
                 n: self.n,
             },
+        }
+    }
+
+    /// The first address and the number of the bytes that its operation names, if it is a submission.
+    #[inline(always)]
+    pub(crate) fn range(&self) -> Option<(u64, u32)>
+        ensures { (bytes : List ℕ) → HasRecord bytes self.now → result ≡ range_of (record_in bytes self.now) }
+    {
+        match self.kind {
+            RecordKind::Sub(kind) => Some((self.fields.address, size_in(kind, &self.fields))),
+            RecordKind::Ans(_) => None,
         }
     }
 

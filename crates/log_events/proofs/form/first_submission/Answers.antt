@@ -5,4 +5,4 @@ use Rattle.log_events.proofs.form.first_submission.Goals as goal
 
 pub loop-at-preserved : goal.loop-at-preserved
 loop-at-preserved c =
-    none_more (submits c.args.requester c.args.number) c.args.records.now c.loop-at.at c.submits_at.result (omega (arith, c.loop-at-test.true, c.loop-at.auto.at-end, c.len-at-end.ensures)) c.loop-at.invariant c.submits_at.ensures.value c.if-submits_at.false
+    none_more (submits c.args.requester c.args.number) c.args.records.now c.loop-at.at c.submits.result (omega (arith, c.loop-at-test.true, c.loop-at.auto.at-end, c.len-at-end.ensures)) c.loop-at.invariant c.submits.ensures.value c.if-submits.false

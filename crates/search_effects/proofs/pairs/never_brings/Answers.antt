@@ -1,4 +1,5 @@
 use Rattle.std.proofs.Common.{◌≡◌, ◌∙◌, List, ℕ, sym, subst, refl}
+use Rattle.seq_memory.specs.declared.reply.ReplyOf.TheVariants as replies
 use Rattle.seq_memory.specs.Step.{answer, after}
 use Rattle.search_effects.proofs.Yielding.{brings_broken}
 use Rattle.search_effects.proofs.pairs.never_brings.Goals as goal
@@ -9,6 +10,10 @@ returns-then-are_apart c = λ yes base m agrees e. sym (c.apart_requests_commute
 pub returns-then-is_quiet : goal.returns-then-is_quiet
 returns-then-is_quiet c = λ yes base m agrees e.
     subst (λ (n : List ℕ). answer base c.args.block n c.args.other.now ≡ c.args.reply.now) (c.is_quiet.ensures c.if-is_quiet.true base m agrees) e
+
+pub returns-in-Some : goal.returns-in-Some
+returns-in-Some c = λ yes base m agrees e.
+    c.atomic_never_brings.ensures yes base m (agrees (replies.Data c.in-Some.old.now) c.in-Some.ensures.told) e
 
 pub returns : goal.returns
 returns c = λ yes base m agrees e.

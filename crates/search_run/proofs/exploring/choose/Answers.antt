@@ -1,9 +1,9 @@
-use Rattle.std.proofs.Common.{ℕ, ◌∙◌, sym, subst}
+use Rattle.std.proofs.Common.{ℕ, sym, subst}
 use Rattle.std.proofs.Math.Numerals.{add-one}
 use Rattle.search_run.specs.Watched.{Saw}
 use Rattle.search_run.proofs.exploring.choose.Goals as goal
 
 pub returns-then-not-branch-clause-saw : goal.returns-then-not-branch-clause-saw
 returns-then-not-branch-clause-saw g c =
-    subst (λ (n : ℕ). Saw g.W.Watch.sees n c.args.watch.now c.choice.new.self) (sym (c.explored-then-not-branch.ensures.states ∙ add-one c.loop-states.states))
+    subst (λ (n : ℕ). Saw g.W.Watch.sees n c.args.watch.now c.choice.new.self) (sym (add-one c.loop-states.states))
     (c.loop-states.watch, c.loop-states.invariant.1, c.choice.ensures)

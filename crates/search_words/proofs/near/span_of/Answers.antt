@@ -1,6 +1,7 @@
-use Rattle.std.proofs.Common.{◌∙◌, ◌+◌, ◌/◌, ap, arith}
+use Rattle.std.proofs.Common.{◌∙◌, ◌+◌, ◌/◌, Some, ap, arith, sym}
+use Rattle.std.specs.Prelude.{slice_get}
 use Rattle.seq_memory.specs.Limits.{Extent}
-use Rattle.search_words.proofs.EventLemmas.{sub_at}
+use Rattle.search_words.proofs.EventLemmas.{sub_headed}
 use Rattle.search_words.proofs.NearLemmas.{named_by, own_words}
 use Rattle.search_words.proofs.near.span_of.Goals as goal
 
@@ -8,16 +9,16 @@ pub returns-clause-all : goal.returns-clause-all
 returns-clause-all c = λ b.
     let log = c.args.log.now in
     let x = c.in-Some-Sub in
-    named_by log b c.args.q x.field-0-0 (c.in_ok-offset.offset / 4) ((c.in_ok-end.end + 3) / 4) c.base.result x.op x.field-0-2
-    (sub_at log.events c.args.q x.field-0 x.field-0-0 x.op x.field-0-2 x.field-0-is x.ensures)
+    let (op, told, at, address, size) = sub_headed (slice_get log.events c.args.q) x.field-0-0 x.field-0-1 x.field-0-2 x.address x.size (sym x.ensures ∙ ap Some x.field-0-is) in
+    named_by log b c.args.q x.field-0-0 (c.in_ok-offset.offset / 4) ((c.in_ok-end.end + 3) / 4) c.base.result op told at
     (c.base.ensures.value ∙ ap (λ (e : Extent). e.base) c.extent-extent.ensures)
-    (omega arith) (omega arith) (omega arith) (omega arith)
+    (omega (arith, address, size)) (omega (arith, address, size)) (omega (arith, address, size)) (omega (arith, address, size))
 
 pub returns-clause-own : goal.returns-clause-own
 returns-clause-own c = λ w names.
     let log = c.args.log.now in
     let x = c.in-Some-Sub in
-    own_words log c.args.q x.field-0-0 (c.in_ok-offset.offset / 4) ((c.in_ok-end.end + 3) / 4) c.base.result x.op x.field-0-2
-    (sub_at log.events c.args.q x.field-0 x.field-0-0 x.op x.field-0-2 x.field-0-is x.ensures)
+    let (op, told, at, address, size) = sub_headed (slice_get log.events c.args.q) x.field-0-0 x.field-0-1 x.field-0-2 x.address x.size (sym x.ensures ∙ ap Some x.field-0-is) in
+    own_words log c.args.q x.field-0-0 (c.in_ok-offset.offset / 4) ((c.in_ok-end.end + 3) / 4) c.base.result op told at
     (c.base.ensures.value ∙ ap (λ (e : Extent). e.base) c.extent-extent.ensures)
-    (omega arith) (omega arith) (omega arith) w names
+    (omega (arith, address, size)) (omega (arith, address, size)) (omega (arith, address, size)) w names

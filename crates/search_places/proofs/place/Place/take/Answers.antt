@@ -5,8 +5,8 @@ pub returns-clause-came : goal.returns-clause-came
 returns-clause-came c = record {
   may = record {
     allowed = c.requires.allowed;
-    old = c.overwritten-old.ensures;
+    old = c.in_ok-old.ensures.old;
     fresh = table_fresh c.args.log.now c.args.self.now.state.event c.args.self.now.pending c.args.self.now.state.acted (table_of c.args.log.now c.args.self.now c.requires.place);
   };
-  led = c.in_ok-go.ensures.state;
+  led = c.in_ok-old.ensures.state;
 }
