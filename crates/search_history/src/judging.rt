@@ -56,6 +56,28 @@ impl<'a> Beginning<'a> {
     }
 }
 
+/// All records of a log.
+#[derive(Drop)]
+pub(crate) struct Whole<'a> {
+    pub(crate) seen: &'a RecordStore,
+    /// Which of them may belong together.
+    pub(crate) partners: Partners,
+}
+
+impl<'a> Whole<'a> {
+    /// The records as a search sees them. The partners are free again.
+    fn log(self, alloc: Global) -> Result<Log<'a>, AllocError>
+        ensures events { IfOk result (λ l. AreEvents (take (length self.entry.seen.now.records) self.entry.seen.now.records) l.events) }
+        ensures all { IfOk result (λ l.
+            ArePartners self.entry.partners (take (length self.entry.seen.now.records) self.entry.seen.now.records) →
+            AreAllEvents (take (length self.entry.seen.now.records) self.entry.seen.now.records) l.events) }
+        ensures extent { IfOk result (λ l. l.extent ≡ observed self.entry.seen.now) }
+    {
+        let records = self.seen.records().first(self.seen.len());
+        log_of(alloc, self.seen.extent(), records, &self.partners)
+    }
+}
+
 /// What was found out of records.
 #[derive(Drop)]
 pub(crate) struct Judgment {
@@ -188,6 +210,31 @@ pub(crate) fn judged<W: Watch>(
 {
     explainable_has_a_run();
     let log = records.log(alloc)?;
+    let found = explored(alloc, &log, bounds, watch)?;
+    Ok(found)
+}
+
+/// [`judged`] of all records.
+pub(crate) fn judged_whole<W: Watch>(
+    alloc: Global,
+    whole: Whole<'_>,
+    bounds: Bounds,
+    watch: &mut W,
+) -> Result<Judgment, AllocError>
+    ensures run { IfOk result (λ r.
+        ArePartners whole.entry.partners (take (length whole.entry.seen.now.records) whole.entry.seen.now.records) →
+        IsWellFormed (take (length whole.entry.seen.now.records) whole.entry.seen.now.records) →
+        IsOutcomeOf (prefix (length whole.entry.seen.now.records) whole.entry.seen.now) r.outcome) }
+    ensures none { IfOk result (λ r. r.outcome ≡ Outcome.Dead →
+        IsExplainable (prefix (length whole.entry.seen.now.records) whole.entry.seen.now) → ⊥) }
+    ensures states { IfOk result (λ r. r.states ≤ bounds.choices) }
+    ensures limit { IfOk result (λ r. r.outcome ≡ Outcome.Limit Bound.Choices → r.states ≡ bounds.choices) }
+    ensures work { IfOk result (λ r. r.outcome ≡ Outcome.Limit Bound.Work → bounds.work < 18446744073709551615) }
+    ensures less { IfOk result (λ r. r.outcome ≡ Outcome.Limit Bound.Work → r.states < bounds.choices) }
+    ensures saw { IfOk result (λ r. Saw W.sees r.states watch.old watch.new) }
+{
+    explainable_has_a_run();
+    let log = whole.log(alloc)?;
     let found = explored(alloc, &log, bounds, watch)?;
     Ok(found)
 }

@@ -10,7 +10,7 @@ ghost use Rattle.search_history.specs.Runs.{IsAnswered, IsVerdictOf};
 ghost use Rattle.search_run.specs.Watched.{Saw};
 ghost use Rattle.trace_store.specs.Changes.{seen_by};
 
-use crate::judging::{Beginning, Judgment, judged};
+use crate::judging::{Beginning, Judgment, Whole, judged, judged_whole};
 use crate::moments::add_history;
 use crate::shortest::shortened;
 use log_events::form_of;
@@ -87,6 +87,48 @@ fn well_formed<W: Watch>(
     }
 }
 
+/// [`well_formed`] of all records. Which of them belong together is found out again if there is no run, so that it takes
+/// no memory meanwhile.
+fn whole_formed<W: Watch>(
+    alloc: Global,
+    whole: Whole<'_>,
+    bounds: Bounds,
+    watch: &mut W,
+) -> Result<(Verdict, u64), AllocError>
+    ensures run { IfOk result (λ r.
+        ArePartners whole.entry.partners (take (length whole.entry.seen.now.records) whole.entry.seen.now.records) →
+        IsWellFormed (take (length whole.entry.seen.now.records) whole.entry.seen.now.records) →
+        IsVerdictOf (prefix (length whole.entry.seen.now.records) whole.entry.seen.now) r.0) }
+    ensures none { IfOk result (λ r. (prefix : ℕ) → r.0 ≡ Verdict.None prefix → IsUnexplained whole.entry.seen.now prefix) }
+    ensures limit { IfOk result (λ r. r.0 ≡ Verdict.Limit Bound.Choices → r.1 ≡ bounds.choices) }
+    ensures work { IfOk result (λ r. r.0 ≡ Verdict.Limit Bound.Work → bounds.work < 18446744073709551615) }
+    ensures less { IfOk result (λ r. r.0 ≡ Verdict.Limit Bound.Work → r.1 < bounds.choices) }
+    ensures states { IfOk result (λ r. r.1 ≤ bounds.choices) }
+    ensures saw { IfOk result (λ r. Saw W.sees r.1 watch.old watch.new) }
+{
+    let seen = whole.seen;
+    let Judgment {
+        outcome,
+        states,
+        clue,
+        ..
+    } = judged_whole(alloc, whole, bounds, watch)?;
+    match outcome {
+        Outcome::Run(steps) => Ok((Verdict::Run(steps), states)),
+        Outcome::Dead => {
+            let form = form_of(alloc, &seen.records())?;
+            let records = Beginning {
+                seen,
+                partners: &form.partners,
+                count: seen.len(),
+            };
+            let prefix = shortened(alloc, records, clue, bounds.choices)?;
+            Ok((Verdict::None(prefix), states))
+        }
+        Outcome::Limit(bound) => Ok((Verdict::Limit(bound), states)),
+    }
+}
+
 /// The record behind these has a wrong form, so with it they have no history; without it they may have none
 /// either.
 fn misformed<W: Watch>(
@@ -124,18 +166,22 @@ fn searched<W: Watch>(
     ensures saw { IfOk result (λ r. Saw W.sees r.1 watch.old watch.new) }
 {
     let form = form_of(alloc, &seen.records())?;
-    let records = Beginning {
-        seen,
-        partners: &form.partners,
-        count: seen.len(),
-    };
     match form.flaw {
         Some(flaw) => {
-            let (prefix, states) = misformed(alloc, records.first(flaw), bounds, watch)?;
+            let records = Beginning {
+                seen,
+                partners: &form.partners,
+                count: flaw,
+            };
+            let (prefix, states) = misformed(alloc, records, bounds, watch)?;
             Ok((Verdict::None(prefix), states))
         }
         None => {
-            let found = well_formed(alloc, records, bounds, watch)?;
+            let whole = Whole {
+                seen,
+                partners: form.partners,
+            };
+            let found = whole_formed(alloc, whole, bounds, watch)?;
             Ok(found)
         }
     }
