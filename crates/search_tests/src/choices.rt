@@ -11,7 +11,7 @@ struct Row {
     answer: &'static str,
 }
 
-static ROWS: [Row; 33] = [
+static ROWS: [Row; 34] = [
     Row {
         name: "eight additions answered out of order",
         lines: "sub 1 0 add 40 01000000\nsub 2 0 add 40 01000000\nsub 3 0 add 40 01000000\nsub 4 0 add 40 01000000\nsub 5 0 add 40 01000000\nsub 6 0 add 40 01000000\nsub 7 0 add 40 01000000\nsub 1 1 add 40 01000000\nans 1 0 data 05000000\nans 2 0 data 02000000\nans 3 0 data 07000000\nans 4 0 data 00000000\nans 5 0 data 01000000\nans 6 0 data 06000000\nans 7 0 data 03000000\nans 1 1 data 04000000\n",
@@ -203,6 +203,12 @@ static ROWS: [Row; 33] = [
         lines: "sub 1 0 swap 40 01000000\nsub 2 0 swap 40 02000000\nsub 3 0 swap 40 00000000\nsub 4 0 swap 40 01000000\nsub 5 0 swap 40 02000000\nsub 6 0 swap 40 00000000\nsub 7 0 swap 40 01000000\nsub 1 1 swap 40 02000000\nsub 2 1 swap 40 00000000\nsub 3 1 swap 40 08000000\nsub 4 1 swap 40 07000000\nans 1 0 data 00000000\nans 2 0 data 01000000\nans 3 0 data 02000000\nans 4 0 data 00000000\nans 5 0 data 01000000\nans 6 0 data 02000000\nans 7 0 data 00000000\nans 1 1 data 01000000\nans 2 1 data 02000000\nans 3 1 data 07000000\nans 4 1 data 08000000\n",
         choices: 1,
         answer: "none 21\n",
+    },
+    Row {
+        name: "two swaps that found what was there once, beside an addition elsewhere",
+        lines: "sub 1 0 swap 40 01000000\nsub 2 0 swap 40 02000000\nsub 3 0 add 80 01000000\nans 1 0 data 00000000\nans 2 0 data 00000000\n",
+        choices: 0,
+        answer: "none 4\n",
     },
     Row {
         name: "an addition behind a posted write, and one like it that may act at once",
