@@ -15,6 +15,7 @@ use byteorder::{ByteOrder, LittleEndian};
 /// An operation whose bytes are lent. Its value is that of an [`Op`].
 pub type OpRef<'a> = OpOf<PayloadRef<'a>>;
 
+#[inline(always)]
 fn fits(width: Width, number: u128) -> bool
     ensures { result ≡ spec.fits width number }
 {
@@ -25,6 +26,7 @@ fn fits(width: Width, number: u128) -> bool
     }
 }
 
+#[inline(always)]
 fn wrong_length(op: &OpRef<'_>) -> bool
     ensures { result ≡ spec.wrong_length op.now }
 {
@@ -38,6 +40,7 @@ fn wrong_length(op: &OpRef<'_>) -> bool
     }
 }
 
+#[inline(always)]
 fn wrong_enables(op: &OpRef<'_>) -> bool
     requires { spec.wrong_length op.now ≡ false }
     ensures { result ≡ spec.wrong_enables op.now }
@@ -63,6 +66,7 @@ fn wrong_enables(op: &OpRef<'_>) -> bool
     }
 }
 
+#[inline(always)]
 fn wrong_operand(op: &OpRef<'_>) -> bool
     ensures { result ≡ spec.wrong_operand op.now }
 {
@@ -80,6 +84,7 @@ fn wrong_operand(op: &OpRef<'_>) -> bool
     }
 }
 
+#[inline(always)]
 fn wrong_address(op: &OpRef<'_>) -> bool
     ensures { result ≡ spec.wrong_address op.now }
 {
