@@ -1,5 +1,5 @@
 //! Which events of a log are on some bytes of the memory.
-ghost use Rattle.std.specs.Prelude.{◌≡◌, IfOk, IfSome, IsTrue, Some, slice_get, length};
+ghost use Rattle.std.specs.Prelude.{◌≡◌, ◌≤◌, IfOk, IfSome, IsTrue, Some, slice_get, length};
 ghost use Rattle.log_cells.specs.Places.{AreNames, IsApart};
 
 use crate::places::Place;
@@ -33,13 +33,29 @@ pub(crate) fn names_in(
     Ok(names)
 }
 
-/// Where the event stands among them, which rise.
-pub(crate) fn name_of(names: &[usize], event: usize) -> Option<usize>
+/// How many of the last names are looked at before all others.
+const FEW: usize = 16;
+
+/// From where on an event is looked for among the first names, which rise: mostly it is one of the last of them.
+fn near(names: &[usize], before: usize, event: usize) -> usize
+    ensures { result ≤ before }
+{
+    let from = before.saturating_sub(FEW);
+    match names.get(from) {
+        Some(name) if *name <= event => from,
+        _ => 0,
+    }
+}
+
+/// Where the event stands among so many of the first names, which rise.
+pub(crate) fn name_of(names: &[usize], before: usize, event: usize) -> Option<usize>
+    requires { before ≤ length names.now }
     ensures { IfSome result (λ c. slice_get names.now c ≡ Some event) }
 {
-    let place = names.partition_point(|name| *name < event);
+    let from = near(names, before, event);
+    let place = from + names[from..before].partition_point(|name| *name < event);
     match names.get(place) {
-        Some(name) => if *name == event { Some(place) } else { None },
-        None => None,
+        Some(name) if *name == event => Some(place),
+        _ => None,
     }
 }

@@ -1,6 +1,7 @@
 //! The part of a log on some bytes of the memory.
-ghost use Rattle.std.specs.Prelude.{◌≡◌, ◌≤◌, ℕ, IfOk, IfSome, IsTrue, List, Some, slice_get, length, map};
-ghost use Rattle.log_runs.specs.EventView.{EventView, event_of, part_event};
+ghost use Rattle.std.specs.Prelude.{◌≡◌, ◌<◌, ◌≤◌, ℕ, IfOk, IfSome, IsTrue, List, Some, slice_get, length, map};
+ghost use Rattle.log_runs.specs.EventView.{EventView, part_event};
+ghost use Rattle.log_runs.specs.Headers.{header_of};
 ghost use Rattle.log_runs.specs.Runs.{Live, start};
 ghost use Rattle.log_cells.specs.Parts.{IsKept, NamesInside, AreKept, Holds};
 ghost use Rattle.log_cells.specs.Places.{ArePlaces};
@@ -8,30 +9,37 @@ ghost use Rattle.log_cells.specs.Places.{ArePlaces};
 use crate::cells::Cells;
 use crate::laws::a_part_has_a_run;
 use crate::names::{name_of, names_in};
-use crate::places::place_of;
-use log_runs::{Event, Log, PartEvent};
+use crate::places::Place;
+use log_runs::laws::headers_are_of_events;
+use log_runs::{EventHeader, Log, PartEvent};
 use seq_memory::{ALIGNMENT, Extent, MAX_SIZE};
 use std::alloc::{AllocError, Global};
 
-/// The event at place `a` of the whole log, as the part has it.
-fn kept(event: &Event<'_>, names: &[usize], a: usize) -> PartEvent
-    ensures { (es : List EventView) → slice_get es a ≡ Some (event_of event.now) → IsKept names.now (event_of event.now) (part_event es result) }
+/// The event with the name at that place, as the part has it. `header` is the event's.
+fn kept(header: EventHeader, names: &[usize], at: usize) -> PartEvent
+    requires { at < length names.now }
+    ensures { (es : List EventView) (a : ℕ) (e : EventView) → slice_get names.now at ≡ Some a → slice_get es a ≡ Some e → header ≡ header_of e →
+        IsKept names.now e (part_event es result) }
 {
-    match event {
-        Event::Due { request } => match name_of(names, *request) {
+    match header {
+        EventHeader::Due { request } => match name_of(names, at, request) {
             Some(request) => PartEvent::Due { request },
             None => PartEvent::Free,
         },
-        Event::Sub { .. } | Event::Free => PartEvent::Whole(a),
+        EventHeader::Sub { .. } | EventHeader::Free => PartEvent::Whole(names[at]),
     }
 }
 
 /// If it is a submission, all its bytes lie from `low` up to `high`.
-fn is_inside(event: &Event<'_>, low: u64, high: u64) -> bool
-    ensures { IsTrue result → NamesInside low high (event_of event.now) }
+fn is_inside(header: EventHeader, low: u64, high: u64) -> bool
+    ensures { IsTrue result → (e : EventView) → header ≡ header_of e → NamesInside low high e }
 {
-    match event {
-        Event::Sub { op, .. } => place_of(op).is_inside(low, high),
+    match header {
+        EventHeader::Sub { address, size, .. } => Place {
+            from: address,
+            count: size,
+        }
+        .is_inside(low, high),
         _ => true,
     }
 }
@@ -41,10 +49,10 @@ fn event_at(log: &Log<'_>, names: &[usize], at: usize, low: u64, high: u64) -> O
     ensures { IfSome result (λ p. (a : ℕ) × (e : EventView) × (slice_get names.now at ≡ Some a) × (slice_get log.now.events a ≡ Some e) ×
         NamesInside low high e × IsKept names.now e (part_event log.now.events p)) }
 {
-    let a = *names.get(at)?;
-    let event = log.event(a)?;
-    if is_inside(&event, low, high) {
-        Some(kept(&event, names, a))
+    headers_are_of_events();
+    let header = log.header(*names.get(at)?)?;
+    if is_inside(header, low, high) {
+        Some(kept(header, names, at))
     } else {
         None
     }

@@ -1,12 +1,10 @@
 //! Which bytes the events of a log name.
 ghost use Rattle.std.specs.Prelude.{◌≡◌, ◌+◌, ◌≤◌, ◌⊎◌, ℕ, IfOk, IsTrue, Some, slice_get};
-ghost use Rattle.tlp_core.specs.Operation.{address_of, count_of};
 ghost use Rattle.log_runs.specs.EventView.{EventView};
 ghost use Rattle.log_cells.specs.Places.{ArePlaces, IsPlaceOf};
 
 use log_runs::{EventHeader, Log};
 use std::alloc::{AllocError, Global};
-use tlp_core::OpRef;
 
 /// Some bytes, by their first address and their number.
 #[derive(Clone, Copy)]
@@ -31,16 +29,6 @@ impl Place {
         ensures { IsTrue result → (low ≤ self.from) × (self.from + self.count ≤ high) }
     {
         low <= self.from && self.from <= high && u64::from(self.count) <= high - self.from
-    }
-}
-
-pub(crate) fn place_of(op: &OpRef<'_>) -> Place
-    ensures from { result.from ≡ address_of op.now }
-    ensures count { result.count ≡ count_of op.now }
-{
-    Place {
-        from: op.address(),
-        count: op.size(),
     }
 }
 

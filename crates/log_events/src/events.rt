@@ -1,10 +1,11 @@
 //! The events of records.
-ghost use Rattle.std.specs.Prelude.{◌≡◌, ℕ, IfOk, IfSome, IsTrue, is_some, if◌then◌else◌, length, map, slice_get, Some, None, true};
+ghost use Rattle.std.specs.Prelude.{◌≡◌, ℕ, List, IfOk, IfSome, IsTrue, is_some, if◌then◌else◌, length, map, option_and_then, slice_get, Some, None, true};
 ghost use Rattle.tlp_core.specs.Ops.{Op};
 ghost use Rattle.seq_memory.specs.Entries.{Reply};
 ghost use Rattle.history_words.specs.Records.{Record};
 ghost use Rattle.history_words.specs.declared.record.RecordOf.TheVariants as kinds;
-ghost use Rattle.log_runs.specs.EventView.{event_in};
+ghost use Rattle.log_runs.specs.EventView.{event_in, reply_there, submission_there};
+ghost use Rattle.log_runs.specs.EventView as events;
 ghost use Rattle.log_runs.specs.Tasks.{known, Says, AreEvents, AreAllEvents};
 ghost use Rattle.log_events.specs.Formed as spec;
 ghost use Rattle.log_events.specs.Joined.{partner, ArePartners, SaysAll};
@@ -88,46 +89,63 @@ pub(crate) fn submission_at(
     }
 }
 
-/// The event of the record at the place, which belongs together with the one at the other.
-fn event_for(
-    records: &Records<'_>,
-    at: usize,
-    item: &RecordRef<'_>,
-    partner: Option<usize>,
-) -> EventAt
-    requires { slice_get records.now at ≡ Some item.now }
-    ensures says { Says records.now item.now (event_in records.now result) }
-    ensures all { SaysAll records.now partner item.now (event_in records.now result) }
+/// The place in 32 bits, if it is so small.
+fn narrow(place: usize) -> Result<u32, AllocError>
+    ensures { IfOk result (λ p. p ≡ place) }
 {
-    match item {
-        RecordRef::Sub {
-            requester,
-            number,
-            ..
-        } => EventAt::Sub {
-            submission: at,
-            answer: answer_at(records, partner, *requester, *number),
-        },
-        RecordRef::Ans {
-            requester,
-            number,
-            ..
-        } => match submission_at(records, partner, *requester, *number) {
-            Some(request) => EventAt::Due { request },
-            None => EventAt::Free,
-        },
+    u32::try_from(place).map_err(|_| AllocError)
+}
+
+/// The event of a submission, for which the answer at that place has a reply, if there is one.
+fn submission_event(submission: usize, answer: Option<usize>) -> Result<EventAt, AllocError>
+    ensures { IfOk result (λ e. (rs : List Record) → event_in rs e ≡
+        submission_there (slice_get rs submission) (option_and_then (λ a. reply_there (slice_get rs a)) answer)) }
+{
+    let submission = narrow(submission)?;
+    match answer {
+        Some(place) => Ok(EventAt::Answered {
+            submission,
+            answer: narrow(place)?,
+        }),
+        None => Ok(EventAt::Unanswered { submission }),
+    }
+}
+
+/// The event of an answer to the request that is submitted at that place, if it is one.
+fn answer_event(request: Option<usize>) -> Result<EventAt, AllocError>
+    ensures due { IfOk result (λ e. (rs : List Record) (b : ℕ) → request ≡ Some b → event_in rs e ≡ events.Due b) }
+    ensures free { IfOk result (λ e. (rs : List Record) → request ≡ None → event_in rs e ≡ events.Free) }
+{
+    match request {
+        Some(place) => Ok(EventAt::Due {
+            request: narrow(place)?,
+        }),
+        None => Ok(EventAt::Free),
     }
 }
 
 /// The event at a place, whose record belongs together with another as the table has it.
-fn event_at(records: &Records<'_>, partners: &Partners, at: usize) -> EventAt
-    ensures says { (r : Record) → slice_get records.now at ≡ Some r → Says records.now r (event_in records.now result) }
-    ensures all { (r : Record) → slice_get records.now at ≡ Some r →
-        SaysAll records.now (partner partners.now at) r (event_in records.now result) }
+fn event_at(records: &Records<'_>, partners: &Partners, at: usize) -> Result<EventAt, AllocError>
+    ensures says { IfOk result (λ e. (r : Record) → slice_get records.now at ≡ Some r → Says records.now r (event_in records.now e)) }
+    ensures all { IfOk result (λ e. (r : Record) → slice_get records.now at ≡ Some r →
+        SaysAll records.now (partner partners.now at) r (event_in records.now e)) }
 {
-    match records.get(at) {
-        Some(item) => event_for(records, at, &item, partners.of(at)),
-        None => EventAt::Free,
+    match records.header(at) {
+        Some(
+            RecordHeader::Sub {
+                requester,
+                number,
+                ..
+            },
+        ) => submission_event(at, answer_at(records, partners.of(at), requester, number)),
+        Some(
+            RecordHeader::Ans {
+                requester,
+                number,
+                ..
+            },
+        ) => answer_event(submission_at(records, partners.of(at), requester, number)),
+        None => Ok(EventAt::Free),
     }
 }
 
@@ -142,13 +160,14 @@ fn events_of(
 {
     let mut events = Vec::with_capacity(alloc, records.len())?;
     for at in 0..records.len() {
-        events.push(event_at(records, partners, at))?;
+        let event = event_at(records, partners, at)?;
+        events.push(event)?;
     }
     Ok(events)
 }
 
 /// The records over that memory as a search sees them. `partners` says which of them may belong together; where it is right
-/// for all of them, the events say all that the records do.
+/// for all of them, the events say all that the records do. More than 2^32 records are refused as a want of memory.
 pub fn log_of<'a>(
     alloc: Global,
     extent: Extent,

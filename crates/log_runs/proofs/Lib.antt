@@ -12,3 +12,4 @@ pub mod Fewer
 pub mod Ends
 pub mod HistoryOf
 pub mod Placed
+pub mod Headed

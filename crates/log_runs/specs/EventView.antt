@@ -1,5 +1,5 @@
 -- What a log has at one place. A request is named by the place of its submission, from 0.
-use Rattle.std.specs.Prelude.{ℕ, List, Option, Some, None, option_and_then, slice_get}
+use Rattle.std.specs.Prelude.{ℕ, List, Option, Some, None, slice_get}
 use Rattle.tlp_core.specs.Ops.{Op}
 use Rattle.seq_memory.specs.Entries.{Reply}
 use Rattle.history_words.specs.Records.{Record}
@@ -39,7 +39,8 @@ submission_there None told = Free
 
 -- the event whose records stand at these places
 abbrev pub event_in : List Record → EventAt → EventView
-event_in rs (places.Sub b a) = submission_there (slice_get rs b) (option_and_then (λ a. reply_there (slice_get rs a)) a)
+event_in rs (places.Answered b a) = submission_there (slice_get rs b) (reply_there (slice_get rs a))
+event_in rs (places.Unanswered b) = submission_there (slice_get rs b) None
 event_in rs (places.Due b) = Due b
 event_in rs places.Free = Free
 

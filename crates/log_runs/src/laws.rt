@@ -1,5 +1,6 @@
 //! Laws of logs.
-ghost use Rattle.std.specs.Prelude.{ℕ, ◌≡◌, ◌<◌, ◌+◌, ◌++◌, ◌∷◌, [], List, length, take, slice_get, Some};
+ghost use Rattle.std.specs.Prelude.{ℕ, Bool, Option, ◌≡◌, ◌<◌, ◌+◌, ◌++◌, ◌∷◌, [], List, is_some, length, option_map, take, slice_get, Some};
+ghost use Rattle.tlp_core.specs.Operation.{address_of, count_of, is_posted};
 ghost use Rattle.tlp_core.specs.Ops.{Op};
 ghost use Rattle.seq_memory.specs.Entries.{Entry};
 ghost use Rattle.seq_memory.specs.Entries.{Reply};
@@ -10,6 +11,9 @@ ghost use Rattle.history_words.specs.Clocks.{IsClocked};
 ghost use Rattle.history_words.specs.Trace.{Explains, IsNumbered, submissions};
 ghost use Rattle.history_words.specs.TraceView.{TraceView, observed};
 ghost use Rattle.log_runs.specs.EventView.{EventView};
+ghost use Rattle.log_runs.specs.EventView as events;
+ghost use Rattle.log_runs.specs.Headers.{header_of};
+ghost use Rattle.log_runs.specs.declared.log.EventHeader.TheVariants as headers;
 ghost use Rattle.log_runs.specs.Explainable.{IsExplainable, SeenAlike, prefix, without};
 ghost use Rattle.log_runs.specs.Histories.{history_of, timed, with_replies};
 ghost use Rattle.log_runs.specs.Runs.{Live, start};
@@ -82,4 +86,13 @@ pub fn submissions_grow_by_records()
         k ≡ length (submissions (take a rs) i) → IsNumbered (take (a + 1) rs) }
     ensures numbered_answer { (rs : List Record) (a i k n : ℕ) (reply : Reply) → IsNumbered (take a rs) → slice_get rs a ≡ Some (records.Ans i k reply n) →
         IsNumbered (take (a + 1) rs) }
+{}
+
+/// A header says of which kind its event is, and of a submission what it says of the operation and the reply.
+pub fn headers_are_of_events()
+    ensures submission { (o : Option EventView) (i a size : ℕ) (posted answered : Bool) → option_map header_of o ≡ Some (headers.Sub i posted answered a size) →
+        (op : Op) × (told : Option Reply) × (o ≡ Some (events.Sub i op told)) × (is_posted op ≡ posted) × (is_some told ≡ answered) ×
+        (address_of op ≡ a) × (count_of op ≡ size) }
+    ensures due { (o : Option EventView) (b : ℕ) → option_map header_of o ≡ Some (headers.Due b) → o ≡ Some (events.Due b) }
+    ensures free { (o : Option EventView) → option_map header_of o ≡ Some headers.Free → o ≡ Some events.Free }
 {}

@@ -2,12 +2,14 @@
 ghost use Rattle.std.specs.Prelude.{◌≡◌, IfOk, List, is_some, length, map, option_and_then, option_map, slice_get};
 ghost use Rattle.history_words.specs.Records.{Record};
 ghost use Rattle.log_runs.specs.EventView.{event_in, event_of, part_event, reply_there, submission_there, unanswered};
+ghost use Rattle.log_runs.specs.EventView as events;
 ghost use Rattle.log_runs.specs.Headers.{header_of, header_there};
 
 use history_words::{RecordHeader, RecordRef};
 use seq_memory::{Extent, ReplyRef};
 use std::alloc::{AllocError, Global};
 use std::marker::Model;
+use std::mem::size_of;
 use tlp_core::OpRef;
 use trace_store::Records;
 
@@ -48,21 +50,20 @@ pub enum EventHeader {
     Free,
 }
 
-/// An event, by the places of its records.
+/// An event, by the places of its records, in 12 bytes. So a log has at most 2^32 records.
 #[derive(Clone, Copy, Debug)]
 pub enum EventAt {
-    /// The submission at that place, and the answer with the reply that the log has for it, if it has one.
-    Sub {
-        submission: usize,
-        answer: Option<usize>,
-    },
+    /// The submission at that place, and the answer with the reply that the log has for it.
+    Answered { submission: u32, answer: u32 },
+    /// The submission at that place, for which the log has no reply.
+    Unanswered { submission: u32 },
     /// The answer to a request.
-    Due {
-        request: usize,
-    },
+    Due { request: u32 },
     /// An answer of which a search makes nothing.
     Free,
 }
+
+const _: () = prove!(size_of::<EventAt>() <= 12);
 
 /// An event of a part of a log.
 #[derive(Clone, Copy, Debug)]
@@ -128,14 +129,14 @@ fn lent<'a>(records: &Records<'a>, event: EventAt) -> Event<'a>
     ensures { event_of result ≡ event_in records.now event }
 {
     match event {
-        EventAt::Sub { submission, answer } => {
-            let reply = match answer {
-                Some(place) => reply_at(records, place),
-                None => None,
-            };
-            submission_at(records, submission, reply)
+        EventAt::Answered { submission, answer } => {
+            let reply = reply_at(records, answer as usize);
+            submission_at(records, submission as usize, reply)
         }
-        EventAt::Due { request } => Event::Due { request },
+        EventAt::Unanswered { submission } => submission_at(records, submission as usize, None),
+        EventAt::Due { request } => Event::Due {
+            request: request as usize,
+        },
         EventAt::Free => Event::Free,
     }
 }
@@ -181,14 +182,16 @@ fn header_in(records: &Records<'_>, event: EventAt) -> EventHeader
     ensures { result ≡ header_of (event_in records.now event) }
 {
     match event {
-        EventAt::Sub { submission, answer } => {
-            let is_answered = match answer {
-                Some(place) => is_answer(records, place),
-                None => false,
-            };
-            submission_header(records, submission, is_answered)
+        EventAt::Answered { submission, answer } => {
+            let is_answered = is_answer(records, answer as usize);
+            submission_header(records, submission as usize, is_answered)
         }
-        EventAt::Due { request } => EventHeader::Due { request },
+        EventAt::Unanswered { submission } => {
+            submission_header(records, submission as usize, false)
+        }
+        EventAt::Due { request } => EventHeader::Due {
+            request: request as usize,
+        },
         EventAt::Free => EventHeader::Free,
     }
 }
@@ -199,30 +202,39 @@ fn without_answer(event: EventAt) -> EventAt
     ensures { (rs : List Record) → event_in rs result ≡ unanswered (event_in rs event) }
 {
     match event {
-        EventAt::Sub { submission, .. } => EventAt::Sub {
-            submission,
-            answer: None,
-        },
+        EventAt::Answered { submission, .. } | EventAt::Unanswered { submission } => {
+            EventAt::Unanswered { submission }
+        }
         EventAt::Due { request } => EventAt::Due { request },
         EventAt::Free => EventAt::Free,
     }
 }
 
+/// The answer to the request at the place, which 32 bits have to hold.
+fn due(request: usize) -> Result<EventAt, AllocError>
+    ensures { IfOk result (λ e. (rs : List Record) → event_in rs e ≡ events.Due request) }
+{
+    match u32::try_from(request) {
+        Ok(request) => Ok(EventAt::Due { request }),
+        Err(_) => Err(AllocError),
+    }
+}
+
 /// The event of a part of a log that has these events.
-fn placed(events: &[EventAt], event: PartEvent) -> EventAt
-    ensures { (rs : List Record) → event_in rs result ≡ part_event (map (event_in rs) events.now) event }
+fn placed(events: &[EventAt], event: PartEvent) -> Result<EventAt, AllocError>
+    ensures { IfOk result (λ e. (rs : List Record) → event_in rs e ≡ part_event (map (event_in rs) events.now) event) }
 {
     match event {
         PartEvent::Whole(at) => match events.get(at) {
-            Some(event) => *event,
-            None => EventAt::Free,
+            Some(event) => Ok(*event),
+            None => Ok(EventAt::Free),
         },
         PartEvent::Unanswered(at) => match events.get(at) {
-            Some(event) => without_answer(*event),
-            None => EventAt::Free,
+            Some(event) => Ok(without_answer(*event)),
+            None => Ok(EventAt::Free),
         },
-        PartEvent::Due { request } => EventAt::Due { request },
-        PartEvent::Free => EventAt::Free,
+        PartEvent::Due { request } => due(request),
+        PartEvent::Free => Ok(EventAt::Free),
     }
 }
 
@@ -236,7 +248,8 @@ fn all_placed(
 {
     let mut all = Vec::with_capacity(alloc, parts.len())?;
     for part in parts {
-        all.push(placed(events, *part))?;
+        let event = placed(events, *part)?;
+        all.push(event)?;
     }
     Ok(all)
 }

@@ -1,10 +1,9 @@
 -- Two requests of a log, by what their operations do.
-use Rattle.std.proofs.Common.{Bool, ◌≡◌, ◌∙◌, ◌⊎◌, inl, inr, ℕ, List, Some, None, Option, refl, sym, ap, subst}
-use Rattle.std.specs.Prelude.{is_some, option_map, slice_get}
+use Rattle.std.proofs.Common.{◌≡◌, ◌∙◌, ◌⊎◌, inl, inr, ℕ, List, Some, None, Option, refl, sym, ap, subst}
+use Rattle.std.specs.Prelude.{slice_get}
 use Rattle.std.specs.Borrow.{Bor}
 use Rattle.std.proofs.lemmas.Option.{same_Some}
 use Rattle.tlp_core.specs.Ops.{Op}
-use Rattle.tlp_core.specs.Operation.{address_of, count_of, is_posted}
 use Rattle.seq_memory.specs.Entries.{Reply}
 use Rattle.seq_memory.specs.Limits.{Extent}
 use Rattle.seq_memory.specs.Step.{after, answer}
@@ -13,8 +12,6 @@ use Rattle.log_runs.specs.declared.log.Event.{Event}
 use Rattle.log_runs.specs.declared.log.Event.TheVariants as lent
 use Rattle.log_runs.specs.EventView.{EventView, event_of}
 use Rattle.log_runs.specs.EventView as events
-use Rattle.log_runs.specs.Headers.{header_of}
-use Rattle.log_runs.specs.declared.log.EventHeader.TheVariants as headers
 use Rattle.log_runs.specs.LogView.{LogView}
 use Rattle.log_runs.specs.Runs.{reply_of, bytes_after, acted_on}
 use Rattle.search_rules.specs.Rules.{Answers, Suits, Ends, NeverBrings, Yields}
@@ -38,27 +35,6 @@ sub_at es b r i op told is read = sym read ∙ ap (λ e. Some (event_of e)) is
 pub sub_told : (es : List EventView) (b : ℕ) (r : Event) (i : ℕ) (op : Op) (told : Option Reply) (reply : Option (Bor Reply)) → r ≡ lent.Sub i op told → Some (event_of r) ≡ slice_get es b → told_of reply ≡ told
     → slice_get es b ≡ Some (events.Sub i op (told_of reply))
 sub_told es b r i op told reply is read e = sub_at es b r i op told is read ∙ ap (λ t. Some (events.Sub i op t)) (sym e)
-
--- ---- an event's header
-
-pub sub_headed : (o : Option EventView) (i : ℕ) (posted answered : Bool) (a s : ℕ) → option_map header_of o ≡ Some (headers.Sub i posted answered a s)
-    → (op : Op) × (told : Option Reply) × (o ≡ Some (events.Sub i op told)) × (is_posted op ≡ posted) × (is_some told ≡ answered) × (address_of op ≡ a) × (count_of op ≡ s)
-sub_headed (Some (events.Sub j op told)) i posted answered a s e = (op, told, cc, cc, cc, cc, cc)
-sub_headed (Some (events.Due b)) i posted answered a s e = absurd cc
-sub_headed (Some events.Free) i posted answered a s e = absurd cc
-sub_headed None i posted answered a s e = absurd cc
-
-pub due_headed : (o : Option EventView) (b : ℕ) → option_map header_of o ≡ Some (headers.Due b) → (i : ℕ) (op : Op) (told : Option Reply) → o ≡ Some (events.Sub i op told) → ⊥
-due_headed (Some (events.Sub j w had)) b e i op told f = absurd cc
-due_headed (Some (events.Due c)) b e i op told f = absurd cc
-due_headed (Some events.Free) b e i op told f = absurd cc
-due_headed None b e i op told f = absurd cc
-
-pub free_headed : (o : Option EventView) → option_map header_of o ≡ Some headers.Free → (i : ℕ) (op : Op) (told : Option Reply) → o ≡ Some (events.Sub i op told) → ⊥
-free_headed (Some (events.Sub j w had)) e i op told f = absurd cc
-free_headed (Some (events.Due c)) e i op told f = absurd cc
-free_headed (Some events.Free) e i op told f = absurd cc
-free_headed None e i op told f = absurd cc
 
 pub due_is_idle : (es : List EventView) (b : ℕ) (r : Event) (c : ℕ) → r ≡ lent.Due c → Some (event_of r) ≡ slice_get es b
     → (i : ℕ) (op : Op) (told : Option Reply) → slice_get es b ≡ Some (events.Sub i op told) → ⊥

@@ -12,6 +12,7 @@ ghost use Rattle.search_rules.specs.Answered.{IsAnswered};
 ghost use Rattle.search_rules.specs.Rules.{Answers, Suits, Ends, NeverBrings, Yields, LetsFirst, Follows, ChangesNothing};
 
 use crate::junk::is_served;
+use log_runs::laws::headers_are_of_events;
 use log_runs::{Event, EventHeader, Log};
 use search_effects::laws::apart_requests_commute;
 use search_effects::{are_apart, lie_apart, waits};
@@ -75,6 +76,7 @@ pub fn is_apart(log: &Log, b: usize, q: usize) -> bool
     ensures { IsTrue result → NeverBrings log.now b q }
 {
     apart_requests_commute();
+    headers_are_of_events();
     match log.header(b) {
         Some(EventHeader::Sub { address, size, .. }) => match answered_range(log, q) {
             Some(range) => lie_apart((address, size), range),

@@ -1,6 +1,6 @@
 -- Events that a log lends, and what two requests are to each other.
-use Rattle.std.proofs.Common.{Bool, ◌≡◌, ◌∙◌, ◌⊎◌, inl, inr, ℕ, ◌+◌, ◌*◌, ◌-◌, ◌/◌, ◌%◌, ◌<◌, ◌≤◌, List, Some, None, Option, sym, ap, subst, arith}
-use Rattle.std.specs.Prelude.{option_map, slice_get}
+use Rattle.std.proofs.Common.{◌≡◌, ◌∙◌, ◌⊎◌, inl, inr, ℕ, ◌+◌, ◌*◌, ◌-◌, ◌/◌, ◌%◌, ◌<◌, ◌≤◌, List, Some, None, Option, sym, ap, subst, arith}
+use Rattle.std.specs.Prelude.{slice_get}
 use Rattle.std.specs.Borrow.{Bor}
 use Rattle.std.proofs.lemmas.Option.{same_Some}
 use Rattle.tlp_core.specs.Ops.{Op}
@@ -12,8 +12,6 @@ use Rattle.log_runs.specs.declared.log.Event.{Event}
 use Rattle.log_runs.specs.declared.log.Event.TheVariants as lent
 use Rattle.log_runs.specs.EventView.{EventView, event_of}
 use Rattle.log_runs.specs.EventView as events
-use Rattle.log_runs.specs.Headers.{header_of}
-use Rattle.log_runs.specs.declared.log.EventHeader.TheVariants as headers
 use Rattle.log_runs.specs.LogView.{LogView}
 use Rattle.search_rules.specs.Junk.{IsJunk, LeavesJunk, word}
 use Rattle.search_rules.specs.Rules.{IsJunkAt, LeavesJunkAt}
@@ -26,14 +24,6 @@ sub_at es b r i op told is read = sym read ∙ ap (λ e. Some (event_of e)) is
 pub sub_told : (es : List EventView) (b : ℕ) (r : Event) (i : ℕ) (op : Op) (told : Option Reply) (reply : Option (Bor Reply)) → r ≡ lent.Sub i op told → Some (event_of r) ≡ slice_get es b → told_of reply ≡ told
     → slice_get es b ≡ Some (events.Sub i op (told_of reply))
 sub_told es b r i op told reply is read e = sub_at es b r i op told is read ∙ ap (λ t. Some (events.Sub i op t)) (sym e)
-
--- a submission, by its header
-pub sub_headed : (o : Option EventView) (i : ℕ) (posted answered : Bool) (a s : ℕ) → option_map header_of o ≡ Some (headers.Sub i posted answered a s)
-    → (op : Op) × (told : Option Reply) × (o ≡ Some (events.Sub i op told)) × (address_of op ≡ a) × (count_of op ≡ s)
-sub_headed (Some (events.Sub j op told)) i posted answered a s e = (op, told, cc, cc, cc)
-sub_headed (Some (events.Due b)) i posted answered a s e = absurd cc
-sub_headed (Some events.Free) i posted answered a s e = absurd cc
-sub_headed None i posted answered a s e = absurd cc
 
 -- ---- places
 

@@ -13,6 +13,7 @@ ghost use Rattle.search_rules.specs.Rules.{NeverBrings, Yields, LetsFirst, Names
 
 use crate::lists::window;
 use crate::words::{Words, left_at, needed_at, number_of, place_in, value_in};
+use log_runs::laws::headers_are_of_events;
 use log_runs::{Event, EventHeader, Log};
 use search_effects::laws::what_takes_a_reply_away_yields;
 use search_rules::is_served;
@@ -45,6 +46,7 @@ pub fn span_of(log: &Log, q: usize) -> Option<(u64, u64)>
     ensures own { IfSome result (λ r. (w : ℕ) → Names log.now q w → (r.0 ≤ w) × (w < r.1)) }
     ensures all { IfSome result (λ r. (b : ℕ) → AreApartThere log.now b q ⊎ ((w : ℕ) × (r.0 ≤ w) × (w < r.1) × NamesWord log.now b w)) }
 {
+    headers_are_of_events();
     let Some(EventHeader::Sub { address, size, .. }) = log.header(q) else {
         return None;
     };

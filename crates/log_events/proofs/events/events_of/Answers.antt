@@ -7,9 +7,9 @@ use Rattle.log_events.proofs.events.events_of.Goals as goal
 pub loop-at-preserved : goal.loop-at-preserved
 loop-at-preserved c =
     let es = c.loop-at.events.items in
-    let e = c.event_at.result in
+    let e = c.in_ok-event.event in
     let grown = ap (map (event_in c.args.records.now)) c.in_ok-push.ensures.items ∙ map-append (event_in c.args.records.now) es (e ∷ []) in
-    events_more c.args.partners.now c.args.records.now (map (event_in c.args.records.now) es) (map (event_in c.args.records.now) c.push.new.self.items) (event_in c.args.records.now e) c.loop-at.at grown c.loop-at.invariant c.event_at.ensures.says c.event_at.ensures.all
+    events_more c.args.partners.now c.args.records.now (map (event_in c.args.records.now) es) (map (event_in c.args.records.now) c.push.new.self.items) (event_in c.args.records.now e) c.loop-at.at grown c.loop-at.invariant c.in_ok-event.ensures.says c.in_ok-event.ensures.all
 
 pub returns-clause-says : goal.returns-clause-says
 returns-clause-says c =

@@ -6,7 +6,7 @@ use Rattle.log_runs.proofs.log.all_placed.Goals as goal
 
 pub loop-part-preserved : goal.loop-part-preserved
 loop-part-preserved c = λ rs.
-    one_more rs c.args.events.now c.args.parts.now c.loop-part.part-index _ c.loop-part.all.items c.push.new.self.items c.placed.result (omega (arith, c.loop-part-test.true)) (c.loop-part.invariant rs) c.in_ok-push.ensures.items (c.placed.ensures rs)
+    one_more rs c.args.events.now c.args.parts.now c.loop-part.part-index _ c.loop-part.all.items c.push.new.self.items c.in_ok-event.event (omega (arith, c.loop-part-test.true)) (c.loop-part.invariant rs) c.in_ok-push.ensures.items (c.in_ok-event.ensures rs)
 
 pub returns : goal.returns
 returns c = λ rs.
