@@ -1,5 +1,5 @@
 -- Lists of places, one place more.
-use Rattle.std.proofs.Common.{◌≡◌, ◌∙◌, ℕ, zero, suc, ◌+◌, ◌-◌, ◌<◌, ◌≤◌, Bool, true, false, ◌⊎◌, List, [], ◌∷◌, ◌++◌, length, take, drop, get_or, set, Some, None, Option, refl, sym, ap, subst, arith, inl, inr, add-one}
+use Rattle.std.proofs.Common.{◌≡◌, ◌∙◌, ℕ, zero, suc, ◌+◌, ◌-◌, ◌<◌, ◌≤◌, Bool, true, false, ◌⊎◌, List, [], ◌∷◌, ◌++◌, length, length-drop, take, drop, get_or, set, Some, None, Option, refl, sym, ap, subst, arith, inl, inr, add-one}
 use Rattle.std.specs.Prelude.{slice_get, nat_eq, cond}
 use Rattle.std.proofs.lemmas.Bool.{cases_Bool, eqb-true, eq-eqb, cases_lt}
 use Rattle.std.proofs.lemmas.Option.{same_Some}
@@ -257,28 +257,37 @@ in_take [] (suc n) i b e l = e
 in_take (x ∷ xs) (suc n) zero b e l = e
 in_take (x ∷ xs) (suc n) (suc i) b e l = in_take xs n i b e (omega (arith, l))
 
--- the places from one on and before another
-pub in_window : (xs : List ℕ) (first end from to : ℕ)
-    → ((k d : ℕ) → k < first → get_or xs k d < from) → ((k d : ℕ) → end ≤ k → k < length xs → get_or xs k d < to → ⊥)
-    → (b : ℕ) → InList xs b → from ≤ b → b < to → first ≤ end → InList (take (end - first) (drop first xs)) b
-in_window xs first end from to low high b (i, at) late early order =
+-- the places before one
+pub in_before : (xs : List ℕ) (end to : ℕ) → ((k d : ℕ) → end ≤ k → k < length xs → get_or xs k d < to → ⊥) → (b : ℕ) → InList xs b → b < to → InList (take end xs) b
+in_before xs end to high b (i, at) early =
+    let is = get_is xs i b b at in
+    elim (cases_lt i end) [
+      | inl inner ↦ (i, in_take xs end i b at inner)
+      | inr behind ↦ absurd (high i b behind (inside xs i b at) (omega (arith, is, early)))
+    ]
+
+some_there : (xs : List ℕ) (i d : ℕ) → i < length xs → slice_get xs i ≡ Some (get_or xs i d)
+some_there [] i d l = absurd (omega arith)
+some_there (x ∷ xs) zero d l = refl
+some_there (x ∷ xs) (suc i) d l = some_there xs i d (omega arith)
+
+-- the same of a rising list, by one that is not before it
+pub in_few : (xs : List ℕ) (end to d : ℕ) → IsNonDecreasing xs → end < length xs → to ≤ get_or xs end d → (b : ℕ) → InList xs b → b < to → InList (take end xs) b
+in_few xs end to d rises inner late =
+    in_before xs end to (λ k e behind within below.
+    let is = get_is xs end (get_or xs end d) e (some_there xs end d inner) in omega (arith, rises end k e behind within, is, late, below))
+
+-- the places from one on
+pub in_behind : (xs : List ℕ) (first from : ℕ) → ((k d : ℕ) → k < first → get_or xs k d < from) → (b : ℕ) → InList xs b → from ≤ b → InList (drop first xs) b
+in_behind xs first from low b (i, at) late =
     let is = get_is xs i b b at in
     elim (cases_lt i first) [
       | inl before ↦ absurd (omega (arith, low i b before, is, late))
-      | inr from_first ↦ elim (cases_lt i end) [
-        | inr behind ↦ absurd (high i b behind (inside xs i b at) (omega (arith, is, early)))
-        | inl inner ↦
-            let (j, here, sum) = in_drop xs first i b at from_first in
-            (j, in_take (drop first xs) (end - first) j b here (omega (arith, sum, inner)))
-      ]
+      | inr from_first ↦ let (j, here, sum) = in_drop xs first i b at from_first in (j, here)
     ]
 
-pub past_window : (xs : List ℕ) (first end from to : ℕ)
-    → ((k d : ℕ) → k < first → get_or xs k d < from) → ((k d : ℕ) → end ≤ k → k < length xs → get_or xs k d < to → ⊥)
-    → (b : ℕ) → InList xs b → from ≤ b → b < to → end < first → ⊥
-past_window xs first end from to low high b (i, at) late early order =
-    let is = get_is xs i b b at in
-    elim (cases_lt i first) [
-      | inl before ↦ omega (arith, low i b before, is, late)
-      | inr from_first ↦ high i b (omega (arith, from_first, order)) (inside xs i b at) (omega (arith, is, early))
-    ]
+-- a list without its first places, as a slice has them
+pub in_rest : (xs : List ℕ) (first b : ℕ) → InList (drop first xs) b → InList (take (length xs - first) (drop first xs)) b
+in_rest xs first b (i, at) =
+    let within = inside (drop first xs) i b at in
+    (i, in_take (drop first xs) (length xs - first) i b at (omega (arith, length-drop first xs, within)))

@@ -142,15 +142,51 @@ impl Lists {
     }
 }
 
+/// How many places of a list are looked at before all of it is.
+const FEW: usize = 8;
+
+/// The first places of a rising list, with all that are before that one: few, if these are all.
+#[inline(always)]
+fn near(list: &[usize], to: usize) -> &[usize]
+    requires { IsNonDecreasing list.now }
+    ensures rise { IsNonDecreasing result.now }
+    ensures all { (b : ℕ) → InList list.now b → b < to → InList result.now b }
+{
+    if list.len() > FEW && list[FEW] >= to {
+        return &list[..FEW];
+    }
+    list
+}
+
+/// Those of a rising list before that place.
+#[inline(always)]
+fn before(list: &[usize], to: usize) -> &[usize]
+    requires { IsNonDecreasing list.now }
+    ensures { (b : ℕ) → InList list.now b → b < to → InList result.now b }
+{
+    match list.last() {
+        Some(last) if *last >= to => &list[..list.partition_point(|b| *b < to)],
+        _ => list,
+    }
+}
+
+/// Those of a rising list from that place on.
+#[inline(always)]
+fn behind(list: &[usize], from: usize) -> &[usize]
+    requires { IsNonDecreasing list.now }
+    ensures rise { IsNonDecreasing result.now }
+    ensures all { (b : ℕ) → InList list.now b → from ≤ b → InList result.now b }
+{
+    match list.first() {
+        Some(first) if *first < from => &list[list.partition_point(|b| *b < from)..],
+        _ => list,
+    }
+}
+
 /// Those of a rising list from one place on and before another.
 pub(crate) fn window(list: &[usize], from: usize, to: usize) -> &[usize]
     requires { IsNonDecreasing list.now }
     ensures { (b : ℕ) → InList list.now b → from ≤ b → b < to → InList result.now b }
 {
-    let first = list.partition_point(|b| *b < from);
-    let end = list.partition_point(|b| *b < to);
-    if end < first {
-        return &[];
-    }
-    &list[first..end]
+    before(near(behind(list, from), to), to)
 }
