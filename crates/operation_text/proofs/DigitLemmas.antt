@@ -1,9 +1,9 @@
 -- The digits of numbers and of bytes.
-use Rattle.std.proofs.Common.{◌≡◌, ℕ, zero, suc, ◌+◌, ◌/◌, ◌%◌, ◌^◌, ◌<◌, ◌≤◌, Bool, true, List, [], ◌∷◌, ◌++◌, length, get_or, slice_index, refl, sym, ap, ◌∙◌, append_assoc, length-append, inl, inr, arith, drop, drop-cons}
+use Rattle.std.proofs.Common.{◌≡◌, ℕ, zero, suc, ◌+◌, ◌*◌, ◌/◌, ◌%◌, ◌^◌, ◌<◌, ◌≤◌, Bool, true, List, [], ◌∷◌, ◌++◌, length, get_or, slice_index, refl, sym, ap, ◌∙◌, append_assoc, length-append, inl, inr, arith, drop, drop-cons}
 use Rattle.std.specs.Prelude.{◌==◌, ◌&&◌, cond}
 use Rattle.std.specs.Fmt.{decimal, digits, digits_onto, digit_glyph}
-use Rattle.std.proofs.lemmas.Fmt.{decimal_digit}
-use Rattle.std.proofs.lemmas.Bool.{and_parts, cases_lt, eqb-true, ne_eqb, eq-eqb}
+use Rattle.std.proofs.lemmas.Fmt.{decimal_digit, decimal_step, length-decimal-le}
+use Rattle.std.proofs.lemmas.Bool.{and_parts, cases_lt, eqb-true, lt-ltb, ne_eqb, eq-eqb}
 use Rattle.hex.specs.Hex.{encode_with, encode_upper, upper_digits}
 use Rattle.operation_text.specs.Texts.{hexadecimal, octet_text}
 
@@ -112,6 +112,10 @@ hexadecimal_octet n more less =
     hexadecimal_step n more (omega arith) ∙ ap (λ (t : List ℕ). t ++ digit_glyph true (n % 16) ∷ []) (hexadecimal_digit (n / 16) (omega arith))
     ∙ ap (λ (k : ℕ). digit_glyph true k ∷ digit_glyph true (n % 16) ∷ []) (omega arith)
 
+-- a byte of one digit
+pub hexadecimal_one : (n : ℕ) → n < 16 → hexadecimal n ≡ digit_glyph true n ∷ []
+hexadecimal_one n h = hexadecimal_digit n h ∙ ap (λ (k : ℕ). digit_glyph true k ∷ []) (omega arith)
+
 pub hexadecimal_octets : (n : ℕ) → 256 ≤ n → n < 2 ^ 64 → hexadecimal n ≡ hexadecimal (n / 256) ++ octet_text (n % 256)
 hexadecimal_octets n more small =
     hexadecimal_step n (omega arith) small
@@ -119,3 +123,38 @@ hexadecimal_octets n more small =
     ∙ append_assoc (hexadecimal (n / 16 / 16)) (digit_glyph true (n / 16 % 16) ∷ []) (digit_glyph true (n % 16) ∷ [])
     ∙ ap (λ (t : List ℕ). hexadecimal (n / 16 / 16) ++ t) (ap (λ (k : ℕ). digit_glyph true k ∷ digit_glyph true (n % 16) ∷ []) (omega arith) ∙ ap (λ (k : ℕ). digit_glyph true (n % 256 / 16) ∷ digit_glyph true k ∷ []) (omega arith))
     ∙ ap (λ (k : ℕ). hexadecimal k ++ octet_text (n % 256)) (omega arith)
+
+-- ---- decimal numbers, two digits at a time
+
+abbrev pub two_digits : ℕ → List ℕ
+two_digits n = (48 + n / 10) ∷ (48 + n % 10) ∷ []
+
+glyph_below_ten : (k : ℕ) → k < 10 → digit_glyph true k ≡ 48 + k
+glyph_below_ten k h = ap (λ (t : Bool). cond t (48 + k) (55 + k)) (lt-ltb k 10 h)
+
+pub octet_of_two : (n : ℕ) → n < 100 → octet_text (n / 10 * 16 + n % 10) ≡ two_digits n
+octet_of_two n h =
+    let high : (n / 10 * 16 + n % 10) / 16 ≡ n / 10 = omega arith in
+    let low : (n / 10 * 16 + n % 10) % 16 ≡ n % 10 = omega arith in
+    ap (λ (k : ℕ). digit_glyph true k ∷ digit_glyph true ((n / 10 * 16 + n % 10) % 16) ∷ []) high
+    ∙ ap (λ (k : ℕ). digit_glyph true (n / 10) ∷ digit_glyph true k ∷ []) low
+    ∙ ap (λ (k : ℕ). k ∷ digit_glyph true (n % 10) ∷ []) (glyph_below_ten (n / 10) (omega arith))
+    ∙ ap (λ (k : ℕ). (48 + n / 10) ∷ k ∷ []) (glyph_below_ten (n % 10) (omega arith))
+
+pub decimal_two : (n : ℕ) → 10 ≤ n → n < 100 → decimal n ≡ two_digits n
+decimal_two n more less =
+    decimal_step n more (omega arith) ∙ ap (λ (t : List ℕ). t ++ (48 + n % 10) ∷ []) (decimal_digit (n / 10) (omega arith))
+
+pub decimal_twos : (n : ℕ) → 100 ≤ n → n < 2 ^ 64 → decimal n ≡ decimal (n / 100) ++ two_digits (n % 100)
+decimal_twos n more small =
+    decimal_step n (omega arith) small
+    ∙ ap (λ (t : List ℕ). t ++ (48 + n % 10) ∷ []) (decimal_step (n / 10) (omega arith) (omega arith))
+    ∙ append_assoc (decimal (n / 10 / 10)) ((48 + n / 10 % 10) ∷ []) ((48 + n % 10) ∷ [])
+    ∙ ap (λ (k : ℕ). decimal (n / 10 / 10) ++ (48 + k) ∷ (48 + n % 10) ∷ []) (omega arith)
+    ∙ ap (λ (k : ℕ). decimal (n / 10 / 10) ++ (48 + n % 100 / 10) ∷ (48 + k) ∷ []) (omega arith)
+    ∙ ap (λ (k : ℕ). decimal k ++ two_digits (n % 100)) (omega arith)
+
+pub decimal-short : (n : ℕ) → n < 2 ^ 64 → length (decimal n) ≤ 20
+decimal-short n h = length-decimal-le 20 n (omega arith) (omega arith) h
+
+pub ruleset short_decimal = (decimal-short)

@@ -1,5 +1,5 @@
 //! Writing operations and replies.
-ghost use Rattle.std.specs.Prelude.{◌≡◌, ◌≤◌, ◌<◌, ◌+◌, ◌*◌, ◌++◌, ◌∷◌, [], true, length};
+ghost use Rattle.std.specs.Prelude.{◌≡◌, ◌≤◌, ◌<◌, ◌+◌, ◌*◌, ◌/◌, ◌%◌, ◌++◌, ◌∷◌, [], true, length};
 ghost use Rattle.std.specs.Fmt.{decimal, digit_glyph};
 ghost use Rattle.arrayvec.specs.ArrayString.{array_string_len};
 ghost use Rattle.hex.specs.Hex.{encode_upper};
@@ -10,7 +10,6 @@ ghost use Rattle.operation_text.specs.Texts.{hexadecimal, octet_text, sequence_t
 use arrayvec::ArrayString;
 use byteorder::{ByteOrder, LittleEndian};
 use hex_text::pair_of;
-use itoa::Buffer;
 use seq_memory::ReplyRef;
 use seq12::Seq12;
 use tlp_core::{OpRef, Width};
@@ -68,7 +67,36 @@ fn put_one(number: u8, out: &mut ArrayString<512>)
     out.push(char::from(b'0' + number));
 }
 
+/// Adds the two digits of a number below 100.
+#[inline(always)]
+#[tactic(auto, using(crate::proofs::DigitLemmas::octet_of_two))]
+fn put_two(number: u8, out: &mut ArrayString<512>)
+    requires number { number < 100 }
+    requires room { array_string_len out.old + 2 ≤ 512 }
+    ensures text { out.new.bytes ≡ out.old.bytes ++ (48 + number / 10) ∷ (48 + number % 10) ∷ [] }
+    ensures len { array_string_len out.new ≡ array_string_len out.old + 2 }
+{
+    write_octet(number / 10 * 16 + number % 10, out);
+}
+
+/// Adds the number's digits, which fit.
+fn put_decimal(number: u64, out: &mut ArrayString<512>)
+    requires { array_string_len out.old + length (decimal number) ≤ 512 }
+    ensures { out.new.bytes ≡ out.old.bytes ++ decimal number }
+{
+    if number >= 100 {
+        put_decimal(number / 100, out);
+        put_two((number % 100) as u8, out);
+    } else if number >= 10 {
+        put_two(number as u8, out);
+    } else {
+        put_one(number as u8, out);
+    }
+}
+
 /// Adds the number in decimal, without leading zeros.
+#[inline(always)]
+#[tactic(auto, using(crate::proofs::DigitLemmas::short_decimal))]
 pub fn write_decimal(number: u64, out: &mut ArrayString<512>)
     requires { array_string_len out.old + 20 ≤ 512 }
     ensures text { out.new.bytes ≡ out.old.bytes ++ decimal number }
@@ -76,10 +104,9 @@ pub fn write_decimal(number: u64, out: &mut ArrayString<512>)
 {
     if number < 10 {
         put_one(number as u8, out);
-        return;
+    } else {
+        put_decimal(number, out);
     }
-    let mut buffer = Buffer::new();
-    out.push_str(buffer.format(number));
 }
 
 /// Adds the two digits of a byte, in hexadecimal and in capitals.
@@ -138,6 +165,21 @@ fn put_number(width: Width, operand: u128, out: &mut ArrayString<512>)
     put_word(&room[..usize::from(width.size())], out);
 }
 
+/// Adds the byte's value in hexadecimal, in capitals and without leading zeros.
+#[inline(always)]
+#[tactic(auto, using(crate::proofs::DigitLemmas::hexadecimal_one, crate::proofs::DigitLemmas::hexadecimal_octet))]
+fn put_byte(value: u8, out: &mut ArrayString<512>)
+    requires { array_string_len out.old + 2 ≤ 512 }
+    ensures text { out.new.bytes ≡ out.old.bytes ++ hexadecimal value }
+    ensures len { array_string_len out.new ≤ array_string_len out.old + 2 }
+{
+    if value < 16 {
+        put_digit(value, out);
+    } else {
+        write_octet(value, out);
+    }
+}
+
 /// Adds a space before each of the byte enables.
 #[inline(always)]
 fn put_enables(first: u8, last: u8, out: &mut ArrayString<512>)
@@ -146,9 +188,9 @@ fn put_enables(first: u8, last: u8, out: &mut ArrayString<512>)
     ensures len { array_string_len out.new ≤ array_string_len out.old + 34 }
 {
     out.push_str(" ");
-    write_hexadecimal(u64::from(first), out);
+    put_byte(first, out);
     out.push_str(" ");
-    write_hexadecimal(u64::from(last), out);
+    put_byte(last, out);
 }
 
 /// Adds the kind of an operation, with the space behind it, and its address.
