@@ -44,7 +44,10 @@ fn memory_line<'r>(rest: Option<&[u8]>) -> Result<LogLine<'r>, Misfit>
 }
 
 #[inline(always)]
-fn sub<'r>(rest: Option<&[u8]>, room: &'r mut [u8; MAX_PAYLOAD]) -> Result<LogLine<'r>, Misfit>
+pub(crate) fn sub<'r>(
+    rest: Option<&[u8]>,
+    room: &'r mut [u8; MAX_PAYLOAD],
+) -> Result<LogLine<'r>, Misfit>
     ensures { result_ok result ≡ forms.sub_of (words_behind rest.entry) }
 {
     let (requester, rest) = requester(rest)?;
@@ -99,7 +102,7 @@ fn reply<'r>(
 }
 
 #[inline(always)]
-fn ans<'r>(
+pub(crate) fn ans<'r>(
     rest: Option<&[u8]>,
     version: Version,
     room: &'r mut [u8; MAX_PAYLOAD],
@@ -141,7 +144,6 @@ fn line_by<'r>(
     }
 }
 
-#[inline(always)]
 fn line_in_words<'r>(
     text: &[u8],
     version: Version,
@@ -154,7 +156,7 @@ fn line_in_words<'r>(
 }
 
 /// The line that the text spells in a log of that version: its bytes are put into the room, whose content doesn't count.
-#[inline(always)]
+#[inline(never)]
 pub(crate) fn read_line<'r>(
     text: &[u8],
     version: Version,

@@ -24,8 +24,8 @@ step_by g section form (Some l) = placing g form l (g.section_after section l)
 abbrev pub step : {F L : Type 0} → Grammar F L → Section → F → List ℕ → Step F
 step g section form text = step_by g section form (g.line_of form text)
 
--- what an answer tells, where that is kept then: what doesn't fit is for people
+-- what an answer tells, where that is kept then
 abbrev pub step_told : {F : Type 0} → Taken → F → Step F
 step_told (takes.Kept section) form = record { is_spelled = true; after = Some section; form = form }
 step_told takes.NotDue form = record { is_spelled = true; after = None; form = form }
-step_told (takes.Misfit m) form = record { is_spelled = false; after = None; form = form }
+step_told takes.Misfit form = record { is_spelled = false; after = None; form = form }

@@ -29,8 +29,8 @@ pub enum Taken {
     Kept(Section),
     /// The line isn't due in the section.
     NotDue,
-    /// The text spells no line: this doesn't fit.
-    Misfit(Misfit),
+    /// The text spells no line.
+    Misfit,
 }
 
 /// What is kept of the lines of a text, and how they are read.
@@ -41,9 +41,15 @@ pub trait Form: Drop {
     // the lines, where they stand, and what is kept of them
     ghost grammar: { Grammar Self Line };
 
-    /// Takes the line that the text spells, if it is due in the section. `Err` tells that a growth was refused, for a
-    /// line that is due; nothing was taken then.
-    fn take(&mut self, section: Section, text: &[u8]) -> Result<Taken, AllocError>
+    /// Takes the line that the text spells, if it is due in the section. What doesn't fit in a text that spells none is
+    /// put into `misfit`, so that it isn't moved with each line. `Err` tells that a growth was refused, for a line that is
+    /// due; nothing was taken then.
+    fn take(
+        &mut self,
+        section: Section,
+        text: &[u8],
+        misfit: &mut Option<Misfit>,
+    ) -> Result<Taken, AllocError>
         ensures ok { IfOk result (λ t. step_told t self.new ≡ step grammar section self.old text.now) }
         ensures err { OnErr result (self.new ≡ self.old) }
         ensures adds { OnErr result (adds grammar section (grammar.line_of self.old text.now) ≡ true) };

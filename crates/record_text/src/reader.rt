@@ -15,7 +15,7 @@ pub struct RecordReader<F: Form> {
     section: Section,
     lines: u64,
     fault: Option<ReadFault>,
-    /// What doesn't fit in the line of the fault, if that isn't too long.
+    /// What doesn't fit in the line of the fault, if there is one that isn't too long.
     misfit: Option<Misfit>,
     form: F,
 }
@@ -150,11 +150,11 @@ impl<F: Form> RecordReader<F> {
     }
 
     /// What doesn't fit in a line of no form: its first word, if no line that is due begins with it.
-    fn misfit_of(&self, text: &[u8], misfit: Misfit) -> Misfit {
+    fn misfit_of(&self, text: &[u8]) -> Option<Misfit> {
         if F::begins_with(self.section, cut(text).0) {
-            misfit
+            self.misfit
         } else {
-            self.due().at(Some(text))
+            Some(self.due().at(Some(text)))
         }
     }
 }
@@ -176,13 +176,16 @@ impl<F: Form> RecordReader<F> {
             self.count();
             return Ok(());
         }
-        match self.form.take(self.section, line)? {
+        let RecordReader {
+            section,
+            misfit,
+            form,
+            ..
+        } = self;
+        match form.take(*section, line, misfit)? {
             Taken::Kept(section) => self.go_on(section),
             Taken::NotDue => self.refuse(misplaced(self.section), Some(self.due().at(Some(line)))),
-            Taken::Misfit(misfit) => {
-                let misfit = self.misfit_of(line, misfit);
-                self.refuse(formless(self.section), Some(misfit));
-            }
+            Taken::Misfit => self.refuse(formless(self.section), self.misfit_of(line)),
         }
         Ok(())
     }

@@ -1,11 +1,16 @@
 //! What is kept of the text of a trace, and where its lines stand.
-ghost use Rattle.std.specs.Prelude.{◌≡◌};
+ghost use Rattle.std.specs.Prelude.{◌≡◌, true, IfOk, OnErr};
+ghost use Rattle.std.specs.Result.{result_ok};
+ghost use Rattle.operation_text.specs.Words.{words};
+ghost use Rattle.record_text.specs.RecordReaderView.{adds};
+ghost use Rattle.record_text.specs.Step.{step, step_by, step_told};
+ghost use Rattle.trace_text.specs.TraceReaderView.{trace_grammar};
 ghost use Rattle.trace_text.specs.TraceReaderView as reads;
 ghost use Rattle.trace_text.specs.Forms as forms;
 
-use crate::line::{Line, Version, read_line};
+use crate::line::{Line, Version, ans, any_line, ent, sub};
 use history_words::RecordRef;
-use operation_text::Expected;
+use operation_text::{Expected, Misfit};
 use record_text::{Form, Section, Taken};
 use seq_memory::{Extent, MIN_SIZE};
 use std::alloc::{AllocError, Global};
@@ -75,14 +80,12 @@ pub(crate) fn least_extent() -> Extent
 
 /// A trace and a history, as far as their text was read.
 #[derive(Drop)]
-pub(crate) struct TraceForm {
+struct Kept {
     version: Version,
     store: TraceStore,
-    /// Room for the bytes of a line: what it holds does not count.
-    room: [u8; MAX_PAYLOAD],
 }
 
-impl Model for TraceForm {
+impl Model for Kept {
     ghost use Rattle.seq_memory.specs.History.{extent_of};
     ghost use Rattle.trace_text.specs.TraceReaderView.{TraceFormView};
 
@@ -91,40 +94,25 @@ impl Model for TraceForm {
     ghost view = { λ t. record { version = t.version; extent = extent_of t.store.memory; records = t.store.records; entries = t.store.memory.entries } };
 }
 
-impl TraceForm {
-    /// Nothing was read.
-    pub(crate) fn new(alloc: Global) -> TraceForm
-        ensures { result ≡ reads.no_trace }
-    {
-        TraceForm {
-            version: Version::One,
-            store: TraceStore::new(alloc, least_extent()),
-            room: [0; MAX_PAYLOAD],
-        }
-    }
-
-    /// The trace and the history.
-    pub(crate) fn claim(self) -> TraceStore
-        ensures { result ≡ reads.claim_read self }
-    {
-        self.store
-    }
-}
-
-impl Form for TraceForm {
-    ghost use Rattle.trace_text.specs.declared.line.Line.{Line};
-    ghost use Rattle.trace_text.specs.TraceReaderView.{trace_grammar};
-
-    ghost Line = { Line };
-
-    ghost grammar = { trace_grammar };
-
+impl Kept {
+    /// Takes a line, if one was read and is due in the section.
     #[inline(always)]
-    fn take(&mut self, section: Section, text: &[u8]) -> Result<Taken, AllocError> {
-        let read = read_line::<TraceForm>(text, self.version, &mut self.room);
-        let line = match &read {
+    fn take(
+        &mut self,
+        section: Section,
+        read: &Result<Line<'_>, Misfit>,
+        misfit: &mut Option<Misfit>,
+    ) -> Result<Taken, AllocError>
+        ensures ok { IfOk result (λ t. step_told t self.new ≡ step_by trace_grammar section self.old (result_ok read.now)) }
+        ensures err { OnErr result (self.new ≡ self.old) }
+        ensures adds { OnErr result (adds trace_grammar section (result_ok read.now) ≡ true) }
+    {
+        let line = match read {
             Ok(line) => line,
-            Err(misfit) => return Ok(Taken::Misfit(*misfit)),
+            Err(left) => {
+                *misfit = Some(*left);
+                return Ok(Taken::Misfit);
+            }
         };
         let Some(after) = section_after(section, line) else {
             return Ok(Taken::NotDue);
@@ -152,6 +140,97 @@ impl Form for TraceForm {
             Line::History | Line::End => {}
         }
         Ok(Taken::Kept(after))
+    }
+
+    /// Takes the line that the text spells. What the most frequent lines say is kept where it is read, and not moved.
+    #[inline(always)]
+    fn take_line(
+        &mut self,
+        section: Section,
+        text: &[u8],
+        room: &mut [u8; MAX_PAYLOAD],
+        misfit: &mut Option<Misfit>,
+    ) -> Result<Taken, AllocError>
+        ensures ok { IfOk result (λ t. step_told t self.new ≡ step trace_grammar section self.old text.now) }
+        ensures err { OnErr result (self.new ≡ self.old) }
+        ensures adds { OnErr result (adds trace_grammar section (forms.line_of self.old.version (words text.now)) ≡ true) }
+    {
+        match text {
+            [b's', b'u', b'b', b' ', rest @ ..] => self.take(
+                section,
+                &sub(Some(rest), room),
+                misfit,
+            ),
+            [b'a', b'n', b's', b' ', rest @ ..] => self.take(
+                section,
+                &ans(Some(rest), room),
+                misfit,
+            ),
+            [b'e', b'n', b't', b' ', rest @ ..] => self.take(
+                section,
+                &ent(Some(rest), room),
+                misfit,
+            ),
+            _ => self.take(section, &any_line(text, self.version, room), misfit),
+        }
+    }
+}
+
+/// What is kept of the text of a trace, and room for the bytes of a line.
+#[derive(Drop)]
+pub(crate) struct TraceForm {
+    kept: Kept,
+    /// What it holds does not count.
+    room: [u8; MAX_PAYLOAD],
+}
+
+impl Model for TraceForm {
+    ghost use Rattle.trace_text.specs.TraceReaderView.{TraceFormView};
+
+    ghost Value = { TraceFormView };
+
+    ghost view = { λ t. t.kept };
+}
+
+impl TraceForm {
+    /// Nothing was read.
+    pub(crate) fn new(alloc: Global) -> TraceForm
+        ensures { result ≡ reads.no_trace }
+    {
+        TraceForm {
+            kept: Kept {
+                version: Version::One,
+                store: TraceStore::new(alloc, least_extent()),
+            },
+            room: [0; MAX_PAYLOAD],
+        }
+    }
+
+    /// The trace and the history.
+    pub(crate) fn claim(self) -> TraceStore
+        ensures { result ≡ reads.claim_read self }
+    {
+        self.kept.store
+    }
+}
+
+impl Form for TraceForm {
+    ghost use Rattle.trace_text.specs.declared.line.Line.{Line};
+    ghost use Rattle.trace_text.specs.TraceReaderView.{trace_grammar};
+
+    ghost Line = { Line };
+
+    ghost grammar = { trace_grammar };
+
+    #[inline(always)]
+    fn take(
+        &mut self,
+        section: Section,
+        text: &[u8],
+        misfit: &mut Option<Misfit>,
+    ) -> Result<Taken, AllocError> {
+        let TraceForm { kept, room } = self;
+        kept.take_line(section, text, room, misfit)
     }
 
     fn expected(section: Section) -> Expected {

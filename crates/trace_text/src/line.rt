@@ -80,7 +80,10 @@ fn memory_line<'r>(place: Option<&[u8]>, version: Version) -> Result<Line<'r>, M
 }
 
 #[inline(always)]
-fn sub<'r, F>(rest: Option<&[u8]>, room: &'r mut [u8; MAX_PAYLOAD]) -> Result<Line<'r>, Misfit>
+pub(crate) fn sub<'r>(
+    rest: Option<&[u8]>,
+    room: &'r mut [u8; MAX_PAYLOAD],
+) -> Result<Line<'r>, Misfit>
     ensures { result_ok result ≡ forms.sub_of (words_behind rest.entry) }
 {
     let (requester, rest) = requester(rest)?;
@@ -96,7 +99,10 @@ fn sub<'r, F>(rest: Option<&[u8]>, room: &'r mut [u8; MAX_PAYLOAD]) -> Result<Li
 }
 
 #[inline(always)]
-fn ans<'r, F>(rest: Option<&[u8]>, room: &'r mut [u8; MAX_PAYLOAD]) -> Result<Line<'r>, Misfit>
+pub(crate) fn ans<'r>(
+    rest: Option<&[u8]>,
+    room: &'r mut [u8; MAX_PAYLOAD],
+) -> Result<Line<'r>, Misfit>
     ensures { result_ok result ≡ forms.ans_of (words_behind rest.entry) }
 {
     let (requester, rest) = requester(rest)?;
@@ -112,7 +118,10 @@ fn ans<'r, F>(rest: Option<&[u8]>, room: &'r mut [u8; MAX_PAYLOAD]) -> Result<Li
 }
 
 #[inline(always)]
-fn ent<'r, F>(rest: Option<&[u8]>, room: &'r mut [u8; MAX_PAYLOAD]) -> Result<Line<'r>, Misfit>
+pub(crate) fn ent<'r>(
+    rest: Option<&[u8]>,
+    room: &'r mut [u8; MAX_PAYLOAD],
+) -> Result<Line<'r>, Misfit>
     ensures { result_ok result ≡ forms.ent_of (words_behind rest.entry) }
 {
     let (requester, rest) = requester(rest)?;
@@ -136,11 +145,11 @@ fn line_by<'r>(
     ensures { result_ok result ≡ forms.line_by version kind.now (words_behind rest.entry) }
 {
     if kind == b"sub".as_slice() {
-        sub::<()>(rest, room)
+        sub(rest, room)
     } else if kind == b"ans".as_slice() {
-        ans::<()>(rest, room)
+        ans(rest, room)
     } else if kind == b"ent".as_slice() {
-        ent::<()>(rest, room)
+        ent(rest, room)
     } else if kind == b"memory".as_slice() {
         memory_line(rest, version)
     } else if kind == b"history".as_slice() {
@@ -154,9 +163,10 @@ fn line_by<'r>(
     }
 }
 
-/// The line that the text spells, whatever its first word is.
+/// The line that the text spells in a trace of that version, whatever its first word is: its bytes are put into the room,
+/// whose content doesn't count.
 #[inline(never)]
-fn any_line<'r>(
+pub(crate) fn any_line<'r>(
     text: &[u8],
     version: Version,
     room: &'r mut [u8; MAX_PAYLOAD],
@@ -167,10 +177,9 @@ fn any_line<'r>(
     line_by(kind, rest, version, text, room)
 }
 
-/// The line that the text spells in a trace of that version: its bytes are put into the room, whose content doesn't
-/// count. Each form `F` has a copy of this, so that lines of records and entries are read where they are kept.
+/// As [`any_line`]. Lines of records and entries are read where this is called.
 #[inline(always)]
-pub(crate) fn read_line<'r, F>(
+pub(crate) fn read_line<'r>(
     text: &[u8],
     version: Version,
     room: &'r mut [u8; MAX_PAYLOAD],
@@ -178,9 +187,9 @@ pub(crate) fn read_line<'r, F>(
     ensures { result_ok result ≡ forms.line_of version (words text.now) }
 {
     match text {
-        [b's', b'u', b'b', b' ', rest @ ..] => sub::<F>(Some(rest), room),
-        [b'a', b'n', b's', b' ', rest @ ..] => ans::<F>(Some(rest), room),
-        [b'e', b'n', b't', b' ', rest @ ..] => ent::<F>(Some(rest), room),
+        [b's', b'u', b'b', b' ', rest @ ..] => sub(Some(rest), room),
+        [b'a', b'n', b's', b' ', rest @ ..] => ans(Some(rest), room),
+        [b'e', b'n', b't', b' ', rest @ ..] => ent(Some(rest), room),
         _ => any_line(text, version, room),
     }
 }

@@ -6,7 +6,7 @@ use crate::form::{begins_with, expected, section_after};
 use crate::line::{Line, Version, read_line};
 use crate::writing::put_line;
 use arrayvec::ArrayString;
-use operation_text::Expected;
+use operation_text::{Expected, Misfit};
 use record_text::{Cause, Form, ReadFault, RecordReader, Section, Taken};
 use std::alloc::{AllocError, Global};
 use std::marker::Model;
@@ -49,11 +49,19 @@ impl Form for RewriteForm {
 
     ghost grammar = { rewrite_grammar };
 
-    fn take(&mut self, section: Section, text: &[u8]) -> Result<Taken, AllocError> {
-        let read = read_line::<RewriteForm>(text, self.version, &mut self.room);
+    fn take(
+        &mut self,
+        section: Section,
+        text: &[u8],
+        misfit: &mut Option<Misfit>,
+    ) -> Result<Taken, AllocError> {
+        let read = read_line(text, self.version, &mut self.room);
         let line = match &read {
             Ok(line) => line,
-            Err(misfit) => return Ok(Taken::Misfit(*misfit)),
+            Err(left) => {
+                *misfit = Some(*left);
+                return Ok(Taken::Misfit);
+            }
         };
         let Some(after) = section_after(section, line) else {
             return Ok(Taken::NotDue);
