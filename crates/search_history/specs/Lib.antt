@@ -3,3 +3,4 @@ pub mod Answers
 pub mod Contradictions
 pub mod Expected
 pub mod Runs
+pub mod Prepared

@@ -1,10 +1,10 @@
 //! Whether a run leads through the first records.
 ghost use Rattle.std.specs.Prelude.{◌≡◌, ◌<◌, ◌≤◌, true, IfOk, IfSome, length, take};
-ghost use Rattle.history_words.specs.TraceView.{observed};
 ghost use Rattle.log_events.specs.Joined.{ArePartners};
 ghost use Rattle.log_runs.specs.Runs.{Dead, start};
 ghost use Rattle.log_runs.specs.Explainable.{IsExplainable, prefix};
-ghost use Rattle.log_runs.specs.Tasks.{AreAllEvents, AreEvents, IsWellFormed};
+ghost use Rattle.log_runs.specs.Tasks.{AreAllEvents, IsWellFormed};
+ghost use Rattle.search_history.specs.Prepared.{IsLogOf};
 ghost use Rattle.search_history.specs.Runs.{IsOutcomeOf};
 ghost use Rattle.search_run.specs.Outcomes.{IsRight};
 ghost use Rattle.search_run.specs.Watched.{Saw};
@@ -43,38 +43,24 @@ impl<'a> Beginning<'a> {
             count,
         }
     }
+}
 
-    /// The records as a search sees them.
-    fn log(self, alloc: Global) -> Result<Log<'a>, AllocError>
-        ensures events { IfOk result (λ l. AreEvents (take self.entry.count self.entry.seen.now.records) l.events) }
-        ensures all { IfOk result (λ l. ArePartners self.entry.partners.now (take self.entry.count self.entry.seen.now.records) →
+/// The first `count` records of a log, whichever of them belong together.
+#[derive(Clone, Copy)]
+pub(crate) struct First<'a> {
+    pub(crate) seen: &'a RecordStore,
+    pub(crate) count: usize,
+}
+
+impl<'a> First<'a> {
+    /// The records as a search sees them. `partners` says which of them may belong together.
+    pub(crate) fn log(self, alloc: Global, partners: &Partners) -> Result<Log<'a>, AllocError>
+        ensures log { IfOk result (IsLogOf self.entry.seen.now self.entry.count) }
+        ensures all { IfOk result (λ l. ArePartners partners.now (take self.entry.count self.entry.seen.now.records) →
             AreAllEvents (take self.entry.count self.entry.seen.now.records) l.events) }
-        ensures extent { IfOk result (λ l. l.extent ≡ observed self.entry.seen.now) }
     {
         let records = self.seen.records().first(self.count);
-        log_of(alloc, self.seen.extent(), records, self.partners)
-    }
-}
-
-/// All records of a log.
-#[derive(Drop)]
-pub(crate) struct Whole<'a> {
-    pub(crate) seen: &'a RecordStore,
-    /// Which of them may belong together.
-    pub(crate) partners: Partners,
-}
-
-impl<'a> Whole<'a> {
-    /// The records as a search sees them. The partners are free again.
-    fn log(self, alloc: Global) -> Result<Log<'a>, AllocError>
-        ensures events { IfOk result (λ l. AreEvents (take (length self.entry.seen.now.records) self.entry.seen.now.records) l.events) }
-        ensures all { IfOk result (λ l.
-            ArePartners self.entry.partners (take (length self.entry.seen.now.records) self.entry.seen.now.records) →
-            AreAllEvents (take (length self.entry.seen.now.records) self.entry.seen.now.records) l.events) }
-        ensures extent { IfOk result (λ l. l.extent ≡ observed self.entry.seen.now) }
-    {
-        let records = self.seen.records().first(self.seen.len());
-        log_of(alloc, self.seen.extent(), records, &self.partners)
+        log_of(alloc, self.seen.extent(), records, partners)
     }
 }
 
@@ -190,15 +176,16 @@ fn explored<W: Watch>(
     }
 }
 
-/// Looks for a run through the records, within the bounds.
+/// Looks for a run through the records, which a search sees so, within the bounds. The log is free again.
 pub(crate) fn judged<W: Watch>(
     alloc: Global,
-    records: Beginning<'_>,
+    records: First<'_>,
+    log: Log<'_>,
     bounds: Bounds,
     watch: &mut W,
 ) -> Result<Judgment, AllocError>
-    requires { records.count ≤ length records.seen.now.records }
-    ensures run { IfOk result (λ r. ArePartners records.entry.partners.now (take records.entry.count records.entry.seen.now.records) →
+    requires { IsLogOf records.seen.now records.count log }
+    ensures run { IfOk result (λ r. AreAllEvents (take records.entry.count records.entry.seen.now.records) log.entry.events →
         IsWellFormed (take records.entry.count records.entry.seen.now.records) →
         IsOutcomeOf (prefix records.entry.count records.entry.seen.now) r.outcome) }
     ensures none { IfOk result (λ r. r.outcome ≡ Outcome.Dead → IsExplainable (prefix records.entry.count records.entry.seen.now) → ⊥) }
@@ -209,32 +196,6 @@ pub(crate) fn judged<W: Watch>(
     ensures saw { IfOk result (λ r. Saw W.sees r.states watch.old watch.new) }
 {
     explainable_has_a_run();
-    let log = records.log(alloc)?;
-    let found = explored(alloc, &log, bounds, watch)?;
-    Ok(found)
-}
-
-/// [`judged`] of all records.
-pub(crate) fn judged_whole<W: Watch>(
-    alloc: Global,
-    whole: Whole<'_>,
-    bounds: Bounds,
-    watch: &mut W,
-) -> Result<Judgment, AllocError>
-    ensures run { IfOk result (λ r.
-        ArePartners whole.entry.partners (take (length whole.entry.seen.now.records) whole.entry.seen.now.records) →
-        IsWellFormed (take (length whole.entry.seen.now.records) whole.entry.seen.now.records) →
-        IsOutcomeOf (prefix (length whole.entry.seen.now.records) whole.entry.seen.now) r.outcome) }
-    ensures none { IfOk result (λ r. r.outcome ≡ Outcome.Dead →
-        IsExplainable (prefix (length whole.entry.seen.now.records) whole.entry.seen.now) → ⊥) }
-    ensures states { IfOk result (λ r. r.states ≤ bounds.choices) }
-    ensures limit { IfOk result (λ r. r.outcome ≡ Outcome.Limit Bound.Choices → r.states ≡ bounds.choices) }
-    ensures work { IfOk result (λ r. r.outcome ≡ Outcome.Limit Bound.Work → bounds.work < 18446744073709551615) }
-    ensures less { IfOk result (λ r. r.outcome ≡ Outcome.Limit Bound.Work → r.states < bounds.choices) }
-    ensures saw { IfOk result (λ r. Saw W.sees r.states watch.old watch.new) }
-{
-    explainable_has_a_run();
-    let log = whole.log(alloc)?;
     let found = explored(alloc, &log, bounds, watch)?;
     Ok(found)
 }
@@ -269,9 +230,28 @@ pub(crate) fn judged_on(
     ensures { IfOk result (λ o. o ≡ Outcome.Dead → IsExplainable (prefix records.entry.count records.entry.seen.now) → ⊥) }
 {
     explainable_has_a_run();
-    let log = records.log(alloc)?;
+    let first = First {
+        seen: records.seen,
+        count: records.count,
+    };
+    let log = first.log(alloc, records.partners)?;
     let found = explored_by(alloc, &log, range, bounds)?;
     Ok(found)
+}
+
+/// What comes of a search for a run through the records. What is said to belong together does, and their form is right.
+fn outcome_of(alloc: Global, records: Beginning<'_>, bounds: Bounds) -> Result<Outcome, AllocError>
+    requires joined { ArePartners records.partners.now (take records.count records.seen.now.records) }
+    requires formed { IsWellFormed (take records.count records.seen.now.records) }
+    ensures { IfOk result (IsOutcomeOf (prefix records.entry.count records.entry.seen.now)) }
+{
+    let first = First {
+        seen: records.seen,
+        count: records.count,
+    };
+    let log = first.log(alloc, records.partners)?;
+    let judgment = judged(alloc, first, log, bounds, &mut Unwatched)?;
+    Ok(judgment.outcome)
 }
 
 /// A run through the records, if it is found: a history explains them. What is said to belong together does, and their form
@@ -287,8 +267,8 @@ pub(crate) fn run_of(
     ensures { IfOk result (λ o. IfSome o (λ steps. IsExplainable (prefix records.entry.count records.entry.seen.now))) }
 {
     a_run_is_a_history();
-    let judgment = judged(alloc, records, bounds, &mut Unwatched)?;
-    match judgment.outcome {
+    let outcome = outcome_of(alloc, records, bounds)?;
+    match outcome {
         Outcome::Run(steps) => Ok(Some(steps)),
         _ => Ok(None),
     }
@@ -307,8 +287,8 @@ pub(crate) fn is_explainable(
     ensures { IfOk result (λ yes. yes ≡ true → IsExplainable (prefix records.entry.count records.entry.seen.now)) }
 {
     a_run_is_a_history();
-    let judgment = judged(alloc, records, bounds, &mut Unwatched)?;
-    Ok(matches!(judgment.outcome, Outcome::Run(_)))
+    let outcome = outcome_of(alloc, records, bounds)?;
+    Ok(matches!(outcome, Outcome::Run(_)))
 }
 
 /// No history explains the records, as far as it is found out within the bounds on the bytes of a range alone,

@@ -1,21 +1,21 @@
 //! Whether a history explains a log.
-ghost use Rattle.std.specs.Prelude.{ℕ, ◌≡◌, ◌<◌, ◌≤◌, ◌+◌, [], IfOk, length, take};
+ghost use Rattle.std.specs.Prelude.{ℕ, ◌≡◌, ◌<◌, ◌≤◌, ◌+◌, [], IfNone, IfOk, IfSome, length, take};
 ghost use Rattle.log_events.specs.Formed.{MisformedAt};
-ghost use Rattle.log_events.specs.Joined.{ArePartners};
 ghost use Rattle.log_runs.specs.Explainable.{SeenAlike, prefix};
-ghost use Rattle.log_runs.specs.Tasks.{IsWellFormed};
+ghost use Rattle.log_runs.specs.Tasks.{AreAllEvents, IsWellFormed};
+ghost use Rattle.search_history.specs.Prepared.{IsLogOf, IsWholeLog};
 ghost use Rattle.search_history.specs.Prefixes.{IsUnexplained};
 ghost use Rattle.search_history.specs.Answers.{IsFound, IsNone};
 ghost use Rattle.search_history.specs.Runs.{IsAnswered, IsVerdictOf};
 ghost use Rattle.search_run.specs.Watched.{Saw};
 ghost use Rattle.trace_store.specs.Changes.{seen_by};
 
-use crate::judging::{Beginning, Judgment, Whole, judged, judged_whole};
+use crate::judging::{Beginning, First, Judgment, judged};
 use crate::moments::add_history;
 use crate::shortest::shortened;
 use log_events::form_of;
-use log_runs::Step;
 use log_runs::laws::{explainable_is_well_formed, prefix_is_explainable};
+use log_runs::{Log, Step};
 use search_run::{Bound, Bounds, Outcome, Unwatched, Watch};
 use std::alloc::{AllocError, Global};
 use trace_store::{RecordStore, TraceStore};
@@ -54,15 +54,18 @@ enum Verdict {
     Limit(Bound),
 }
 
-/// Looks for a run through the records, whose form is right.
+/// Looks for a run through the records, which a search sees so and whose form is right. Which of them belong together is
+/// found out again if there is no run, so that it takes no memory meanwhile.
 fn well_formed<W: Watch>(
     alloc: Global,
-    records: Beginning<'_>,
+    records: First<'_>,
+    log: Log<'_>,
     bounds: Bounds,
     watch: &mut W,
 ) -> Result<(Verdict, u64), AllocError>
-    requires { records.count ≤ length records.seen.now.records }
-    ensures run { IfOk result (λ r. ArePartners records.entry.partners.now (take records.entry.count records.entry.seen.now.records) →
+    requires log { IsLogOf records.seen.now records.count log }
+    requires within { records.count ≤ length records.seen.now.records }
+    ensures run { IfOk result (λ r. AreAllEvents (take records.entry.count records.entry.seen.now.records) log.entry.events →
         IsWellFormed (take records.entry.count records.entry.seen.now.records) → IsVerdictOf (prefix records.entry.count records.entry.seen.now) r.0) }
     ensures none { IfOk result (λ r. (prefix : ℕ) → r.0 ≡ Verdict.None prefix → IsUnexplained records.entry.seen.now prefix) }
     ensures limit { IfOk result (λ r. r.0 ≡ Verdict.Limit Bound.Choices → r.1 ≡ bounds.choices) }
@@ -76,51 +79,16 @@ fn well_formed<W: Watch>(
         states,
         clue,
         ..
-    } = judged(alloc, records, bounds, watch)?;
+    } = judged(alloc, records, log, bounds, watch)?;
     match outcome {
         Outcome::Run(steps) => Ok((Verdict::Run(steps), states)),
         Outcome::Dead => {
-            let prefix = shortened(alloc, records, clue, bounds.choices)?;
-            Ok((Verdict::None(prefix), states))
-        }
-        Outcome::Limit(bound) => Ok((Verdict::Limit(bound), states)),
-    }
-}
-
-/// [`well_formed`] of all records. Which of them belong together is found out again if there is no run, so that it takes
-/// no memory meanwhile.
-fn whole_formed<W: Watch>(
-    alloc: Global,
-    whole: Whole<'_>,
-    bounds: Bounds,
-    watch: &mut W,
-) -> Result<(Verdict, u64), AllocError>
-    ensures run { IfOk result (λ r.
-        ArePartners whole.entry.partners (take (length whole.entry.seen.now.records) whole.entry.seen.now.records) →
-        IsWellFormed (take (length whole.entry.seen.now.records) whole.entry.seen.now.records) →
-        IsVerdictOf (prefix (length whole.entry.seen.now.records) whole.entry.seen.now) r.0) }
-    ensures none { IfOk result (λ r. (prefix : ℕ) → r.0 ≡ Verdict.None prefix → IsUnexplained whole.entry.seen.now prefix) }
-    ensures limit { IfOk result (λ r. r.0 ≡ Verdict.Limit Bound.Choices → r.1 ≡ bounds.choices) }
-    ensures work { IfOk result (λ r. r.0 ≡ Verdict.Limit Bound.Work → bounds.work < 18446744073709551615) }
-    ensures less { IfOk result (λ r. r.0 ≡ Verdict.Limit Bound.Work → r.1 < bounds.choices) }
-    ensures states { IfOk result (λ r. r.1 ≤ bounds.choices) }
-    ensures saw { IfOk result (λ r. Saw W.sees r.1 watch.old watch.new) }
-{
-    let seen = whole.seen;
-    let Judgment {
-        outcome,
-        states,
-        clue,
-        ..
-    } = judged_whole(alloc, whole, bounds, watch)?;
-    match outcome {
-        Outcome::Run(steps) => Ok((Verdict::Run(steps), states)),
-        Outcome::Dead => {
-            let form = form_of(alloc, &seen.records())?;
+            let First { seen, count } = records;
+            let form = form_of(alloc, &seen.records().first(count))?;
             let records = Beginning {
                 seen,
                 partners: &form.partners,
-                count: seen.len(),
+                count,
             };
             let prefix = shortened(alloc, records, clue, bounds.choices)?;
             Ok((Verdict::None(prefix), states))
@@ -133,21 +101,56 @@ fn whole_formed<W: Watch>(
 /// either.
 fn misformed<W: Watch>(
     alloc: Global,
-    records: Beginning<'_>,
+    records: First<'_>,
+    log: Log<'_>,
     bounds: Bounds,
     watch: &mut W,
-) -> Result<(usize, u64), AllocError>
-    requires { MisformedAt records.seen.now.records records.count }
-    ensures none { IfOk result (λ r. IsUnexplained records.entry.seen.now r.0) }
+) -> Result<(Verdict, u64), AllocError>
+    requires log { IsLogOf records.seen.now records.count log }
+    requires misformed { MisformedAt records.seen.now.records records.count }
+    ensures none { IfOk result (λ r. (n : ℕ) × (r.0 ≡ Verdict.None n) × IsUnexplained records.entry.seen.now n) }
     ensures states { IfOk result (λ r. r.1 ≤ bounds.choices) }
     ensures saw { IfOk result (λ r. Saw W.sees r.1 watch.old watch.new) }
 {
     explainable_is_well_formed();
-    let (before, states) = well_formed(alloc, records, bounds, watch)?;
+    let (before, states) = well_formed(alloc, records, log, bounds, watch)?;
     if let Verdict::None(prefix) = before {
-        return Ok((prefix, states));
+        return Ok((Verdict::None(prefix), states));
     }
-    Ok((up_to(records.seen, records.count), states))
+    let prefix = up_to(records.seen, records.count);
+    Ok((Verdict::None(prefix), states))
+}
+
+/// The records up to the first one whose form is wrong, if there is one, as a search sees them.
+#[derive(Drop)]
+struct Formed<'a> {
+    log: Log<'a>,
+    flaw: Option<usize>,
+}
+
+/// The records of a log as a search sees them. Which of them belong together is free again.
+fn prepared<'a>(alloc: Global, seen: &'a RecordStore) -> Result<Formed<'a>, AllocError>
+    ensures wrong { IfOk result (λ f. IfSome f.flaw (λ a. MisformedAt seen.now.records a × IsLogOf seen.now a f.log)) }
+    ensures right { IfOk result (λ f. IfNone f.flaw (IsWholeLog seen.now f.log)) }
+{
+    let form = form_of(alloc, &seen.records())?;
+    match form.flaw {
+        Some(flaw) => {
+            let log = First { seen, count: flaw }.log(alloc, &form.partners)?;
+            Ok(Formed {
+                log,
+                flaw: Some(flaw),
+            })
+        }
+        None => {
+            let all = First {
+                seen,
+                count: seen.len(),
+            };
+            let log = all.log(alloc, &form.partners)?;
+            Ok(Formed { log, flaw: None })
+        }
+    }
 }
 
 /// Looks for a run through a log. What it needed of memory is free again, but for the steps.
@@ -165,23 +168,18 @@ fn searched<W: Watch>(
     ensures states { IfOk result (λ r. r.1 ≤ bounds.choices) }
     ensures saw { IfOk result (λ r. Saw W.sees r.1 watch.old watch.new) }
 {
-    let form = form_of(alloc, &seen.records())?;
-    match form.flaw {
-        Some(flaw) => {
-            let records = Beginning {
-                seen,
-                partners: &form.partners,
-                count: flaw,
-            };
-            let (prefix, states) = misformed(alloc, records, bounds, watch)?;
-            Ok((Verdict::None(prefix), states))
+    let Formed { log, flaw } = prepared(alloc, seen)?;
+    match flaw {
+        Some(count) => {
+            let found = misformed(alloc, First { seen, count }, log, bounds, watch)?;
+            Ok(found)
         }
         None => {
-            let whole = Whole {
+            let all = First {
                 seen,
-                partners: form.partners,
+                count: seen.len(),
             };
-            let found = whole_formed(alloc, whole, bounds, watch)?;
+            let found = well_formed(alloc, all, log, bounds, watch)?;
             Ok(found)
         }
     }

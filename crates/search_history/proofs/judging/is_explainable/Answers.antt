@@ -7,7 +7,7 @@ use Rattle.search_history.proofs.judging.is_explainable.Goals.{in-Run, in_defaul
 pub returns : goal.returns
 returns c = λ yes. elim c.match-matches.branch [
   | in-Run w ↦
-      explainable_if c.a_run_is_a_history.ensures.explainable (prefix c.args.records.count c.args.records.seen.now) c.in_ok-judgment.judgment.outcome
-      (c.in_ok-judgment.ensures.run c.requires.joined c.requires.formed) (ap runs w.in-Run.is)
+      explainable_if c.a_run_is_a_history.ensures.explainable (prefix c.args.records.count c.args.records.seen.now) c.in_ok-outcome.outcome
+      c.in_ok-outcome.ensures (ap runs w.in-Run.is)
   | in_default w ↦ absurd (let k : true ≡ false = sym yes ∙ w.matches-is in cc k)
 ]

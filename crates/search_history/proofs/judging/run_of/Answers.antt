@@ -5,5 +5,5 @@ use Rattle.search_history.proofs.judging.run_of.Goals as goal
 
 pub returns-in-Run : goal.returns-in-Run
 returns-in-Run c =
-    explainable_if c.a_run_is_a_history.ensures.explainable (prefix c.args.records.count c.args.records.seen.now) c.in_ok-judgment.judgment.outcome
-    (c.in_ok-judgment.ensures.run c.requires.joined c.requires.formed) (ap runs c.in-Run.is)
+    explainable_if c.a_run_is_a_history.ensures.explainable (prefix c.args.records.count c.args.records.seen.now) c.in_ok-outcome.outcome
+    c.in_ok-outcome.ensures (ap runs c.in-Run.is)
