@@ -1,20 +1,18 @@
 //! What is kept of the text of a log, and where its lines stand.
 ghost use Rattle.std.specs.Prelude.{◌≡◌, true, IfOk, OnErr};
 ghost use Rattle.std.specs.Result.{result_ok};
-ghost use Rattle.operation_text.specs.Words.{words};
 ghost use Rattle.record_text.specs.RecordReaderView.{adds};
-ghost use Rattle.record_text.specs.Step.{step, step_by, step_told};
+ghost use Rattle.record_text.specs.Step.{step_by, step_told};
 ghost use Rattle.log_text.specs.LogReaderView.{log_grammar};
 ghost use Rattle.log_text.specs.LogReaderView as reads;
 ghost use Rattle.log_text.specs.Forms as forms;
 
 use crate::line::{LogLine, Version, ans, read_line, sub};
 use operation_text::{Expected, Misfit};
-use record_text::{Form, Section, Taken};
+use record_text::{Form, Scratch, Section, Taken};
 use seq_memory::{Extent, MIN_SIZE};
 use std::alloc::{AllocError, Global};
 use std::marker::Model;
-use tlp_core::MAX_PAYLOAD;
 use trace_store::RecordStore;
 
 /// The head of a log, or of a trace, which may stand in its place.
@@ -48,12 +46,12 @@ fn section_after(section: Section, line: &LogLine<'_>) -> Option<Section>
 
 /// A log, as far as its text was read.
 #[derive(Drop)]
-struct Kept {
+pub(crate) struct LogForm {
     version: Version,
     seen: RecordStore,
 }
 
-impl Model for Kept {
+impl Model for LogForm {
     ghost use Rattle.history_words.specs.TraceView.{observed};
     ghost use Rattle.log_text.specs.LogReaderView.{LogFormView};
 
@@ -62,10 +60,20 @@ impl Model for Kept {
     ghost view = { λ l. record { version = l.version; extent = observed l.seen; records = l.seen.records } };
 }
 
-impl Kept {
+impl LogForm {
+    /// Nothing was read.
+    pub(crate) fn new(alloc: Global) -> LogForm
+        ensures { result ≡ reads.no_log }
+    {
+        LogForm {
+            version: Version::One,
+            seen: RecordStore::new(alloc, Extent::new(0, MIN_SIZE, 64).unwrap()),
+        }
+    }
+
     /// Takes a line, if one was read and is due in the section.
     #[inline(always)]
-    fn take(
+    fn keep(
         &mut self,
         section: Section,
         read: &Result<LogLine<'_>, Misfit>,
@@ -94,70 +102,11 @@ impl Kept {
         Ok(Taken::Kept(after))
     }
 
-    /// Takes the line that the text spells. What most lines say is kept where it is read, and not moved.
-    #[inline(always)]
-    fn take_line(
-        &mut self,
-        section: Section,
-        text: &[u8],
-        room: &mut [u8; MAX_PAYLOAD],
-        misfit: &mut Option<Misfit>,
-    ) -> Result<Taken, AllocError>
-        ensures ok { IfOk result (λ t. step_told t self.new ≡ step log_grammar section self.old text.now) }
-        ensures err { OnErr result (self.new ≡ self.old) }
-        ensures adds { OnErr result (adds log_grammar section (forms.line_of self.old.version text.now) ≡ true) }
-    {
-        match text {
-            [b's', b'u', b'b', b' ', rest @ ..] => self.take(
-                section,
-                &sub(Some(rest), room),
-                misfit,
-            ),
-            [b'a', b'n', b's', b' ', rest @ ..] => self.take(
-                section,
-                &ans(Some(rest), self.version, room),
-                misfit,
-            ),
-            _ => self.take(section, &read_line(text, self.version, room), misfit),
-        }
-    }
-}
-
-/// What is kept of the text of a log, and room for the bytes of a line.
-#[derive(Drop)]
-pub(crate) struct LogForm {
-    kept: Kept,
-    /// What it holds does not count.
-    room: [u8; MAX_PAYLOAD],
-}
-
-impl Model for LogForm {
-    ghost use Rattle.log_text.specs.LogReaderView.{LogFormView};
-
-    ghost Value = { LogFormView };
-
-    ghost view = { λ l. l.kept };
-}
-
-impl LogForm {
-    /// Nothing was read.
-    pub(crate) fn new(alloc: Global) -> LogForm
-        ensures { result ≡ reads.no_log }
-    {
-        LogForm {
-            kept: Kept {
-                version: Version::One,
-                seen: RecordStore::new(alloc, Extent::new(0, MIN_SIZE, 64).unwrap()),
-            },
-            room: [0; MAX_PAYLOAD],
-        }
-    }
-
     /// The log.
     pub(crate) fn log(self) -> RecordStore
         ensures { result ≡ reads.log_read self }
     {
-        self.kept.seen
+        self.seen
     }
 }
 
@@ -169,15 +118,28 @@ impl Form for LogForm {
 
     ghost grammar = { log_grammar };
 
+    // What most lines say is kept where it is read, and not moved.
     #[inline(always)]
     fn take(
         &mut self,
         section: Section,
         text: &[u8],
-        misfit: &mut Option<Misfit>,
+        scratch: &mut Scratch,
     ) -> Result<Taken, AllocError> {
-        let LogForm { kept, room } = self;
-        kept.take_line(section, text, room, misfit)
+        let Scratch { bytes, misfit } = scratch;
+        match text {
+            [b's', b'u', b'b', b' ', rest @ ..] => self.keep(
+                section,
+                &sub(Some(rest), bytes),
+                misfit,
+            ),
+            [b'a', b'n', b's', b' ', rest @ ..] => self.keep(
+                section,
+                &ans(Some(rest), self.version, bytes),
+                misfit,
+            ),
+            _ => self.keep(section, &read_line(text, self.version, bytes), misfit),
+        }
     }
 
     fn expected(section: Section) -> Expected {

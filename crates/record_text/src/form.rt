@@ -6,6 +6,7 @@ ghost use Rattle.record_text.specs.Step.{step, step_told};
 
 use operation_text::{Expected, Misfit};
 use std::alloc::AllocError;
+use tlp_core::MAX_PAYLOAD;
 
 /// The part of a text that goes on.
 #[derive(Clone, Copy, Debug, PartialEq, Eq)]
@@ -33,6 +34,15 @@ pub enum Taken {
     Misfit,
 }
 
+/// What reading a line needs meanwhile. What it holds before the line doesn't count.
+#[derive(Drop)]
+pub struct Scratch {
+    /// Room for the bytes of the line.
+    pub bytes: [u8; MAX_PAYLOAD],
+    /// What doesn't fit in the line. It stands here so that it isn't moved with each line.
+    pub misfit: Option<Misfit>,
+}
+
 /// What is kept of the lines of a text, and how they are read.
 pub trait Form: Drop {
     // what a line says
@@ -42,13 +52,12 @@ pub trait Form: Drop {
     ghost grammar: { Grammar Self Line };
 
     /// Takes the line that the text spells, if it is due in the section. What doesn't fit in a text that spells none is
-    /// put into `misfit`, so that it isn't moved with each line. `Err` tells that a growth was refused, for a line that is
-    /// due; nothing was taken then.
+    /// noted in the scratch. `Err` tells that a growth was refused, for a line that is due; nothing was taken then.
     fn take(
         &mut self,
         section: Section,
         text: &[u8],
-        misfit: &mut Option<Misfit>,
+        scratch: &mut Scratch,
     ) -> Result<Taken, AllocError>
         ensures ok { IfOk result (λ t. step_told t self.new ≡ step grammar section self.old text.now) }
         ensures err { OnErr result (self.new ≡ self.old) }

@@ -13,6 +13,6 @@ mod reading;
 
 pub use fault::{Cause, Misread, ReadFault, ReadFaultKind, write_fault};
 pub use fields::{count, memory, request, requester};
-pub use form::{Form, Section, Taken};
+pub use form::{Form, Scratch, Section, Taken};
 pub use reader::RecordReader;
 pub use reading::read_records;

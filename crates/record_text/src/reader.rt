@@ -3,11 +3,12 @@ ghost use Rattle.std.specs.Prelude.{◌≡◌, true, OnOk, OnErr, IfOk, IfErr, O
 ghost use Rattle.record_text.specs.RecordReaderView as reads;
 
 use crate::fault::{Cause, Misread, ReadFault, ReadFaultKind};
-use crate::form::{Form, Section, Taken};
+use crate::form::{Form, Scratch, Section, Taken};
 use operation_text::{Expected, Misfit, cut};
 use std::alloc::AllocError;
 use std::marker::Model;
 use text_lines::is_skipped;
+use tlp_core::MAX_PAYLOAD;
 
 /// A text of records, as far as it was read.
 #[derive(Drop)]
@@ -15,8 +16,8 @@ pub struct RecordReader<F: Form> {
     section: Section,
     lines: u64,
     fault: Option<ReadFault>,
-    /// What doesn't fit in the line of the fault, if there is one that isn't too long.
-    misfit: Option<Misfit>,
+    /// What doesn't fit in the line of the fault, if there is one that isn't too long; and room for a line's bytes.
+    scratch: Scratch,
     form: F,
 }
 
@@ -57,7 +58,10 @@ impl<F: Form> RecordReader<F> {
             section: Section::FirstLine,
             lines: 0,
             fault: None,
-            misfit: None,
+            scratch: Scratch {
+                bytes: [0; MAX_PAYLOAD],
+                misfit: None,
+            },
             form,
         }
     }
@@ -76,7 +80,7 @@ impl<F: Form> RecordReader<F> {
 
     /// What is wrong at the fault, or if there is none, that the text ends here.
     pub fn cause(&self) -> Cause {
-        match (self.fault, self.misfit) {
+        match (self.fault, self.scratch.misfit) {
             (None, _) => Cause::End(self.due()),
             (Some(_), Some(misfit)) => Cause::Misfit(misfit),
             (Some(_), None) => Cause::LongLine,
@@ -136,7 +140,7 @@ impl<F: Form> RecordReader<F> {
         ensures { self.new ≡ reads.faulty self.old kind }
     {
         self.fault = Some(self.fault_at_next(kind));
-        self.misfit = misfit;
+        self.scratch.misfit = misfit;
         self.lines = self.lines.saturating_add(1);
     }
 
@@ -152,7 +156,7 @@ impl<F: Form> RecordReader<F> {
     /// What doesn't fit in a line of no form: its first word, if no line that is due begins with it.
     fn misfit_of(&self, text: &[u8]) -> Option<Misfit> {
         if F::begins_with(self.section, cut(text).0) {
-            self.misfit
+            self.scratch.misfit
         } else {
             Some(self.due().at(Some(text)))
         }
@@ -178,11 +182,11 @@ impl<F: Form> RecordReader<F> {
         }
         let RecordReader {
             section,
-            misfit,
+            scratch,
             form,
             ..
         } = self;
-        match form.take(*section, line, misfit)? {
+        match form.take(*section, line, scratch)? {
             Taken::Kept(section) => self.go_on(section),
             Taken::NotDue => self.refuse(misplaced(self.section), Some(self.due().at(Some(line)))),
             Taken::Misfit => self.refuse(formless(self.section), self.misfit_of(line)),

@@ -1,9 +1,8 @@
 //! What is kept of the text of a trace, and where its lines stand.
 ghost use Rattle.std.specs.Prelude.{◌≡◌, true, IfOk, OnErr};
 ghost use Rattle.std.specs.Result.{result_ok};
-ghost use Rattle.operation_text.specs.Words.{words};
 ghost use Rattle.record_text.specs.RecordReaderView.{adds};
-ghost use Rattle.record_text.specs.Step.{step, step_by, step_told};
+ghost use Rattle.record_text.specs.Step.{step_by, step_told};
 ghost use Rattle.trace_text.specs.TraceReaderView.{trace_grammar};
 ghost use Rattle.trace_text.specs.TraceReaderView as reads;
 ghost use Rattle.trace_text.specs.Forms as forms;
@@ -11,11 +10,10 @@ ghost use Rattle.trace_text.specs.Forms as forms;
 use crate::line::{Line, Version, ans, any_line, ent, sub};
 use history_words::RecordRef;
 use operation_text::{Expected, Misfit};
-use record_text::{Form, Section, Taken};
+use record_text::{Form, Scratch, Section, Taken};
 use seq_memory::{Extent, MIN_SIZE};
 use std::alloc::{AllocError, Global};
 use std::marker::Model;
-use tlp_core::MAX_PAYLOAD;
 use trace_store::TraceStore;
 
 const HEAD: Expected = Expected::Of(
@@ -80,12 +78,12 @@ pub(crate) fn least_extent() -> Extent
 
 /// A trace and a history, as far as their text was read.
 #[derive(Drop)]
-struct Kept {
+pub(crate) struct TraceForm {
     version: Version,
     store: TraceStore,
 }
 
-impl Model for Kept {
+impl Model for TraceForm {
     ghost use Rattle.seq_memory.specs.History.{extent_of};
     ghost use Rattle.trace_text.specs.TraceReaderView.{TraceFormView};
 
@@ -94,10 +92,20 @@ impl Model for Kept {
     ghost view = { λ t. record { version = t.version; extent = extent_of t.store.memory; records = t.store.records; entries = t.store.memory.entries } };
 }
 
-impl Kept {
+impl TraceForm {
+    /// Nothing was read.
+    pub(crate) fn new(alloc: Global) -> TraceForm
+        ensures { result ≡ reads.no_trace }
+    {
+        TraceForm {
+            version: Version::One,
+            store: TraceStore::new(alloc, least_extent()),
+        }
+    }
+
     /// Takes a line, if one was read and is due in the section.
     #[inline(always)]
-    fn take(
+    fn keep(
         &mut self,
         section: Section,
         read: &Result<Line<'_>, Misfit>,
@@ -142,75 +150,11 @@ impl Kept {
         Ok(Taken::Kept(after))
     }
 
-    /// Takes the line that the text spells. What the most frequent lines say is kept where it is read, and not moved.
-    #[inline(always)]
-    fn take_line(
-        &mut self,
-        section: Section,
-        text: &[u8],
-        room: &mut [u8; MAX_PAYLOAD],
-        misfit: &mut Option<Misfit>,
-    ) -> Result<Taken, AllocError>
-        ensures ok { IfOk result (λ t. step_told t self.new ≡ step trace_grammar section self.old text.now) }
-        ensures err { OnErr result (self.new ≡ self.old) }
-        ensures adds { OnErr result (adds trace_grammar section (forms.line_of self.old.version (words text.now)) ≡ true) }
-    {
-        match text {
-            [b's', b'u', b'b', b' ', rest @ ..] => self.take(
-                section,
-                &sub(Some(rest), room),
-                misfit,
-            ),
-            [b'a', b'n', b's', b' ', rest @ ..] => self.take(
-                section,
-                &ans(Some(rest), room),
-                misfit,
-            ),
-            [b'e', b'n', b't', b' ', rest @ ..] => self.take(
-                section,
-                &ent(Some(rest), room),
-                misfit,
-            ),
-            _ => self.take(section, &any_line(text, self.version, room), misfit),
-        }
-    }
-}
-
-/// What is kept of the text of a trace, and room for the bytes of a line.
-#[derive(Drop)]
-pub(crate) struct TraceForm {
-    kept: Kept,
-    /// What it holds does not count.
-    room: [u8; MAX_PAYLOAD],
-}
-
-impl Model for TraceForm {
-    ghost use Rattle.trace_text.specs.TraceReaderView.{TraceFormView};
-
-    ghost Value = { TraceFormView };
-
-    ghost view = { λ t. t.kept };
-}
-
-impl TraceForm {
-    /// Nothing was read.
-    pub(crate) fn new(alloc: Global) -> TraceForm
-        ensures { result ≡ reads.no_trace }
-    {
-        TraceForm {
-            kept: Kept {
-                version: Version::One,
-                store: TraceStore::new(alloc, least_extent()),
-            },
-            room: [0; MAX_PAYLOAD],
-        }
-    }
-
     /// The trace and the history.
     pub(crate) fn claim(self) -> TraceStore
         ensures { result ≡ reads.claim_read self }
     {
-        self.kept.store
+        self.store
     }
 }
 
@@ -222,15 +166,33 @@ impl Form for TraceForm {
 
     ghost grammar = { trace_grammar };
 
+    // What the most frequent lines say is kept where it is read, and not moved.
     #[inline(always)]
     fn take(
         &mut self,
         section: Section,
         text: &[u8],
-        misfit: &mut Option<Misfit>,
+        scratch: &mut Scratch,
     ) -> Result<Taken, AllocError> {
-        let TraceForm { kept, room } = self;
-        kept.take_line(section, text, room, misfit)
+        let Scratch { bytes, misfit } = scratch;
+        match text {
+            [b's', b'u', b'b', b' ', rest @ ..] => self.keep(
+                section,
+                &sub(Some(rest), bytes),
+                misfit,
+            ),
+            [b'a', b'n', b's', b' ', rest @ ..] => self.keep(
+                section,
+                &ans(Some(rest), bytes),
+                misfit,
+            ),
+            [b'e', b'n', b't', b' ', rest @ ..] => self.keep(
+                section,
+                &ent(Some(rest), bytes),
+                misfit,
+            ),
+            _ => self.keep(section, &any_line(text, self.version, bytes), misfit),
+        }
     }
 
     fn expected(section: Section) -> Expected {

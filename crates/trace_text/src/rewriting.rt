@@ -6,19 +6,17 @@ use crate::form::{begins_with, expected, section_after};
 use crate::line::{Line, Version, read_line};
 use crate::writing::put_line;
 use arrayvec::ArrayString;
-use operation_text::{Expected, Misfit};
-use record_text::{Cause, Form, ReadFault, RecordReader, Section, Taken};
+use operation_text::Expected;
+use record_text::{Cause, Form, ReadFault, RecordReader, Scratch, Section, Taken};
 use std::alloc::{AllocError, Global};
 use std::marker::Model;
-use tlp_core::MAX_PAYLOAD;
 
 /// The text in the second version of the lines so far.
 #[derive(Drop)]
 struct RewriteForm {
     version: Version,
     text: Vec<u8>,
-    /// Room for the bytes of a line, and for a line: what they hold does not count.
-    room: [u8; MAX_PAYLOAD],
+    /// Room for a line: what it holds does not count.
     line: ArrayString<512>,
 }
 
@@ -53,9 +51,10 @@ impl Form for RewriteForm {
         &mut self,
         section: Section,
         text: &[u8],
-        misfit: &mut Option<Misfit>,
+        scratch: &mut Scratch,
     ) -> Result<Taken, AllocError> {
-        let read = read_line(text, self.version, &mut self.room);
+        let Scratch { bytes, misfit } = scratch;
+        let read = read_line(text, self.version, bytes);
         let line = match &read {
             Ok(line) => line,
             Err(left) => {
@@ -106,7 +105,6 @@ impl TraceRewriter {
             reader: RecordReader::new(RewriteForm {
                 version: Version::One,
                 text: Vec::new(alloc),
-                room: [0; MAX_PAYLOAD],
                 line: ArrayString::new(),
             }),
         }
