@@ -47,7 +47,7 @@ fn near(names: &[usize], before: usize, event: usize) -> usize
     }
 }
 
-/// Where the event stands among so many of the first names, which rise.
+/// Where the event stands among the first `before` names, which rise.
 pub(crate) fn name_of(names: &[usize], before: usize, event: usize) -> Option<usize>
     requires { before ≤ length names.now }
     ensures { IfSome result (λ c. slice_get names.now c ≡ Some event) }

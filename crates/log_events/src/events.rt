@@ -167,7 +167,8 @@ fn events_of(
 }
 
 /// The records over that memory as a search sees them. `partners` says which of them may belong together; where it is right
-/// for all of them, the events say all that the records do. More than 2^32 records are refused as a want of memory.
+/// for all of them, the events say all that the records do. More than 2^32 records are refused as if an allocation
+/// failed.
 pub fn log_of<'a>(
     alloc: Global,
     extent: Extent,

@@ -176,7 +176,7 @@ fn explored<W: Watch>(
     }
 }
 
-/// Looks for a run through the records, which a search sees so, within the bounds. The log is free again.
+/// Looks for a run through the log of the records, within the bounds. The log is free again.
 pub(crate) fn judged<W: Watch>(
     alloc: Global,
     records: First<'_>,

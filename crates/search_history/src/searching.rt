@@ -54,8 +54,8 @@ enum Verdict {
     Limit(Bound),
 }
 
-/// Looks for a run through the records, which a search sees so and whose form is right. Which of them belong together is
-/// found out again if there is no run, so that it takes no memory meanwhile.
+/// Looks for a run through the log of the records, whose form is right. Which of them belong together is found out again if
+/// there is no run, so that it takes no memory meanwhile.
 fn well_formed<W: Watch>(
     alloc: Global,
     records: First<'_>,
