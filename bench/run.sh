@@ -119,22 +119,25 @@ fi
 if [ -n "$alone" ]; then
     words=$alone
     case $alone in
-        tlp | decode) kind=lines small=10000 ;;
-        endpoint) kind=each small=10000 ;;
-        check | upgrade) kind=trace small=540 ;;
-        step) kind=script small=10 ;;
-        trace) kind=script small=10 words='step --trace' ;;
-        *) echo "run.sh: ENGINE is tlp, endpoint, decode, check, upgrade, step or trace" >&2; exit 2 ;;
+        tlp | decode) kinds=lines small=10000 ;;
+        endpoint) kinds=each small=10000 ;;
+        check | upgrade) kinds=trace small=540 ;;
+        search) kinds='counter mixed locks' small=2000 ;;
+        step) kinds=script small=10 ;;
+        trace) kinds=script small=10 words='step --trace' ;;
+        *) echo "run.sh: ENGINE is tlp, endpoint, decode, check, upgrade, search, step or trace" >&2; exit 2 ;;
     esac
-    if [ -x "$pciex" ]; then
-        # shellcheck disable=SC2086 # the words of a command line
-        count "$kind" "$small" "$pciex" $words
-        echo "$alone in the whole program: $per_unit instructions a unit"
-    fi
-    if [ -x "$program" ]; then
-        count "$kind" "$small" "$program"
-        echo "$alone alone: $per_unit instructions a unit"
-    fi
+    for kind in $kinds; do
+        if [ -x "$pciex" ]; then
+            # shellcheck disable=SC2086 # the words of a command line
+            count "$kind" "$small" "$pciex" $words
+            echo "$alone in the whole program, $kind: $per_unit instructions a unit"
+        fi
+        if [ -x "$program" ]; then
+            count "$kind" "$small" "$program"
+            echo "$alone alone, $kind: $per_unit instructions a unit"
+        fi
+    done
     exit 0
 fi
 

@@ -1,10 +1,10 @@
 #!/bin/sh
 # Makes a folder with one engine alone, to prove, build and count a change of it quickly: engine_alone.sh ENGINE [FOLDER].
 #
-# ENGINE is a subcommand: tlp, endpoint, decode, check, upgrade, step or trace (`step --trace`). FOLDER gets copies of the
-# crates that the engine stands on, with what was proved of them here, and a program `alone` of a few lines, which `rt run`
-# proves and builds; it is ~/.cache/pciex/alone-ENGINE if it isn't given. Run again over the same FOLDER it copies what
-# changed. It writes into no folder that has something in it, unless it made that folder itself.
+# ENGINE is a subcommand: tlp, endpoint, decode, check, upgrade, search, step or trace (`step --trace`). FOLDER gets copies
+# of the crates that the engine stands on, with what was proved of them here, and a program `alone` of a few lines, which
+# `rt run` proves and builds; it is ~/.cache/pciex/alone-ENGINE if it isn't given. Run again over the same FOLDER it copies
+# what changed. It writes into no folder that has something in it, unless it made that folder itself.
 #
 #     cd "$(sh scripts/engine_alone.sh tlp)/crates/alone" && rt run < /dev/null
 #     sh bench/run.sh --alone tlp
@@ -46,6 +46,10 @@ use endpoint_engine::EndpointOptions;'
         ;;
     decode) crate=packet_engine function=run_${engine}_with_reasons ;;
     check | upgrade) crate=trace_engine function=run_${engine}_with_reasons ;;
+    search)
+        crate=search_engine function=run_search_with_reasons more='
+        1_000_000,'
+        ;;
     step | trace)
         crate=step_engine function=run_step_with_reasons
         traced=false
@@ -59,7 +63,7 @@ use endpoint_engine::EndpointOptions;'
         echoes: false,
     };"
         ;;
-    *) echo "engine_alone.sh: ENGINE is tlp, endpoint, decode, check, upgrade, step or trace" >&2; exit 2 ;;
+    *) echo "engine_alone.sh: ENGINE is tlp, endpoint, decode, check, upgrade, search, step or trace" >&2; exit 2 ;;
 esac
 
 # The crates below the engine, itself included, as lines of crates.txt; the kit's are left out.

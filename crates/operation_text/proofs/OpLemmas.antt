@@ -1,12 +1,14 @@
 -- What some text spells, and that its own text spells it.
 use Rattle.std.proofs.Common.{◌≡◌, ℕ, zero, suc, ◌+◌, ◌*◌, ◌^◌, ◌<◌, ◌≤◌, Bool, true, false, List, [], ◌∷◌, ◌++◌, length, refl, sym, ap, subst, ◌∙◌, length-append, arith, Option, Some, None, inl, inr}
-use Rattle.std.specs.Prelude.{◌==◌, ◌&&◌, ◌||◌, not, nat_lt, nat_le, cond, Ok, Err, Result, codes, bytes_eq}
+use Rattle.std.specs.Prelude.{◌==◌, ◌&&◌, ◌||◌, ◌⊎◌, not, nat_lt, nat_le, cond, Ok, Err, Result, codes, bytes_eq}
 use Rattle.std.specs.Char.{digit_value}
 use Rattle.std.specs.List.{join_with_byte}
 use Rattle.std.specs.Fmt.{decimal}
-use Rattle.std.proofs.lemmas.Fmt.{length-decimal-le}
+use Rattle.std.specs.Str.Parse.{AllDigits, digits_value, digits_value_after}
+use Rattle.std.proofs.lemmas.Fmt.{length-decimal-le, decimal-digits_value}
+use Rattle.std.proofs.lemmas.Str.Parse.{numerals_by_value, tells_digits}
 use Rattle.std.proofs.lemmas.List.Elements.{All-nil, All-cons, All-append}
-use Rattle.std.proofs.lemmas.Bool.{and_parts, cases_Bool, eqb-true, eq-eqb}
+use Rattle.std.proofs.lemmas.Bool.{and_parts, cases_Bool, cases_eq, eqb-true, eq-eqb, ne_eqb}
 use Rattle.std.proofs.lemmas.Bool.Decides.{nat_tests}
 use Rattle.hex.specs.Hex.{encode_upper, upper_digits, decode_of, IsBytes}
 use Rattle.hex.specs.declared.error.FromHexError.{FromHexError}
@@ -99,6 +101,38 @@ numeral-range radix most m (c ∷ cs) h = elim (cases_Bool ((c == 48) && not (le
   | inl hit ↦ absurd (let k = rw hit at h in cc k)
   | inr miss ↦ numeral_after-range radix most 0 m (c ∷ cs) (omega arith) (rw miss at h)
 ]
+
+-- digits that spell a number
+record Spells (radix n m : ℕ) (ds : List ℕ) : Type 0 where
+  digits : AllDigits radix ds
+  value : digits_value_after radix n ds ≡ m
+
+after-spells : (radix most n m : ℕ) (ds : List ℕ) → numeral_after radix most n ds ≡ Some m → Spells radix n m ds
+after-spells radix most n m [] h = record { digits = tt; value = cc h }
+after-spells radix most n m (c ∷ cs) h = elim (cases_Bool (nat_lt (digit_value c) radix && nat_le (n * radix + digit_value c) most)) [
+  | inl hit ↦
+      let more = after-spells radix most (n * radix + digit_value c) m cs (rw hit at h) in
+      let small : digit_value c < radix = grind (arith, nat_tests) in
+      record { digits = (small, more.digits); value = more.value }
+  | inr miss ↦ absurd (let k = rw miss at h in cc k)
+]
+
+-- only a number's own digits spell it in decimal
+pub own-digits : (most n : ℕ) (word : List ℕ) → most < 2 ^ 64 → numeral 10 most word ≡ Some n → word ≡ decimal n
+own-digits most n [] small h = absurd (cc h)
+own-digits most n (c ∷ cs) small h = elim (cases_Bool ((c == 48) && not (length cs == 0))) [
+  | inl leads ↦ absurd (let k = rw leads at h in cc k)
+  | inr fine ↦
+      let spells = after-spells 10 most 0 n (c ∷ cs) (rw fine at h) in
+      let below : n ≤ most = numeral-range 10 most n (c ∷ cs) h in
+      let lead : c ≡ 48 → length (c ∷ cs) ≡ 1 = λ e. by (cases_eq (length cs) 0) e fine in
+      let is : digits_value 10 (c ∷ cs) ≡ n = spells.value in
+      sym (decimal-digits_value (numerals_by_value (AllDigits 10) tells_digits) (c ∷ cs) spells.digits (omega arith) lead (omega (arith, is, below, small))) ∙ ap decimal is
+]
+  where
+    by : (length cs ≡ 0) ⊎ (length cs ≡ 0 → ⊥) → c ≡ 48 → ((c == 48) && not (length cs == 0)) ≡ false → length (c ∷ cs) ≡ 1
+    by (inl none) e f = omega (arith, none)
+    by (inr some) e f = absurd (let k = rw (eq-eqb c 48 e, ne_eqb (length cs) 0 some) at f in cc k)
 
 byte_string-is : (w bytes : List ℕ) → byte_string w ≡ Some bytes → IsData bytes
 byte_string-is w bytes h = elim (cases_Bool ((length w == 0) || nat_lt 256 (length w))) [

@@ -22,10 +22,11 @@ pub fn own_text_spells_reply()
     ensures short { (ws : List (List ℕ)) (reply : Reply) → reply_spelled ws ≡ Some reply → length (reply_text reply) ≤ 261 }
 {}
 
-/// Numbers are read back from their own digits, which are one printed word.
+/// Numbers are read back from their own digits, which are one printed word. No other word spells the number in decimal.
 pub fn own_digits_spell_number()
     ensures range { (radix most n : ℕ) (word : List ℕ) → numeral radix most word ≡ Some n → n ≤ most }
     ensures decimal { (most n : ℕ) → n ≤ most → n < 2 ^ 64 → numeral 10 most (decimal n) ≡ Some n }
+    ensures one_word { (most n : ℕ) (word : List ℕ) → most < 2 ^ 64 → numeral 10 most word ≡ Some n → word ≡ decimal n }
     ensures hexadecimal { (most n : ℕ) → n ≤ most → n < 2 ^ 64 → numeral 16 most (hexadecimal n) ≡ Some n }
     ensures decimal_word { (n : ℕ) (line : List ℕ) → words (decimal n ++ 32 ∷ line) ≡ decimal n ∷ words line }
     ensures decimal_last { (n : ℕ) → words (decimal n) ≡ decimal n ∷ [] }

@@ -20,21 +20,22 @@ use Rattle.trace_text.specs.Forms as forms
 use Rattle.trace_text.specs.Forms.{line_of}
 
 -- the field that a line begins with, and what follows
-pub record Field {X Y : Type 0} (spells : List ℕ → Option X) (f : X → List (List ℕ) → Option Y) (y : Y) : Type 0 where
+pub record Field {X Y : Type 0} (spells : List ℕ → Option X) (f : X → List (List ℕ) → Option Y) (ws : List (List ℕ)) (y : Y) : Type 0 where
   pub value : X
   pub word : List ℕ
   pub rest : List (List ℕ)
+  pub front : ws ≡ word ∷ rest
   pub is : spells word ≡ Some value
   pub follows : f value rest ≡ Some y
 
 pub field-first : {X Y : Type 0} (spells : List ℕ → Option X) (f : X → List (List ℕ) → Option Y) (ws : List (List ℕ)) (y : Y)
-    → field spells f ws ≡ Some y → Field spells f y
+    → field spells f ws ≡ Some y → Field spells f ws y
 field-first spells f [] y h = absurd (cc h)
 field-first {X} {Y} spells f (w ∷ rest) y h = by (spells w) refl h
   where
-    by : (o : Option X) → spells w ≡ o → then_with {X = X × List (List ℕ)} (then_with o (λ x. Some (x, rest))) (λ s. f s.0 s.1) ≡ Some y → Field spells f y
+    by : (o : Option X) → spells w ≡ o → then_with {X = X × List (List ℕ)} (then_with o (λ x. Some (x, rest))) (λ s. f s.0 s.1) ≡ Some y → Field spells f (w ∷ rest) y
     by None e k = absurd (cc k)
-    by (Some x) e k = record { value = x; word = w; rest = rest; is = e; follows = k }
+    by (Some x) e k = record { value = x; word = w; rest = rest; front = refl; is = e; follows = k }
 
 -- what one word spells, and what is made of it
 pub record Then {X Y : Type 0} (o : Option X) (f : X → Option Y) (y : Y) : Type 0 where

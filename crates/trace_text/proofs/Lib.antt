@@ -1,4 +1,5 @@
 mod FormLemmas
+mod FrontLemmas
 mod TextLemmas
 mod ReadSpelled
 mod ReadBack

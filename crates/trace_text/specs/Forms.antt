@@ -1,5 +1,5 @@
 -- The forms of lines.
-use Rattle.std.specs.Prelude.{ℕ, ◌==◌, Bool, true, false, if◌then◌else◌, List, [], ◌∷◌, Option, Some, None, codes, bytes_eq}
+use Rattle.std.specs.Prelude.{ℕ, ◌==◌, Bool, true, false, if◌then◌else◌, List, [], ◌∷◌, Option, Some, None, drop, codes, bytes_eq}
 use Rattle.history_words.specs.declared.record.RecordOf.TheVariants as records
 use Rattle.operation_text.specs.Words.{then_with, field, ended}
 use Rattle.operation_text.specs.Numbers.{numeral}
@@ -63,3 +63,9 @@ section_after sections.Records lines.History = Some sections.History
 section_after sections.History (lines.Entry e) = Some sections.History
 section_after sections.History lines.End = Some sections.End
 section_after _ _ = None
+
+-- the words behind the numbers of a record or an entry: those of its operation or its reply; none of other lines
+abbrev pub behind_numbers : Line → List (List ℕ) → List (List ℕ)
+behind_numbers (lines.Record r) ws = drop 4 ws
+behind_numbers (lines.Entry e) ws = drop 3 ws
+behind_numbers _ ws = []

@@ -1,6 +1,8 @@
 -- A text of a trace that is written in the second version while it is read.
 use Rattle.std.specs.Prelude.{ℕ, true, List, [], ◌∷◌, ◌++◌, codes, Result, Ok, Err}
+use Rattle.history_words.specs.declared.record.RecordOf.TheVariants as records
 use Rattle.operation_text.specs.Words.{words}
+use Rattle.operation_text.specs.Texts.{op_text, reply_text}
 use Rattle.record_text.specs.declared.fault.ReadFault.{ReadFault}
 use Rattle.record_text.specs.Grammar.{Grammar}
 use Rattle.record_text.specs.RecordReaderView.{RecordReaderView}
@@ -25,6 +27,16 @@ added (lines.Record r) = record_line r ++ 10 ∷ []
 added lines.History = codes "history\n"
 added (lines.Entry e) = entry_line e ++ 10 ∷ []
 added lines.End = codes "end\n"
+
+-- what is written of a line from its operation or its reply on; of all of it, if it has neither
+abbrev pub rest_of : Line → List ℕ
+rest_of (lines.FirstLine v) = added (lines.FirstLine v)
+rest_of (lines.Memory x) = added (lines.Memory x)
+rest_of (lines.Record (records.Sub i k op n)) = op_text op ++ 10 ∷ []
+rest_of (lines.Record (records.Ans i k reply n)) = reply_text reply ++ 10 ∷ []
+rest_of lines.History = added lines.History
+rest_of (lines.Entry e) = op_text e.op ++ 10 ∷ []
+rest_of lines.End = added lines.End
 
 abbrev pub version_after : Version → Line → Version
 version_after v (lines.FirstLine w) = w

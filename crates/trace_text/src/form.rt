@@ -1,5 +1,5 @@
 //! What is kept of the text of a trace, and where its lines stand.
-ghost use Rattle.std.specs.Prelude.{◌≡◌, true, IfOk, OnErr};
+ghost use Rattle.std.specs.Prelude.{◌≡◌, true, IfOk, OnErr, option_map};
 ghost use Rattle.std.specs.Result.{result_ok};
 ghost use Rattle.record_text.specs.RecordReaderView.{adds};
 ghost use Rattle.record_text.specs.Step.{step_by, step_told};
@@ -7,7 +7,7 @@ ghost use Rattle.trace_text.specs.TraceReaderView.{trace_grammar};
 ghost use Rattle.trace_text.specs.TraceReaderView as reads;
 ghost use Rattle.trace_text.specs.Forms as forms;
 
-use crate::line::{Line, Version, ans, any_line, ent, sub};
+use crate::line::{Line, ReadLine, Version, ans, any_line, ent, sub};
 use history_words::RecordRef;
 use operation_text::{Expected, Misfit};
 use record_text::{Form, Scratch, Section, Taken};
@@ -108,26 +108,26 @@ impl TraceForm {
     fn keep(
         &mut self,
         section: Section,
-        read: &Result<Line<'_>, Misfit>,
+        read: Result<ReadLine<'_, '_>, Misfit>,
         misfit: &mut Option<Misfit>,
     ) -> Result<Taken, AllocError>
-        ensures ok { IfOk result (λ t. step_told t self.new ≡ step_by trace_grammar section self.old (result_ok read.now)) }
+        ensures ok { IfOk result (λ t. step_told t self.new ≡ step_by trace_grammar section self.old (option_map (λ s. s.line) (result_ok read.entry))) }
         ensures err { OnErr result (self.new ≡ self.old) }
-        ensures adds { OnErr result (adds trace_grammar section (result_ok read.now) ≡ true) }
+        ensures adds { OnErr result (adds trace_grammar section (option_map (λ s. s.line) (result_ok read.entry)) ≡ true) }
     {
         let line = match read {
-            Ok(line) => line,
+            Ok(ReadLine { line, .. }) => line,
             Err(left) => {
-                *misfit = Some(*left);
+                *misfit = Some(left);
                 return Ok(Taken::Misfit);
             }
         };
-        let Some(after) = section_after(section, line) else {
+        let Some(after) = section_after(section, &line) else {
             return Ok(Taken::NotDue);
         };
         match line {
-            Line::FirstLine(version) => self.version = *version,
-            Line::Memory(extent) => self.store.set_extent(*extent),
+            Line::FirstLine(version) => self.version = version,
+            Line::Memory(ref extent) => self.store.set_extent(*extent),
             Line::Record(
                 RecordRef::Sub {
                     requester,
@@ -135,7 +135,7 @@ impl TraceForm {
                     op,
                     n,
                 },
-            ) => self.store.submitted(*requester, *number, *n, op)?,
+            ) => self.store.submitted(requester, number, n, &op)?,
             Line::Record(
                 RecordRef::Ans {
                     requester,
@@ -143,7 +143,7 @@ impl TraceForm {
                     reply,
                     n,
                 },
-            ) => self.store.answered(*requester, *number, *n, reply)?,
+            ) => self.store.answered(requester, number, n, &reply)?,
             Line::Entry(entry) => self.store.acted(entry.requester, entry.number, &entry.op)?,
             Line::History | Line::End => {}
         }
@@ -178,20 +178,20 @@ impl Form for TraceForm {
         match text {
             [b's', b'u', b'b', b' ', rest @ ..] => self.keep(
                 section,
-                &sub(Some(rest), bytes),
+                sub(Some(rest), bytes),
                 misfit,
             ),
             [b'a', b'n', b's', b' ', rest @ ..] => self.keep(
                 section,
-                &ans(Some(rest), bytes),
+                ans(Some(rest), bytes),
                 misfit,
             ),
             [b'e', b'n', b't', b' ', rest @ ..] => self.keep(
                 section,
-                &ent(Some(rest), bytes),
+                ent(Some(rest), bytes),
                 misfit,
             ),
-            _ => self.keep(section, &any_line(text, self.version, bytes), misfit),
+            _ => self.keep(section, any_line(text, self.version, bytes), misfit),
         }
     }
 

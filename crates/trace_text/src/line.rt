@@ -1,7 +1,7 @@
 //! The forms of lines.
-ghost use Rattle.std.specs.Prelude.{◌≡◌, option_map};
+ghost use Rattle.std.specs.Prelude.{◌≡◌, [], ◌∷◌, IfOk, drop, option_map};
 ghost use Rattle.std.specs.Result.{result_ok};
-ghost use Rattle.operation_text.specs.Words.{words, words_behind, first_field};
+ghost use Rattle.operation_text.specs.Words.{words, words_behind, first_field, ended};
 ghost use Rattle.trace_text.specs.Forms as forms;
 
 use history_words::RecordRef;
@@ -52,6 +52,14 @@ pub(crate) enum Line<'r> {
     End,
 }
 
+/// A line that was read.
+#[derive(Drop)]
+pub(crate) struct ReadLine<'l, 'r> {
+    pub line: Line<'r>,
+    /// Its text from its operation or its reply on, if it has one.
+    pub behind: Option<&'l [u8]>,
+}
+
 fn next_version(rest: Option<&[u8]>) -> Result<(Version, Option<&[u8]>), Misfit>
     ensures { first_field forms.version (words_behind rest.entry) ≡ option_map (λ s. (s.0, words_behind s.1)) (result_ok result) }
 {
@@ -63,86 +71,121 @@ fn next_version(rest: Option<&[u8]>) -> Result<(Version, Option<&[u8]>), Misfit>
     }
 }
 
-fn first_line<'r>(rest: Option<&[u8]>) -> Result<Line<'r>, Misfit>
-    ensures { result_ok result ≡ forms.first_line_of (words_behind rest.entry) }
+/// The line, which has neither an operation nor a reply, if it ends here.
+fn whole<'l, 'r>(line: Line<'r>, rest: Option<&'l [u8]>) -> Result<ReadLine<'l, 'r>, Misfit>
+    ensures line { option_map (λ s. s.line) (result_ok result) ≡ ended line.entry (words_behind rest.entry) }
+    ensures behind { IfOk result (λ s. words_behind s.behind ≡ []) }
 {
-    let (version, rest) = next_version(rest)?;
-    alone(Line::FirstLine(version), rest)
+    match alone(line, rest) {
+        Ok(line) => Ok(ReadLine { line, behind: None }),
+        Err(misfit) => Err(misfit),
+    }
 }
 
-fn memory_line<'r>(place: Option<&[u8]>, version: Version) -> Result<Line<'r>, Misfit>
-    ensures { result_ok result ≡ forms.memory_line_of version (words_behind place.entry) }
+fn first_line<'l, 'r>(rest: Option<&'l [u8]>) -> Result<ReadLine<'l, 'r>, Misfit>
+    ensures line { option_map (λ s. s.line) (result_ok result) ≡ forms.first_line_of (words_behind rest.entry) }
+    ensures behind { IfOk result (λ s. words_behind s.behind ≡ []) }
+{
+    let (version, rest) = next_version(rest)?;
+    whole(Line::FirstLine(version), rest)
+}
+
+fn memory_line<'l, 'r>(
+    place: Option<&'l [u8]>,
+    version: Version,
+) -> Result<ReadLine<'l, 'r>, Misfit>
+    ensures line { option_map (λ s. s.line) (result_ok result) ≡ forms.memory_line_of version (words_behind place.entry) }
+    ensures behind { IfOk result (λ s. words_behind s.behind ≡ []) }
 {
     match memory(place, version.has_block()) {
-        Ok(extent) => Ok(Line::Memory(extent)),
+        Ok(extent) => Ok(ReadLine {
+            line: Line::Memory(extent),
+            behind: None,
+        }),
         Err(misfit) => Err(misfit),
     }
 }
 
 #[inline(always)]
-pub(crate) fn sub<'r>(
-    rest: Option<&[u8]>,
+pub(crate) fn sub<'l, 'r>(
+    rest: Option<&'l [u8]>,
     room: &'r mut [u8; MAX_PAYLOAD],
-) -> Result<Line<'r>, Misfit>
-    ensures { result_ok result ≡ forms.sub_of (words_behind rest.entry) }
+) -> Result<ReadLine<'l, 'r>, Misfit>
+    ensures line { option_map (λ s. s.line) (result_ok result) ≡ forms.sub_of (words_behind rest.entry) }
+    ensures behind { IfOk result (λ s. words_behind s.behind ≡ drop 3 (words_behind rest.entry)) }
 {
     let (requester, rest) = requester(rest)?;
     let (number, rest) = request(rest)?;
     let (n, rest) = count(rest, LENGTH)?;
     let op = op_behind(rest, room)?;
-    Ok(Line::Record(RecordRef::Sub {
+    let record = RecordRef::Sub {
         requester,
         number,
         op,
         n,
-    }))
+    };
+    Ok(ReadLine {
+        line: Line::Record(record),
+        behind: rest,
+    })
 }
 
 #[inline(always)]
-pub(crate) fn ans<'r>(
-    rest: Option<&[u8]>,
+pub(crate) fn ans<'l, 'r>(
+    rest: Option<&'l [u8]>,
     room: &'r mut [u8; MAX_PAYLOAD],
-) -> Result<Line<'r>, Misfit>
-    ensures { result_ok result ≡ forms.ans_of (words_behind rest.entry) }
+) -> Result<ReadLine<'l, 'r>, Misfit>
+    ensures line { option_map (λ s. s.line) (result_ok result) ≡ forms.ans_of (words_behind rest.entry) }
+    ensures behind { IfOk result (λ s. words_behind s.behind ≡ drop 3 (words_behind rest.entry)) }
 {
     let (requester, rest) = requester(rest)?;
     let (number, rest) = request(rest)?;
     let (n, rest) = count(rest, LENGTH)?;
     let reply = reply_behind(rest, room)?;
-    Ok(Line::Record(RecordRef::Ans {
+    let record = RecordRef::Ans {
         requester,
         number,
         reply,
         n,
-    }))
+    };
+    Ok(ReadLine {
+        line: Line::Record(record),
+        behind: rest,
+    })
 }
 
 #[inline(always)]
-pub(crate) fn ent<'r>(
-    rest: Option<&[u8]>,
+pub(crate) fn ent<'l, 'r>(
+    rest: Option<&'l [u8]>,
     room: &'r mut [u8; MAX_PAYLOAD],
-) -> Result<Line<'r>, Misfit>
-    ensures { result_ok result ≡ forms.ent_of (words_behind rest.entry) }
+) -> Result<ReadLine<'l, 'r>, Misfit>
+    ensures line { option_map (λ s. s.line) (result_ok result) ≡ forms.ent_of (words_behind rest.entry) }
+    ensures behind { IfOk result (λ s. words_behind s.behind ≡ drop 2 (words_behind rest.entry)) }
 {
     let (requester, rest) = requester(rest)?;
     let (number, rest) = request(rest)?;
     let op = op_behind(rest, room)?;
-    Ok(Line::Entry(EntryRef {
+    let entry = EntryRef {
         requester,
         number,
         op,
-    }))
+    };
+    Ok(ReadLine {
+        line: Line::Entry(entry),
+        behind: rest,
+    })
 }
 
 /// The line of that kind that the rest of it spells.
-fn line_by<'r>(
+fn line_by<'l, 'r>(
     kind: &[u8],
-    rest: Option<&[u8]>,
+    rest: Option<&'l [u8]>,
     version: Version,
     text: &[u8],
     room: &'r mut [u8; MAX_PAYLOAD],
-) -> Result<Line<'r>, Misfit>
-    ensures { result_ok result ≡ forms.line_by version kind.now (words_behind rest.entry) }
+) -> Result<ReadLine<'l, 'r>, Misfit>
+    ensures line { option_map (λ s. s.line) (result_ok result) ≡ forms.line_by version kind.now (words_behind rest.entry) }
+    ensures behind { IfOk result (λ s. words_behind s.behind ≡ forms.behind_numbers s.line (kind.now ∷ words_behind rest.entry)) }
 {
     if kind == b"sub".as_slice() {
         sub(rest, room)
@@ -153,9 +196,9 @@ fn line_by<'r>(
     } else if kind == b"memory".as_slice() {
         memory_line(rest, version)
     } else if kind == b"history".as_slice() {
-        alone(Line::History, rest)
+        whole(Line::History, rest)
     } else if kind == b"end".as_slice() {
-        alone(Line::End, rest)
+        whole(Line::End, rest)
     } else if kind == b"pciex-trace".as_slice() {
         first_line(rest)
     } else {
@@ -163,33 +206,17 @@ fn line_by<'r>(
     }
 }
 
-/// The line that the text spells in a trace of that version, whatever its first word is: its bytes are put into the room,
-/// whose content doesn't count.
+/// The line that the text spells in a trace of that version, whatever its first word is, and its text from its operation
+/// or its reply on, if it has one. The line's bytes are put into the room, whose content doesn't count.
 #[inline(never)]
-pub(crate) fn any_line<'r>(
-    text: &[u8],
+pub(crate) fn any_line<'l, 'r>(
+    text: &'l [u8],
     version: Version,
     room: &'r mut [u8; MAX_PAYLOAD],
-) -> Result<Line<'r>, Misfit>
-    ensures { result_ok result ≡ forms.line_of version (words text.now) }
+) -> Result<ReadLine<'l, 'r>, Misfit>
+    ensures line { option_map (λ s. s.line) (result_ok result) ≡ forms.line_of version (words text.now) }
+    ensures behind { IfOk result (λ s. words_behind s.behind ≡ forms.behind_numbers s.line (words text.now)) }
 {
     let (kind, rest) = cut(text);
     line_by(kind, rest, version, text, room)
-}
-
-/// As [`any_line`]. Lines of records and entries are read where this is called.
-#[inline(always)]
-pub(crate) fn read_line<'r>(
-    text: &[u8],
-    version: Version,
-    room: &'r mut [u8; MAX_PAYLOAD],
-) -> Result<Line<'r>, Misfit>
-    ensures { result_ok result ≡ forms.line_of version (words text.now) }
-{
-    match text {
-        [b's', b'u', b'b', b' ', rest @ ..] => sub(Some(rest), room),
-        [b'a', b'n', b's', b' ', rest @ ..] => ans(Some(rest), room),
-        [b'e', b'n', b't', b' ', rest @ ..] => ent(Some(rest), room),
-        _ => any_line(text, version, room),
-    }
 }

@@ -1,12 +1,18 @@
 //! Writing a trace in the second version while it is read.
-ghost use Rattle.std.specs.Prelude.{◌≡◌, ◌++◌, OnOk, OnErr, IfOk, IfErr, Ok, Err};
+ghost use Rattle.std.specs.Prelude.{◌≡◌, ◌++◌, OnOk, OnErr, IfOk, IfErr, Some, Ok, Err, option_map, true};
+ghost use Rattle.std.specs.Result.{result_ok};
+ghost use Rattle.operation_text.specs.Words.{words, words_behind};
+ghost use Rattle.record_text.specs.RecordReaderView.{adds};
+ghost use Rattle.record_text.specs.Step.{step_by, step_told};
+ghost use Rattle.trace_text.specs.Forms.{line_of, behind_numbers};
+ghost use Rattle.trace_text.specs.TraceRewriterView.{rewrite_grammar};
 ghost use Rattle.trace_text.specs.TraceRewriterView as writes;
 
 use crate::form::{begins_with, expected, section_after};
-use crate::line::{Line, Version, read_line};
-use crate::writing::put_line;
+use crate::line::{Line, ReadLine, Version, ans, any_line, ent, sub};
+use crate::writing::put_rest;
 use arrayvec::ArrayString;
-use operation_text::Expected;
+use operation_text::{Expected, Misfit, own_digits_spell_number};
 use record_text::{Cause, Form, ReadFault, RecordReader, Scratch, Section, Taken};
 use std::alloc::{AllocError, Global};
 use std::marker::Model;
@@ -39,6 +45,78 @@ fn version_after(version: Version, line: &Line<'_>) -> Version
     }
 }
 
+/// Adds both to the text, or nothing.
+#[inline(always)]
+fn add(text: &mut Vec<u8>, front: &[u8], rest: &[u8]) -> Result<(), AllocError>
+    ensures ok { OnOk result (text.new.items ≡ text.old.items ++ (front.now ++ rest.now)) }
+    ensures err { OnErr result (text.new.items ≡ text.old.items) }
+{
+    let before = text.len();
+    text.extend_from_slice(front)?;
+    if text.extend_from_slice(rest).is_err() {
+        text.truncate(before);
+        return Err(AllocError);
+    }
+    Ok(())
+}
+
+impl RewriteForm {
+    /// Writes a line that was read: what its text has in front of its operation or its reply as it is, the rest anew.
+    #[inline(always)]
+    fn write(
+        &mut self,
+        line: Line<'_>,
+        text: &[u8],
+        behind: Option<&[u8]>,
+    ) -> Result<(), AllocError>
+        requires spelled { line_of self.old.version (words text.now) ≡ Some line }
+        requires behind { words_behind behind ≡ behind_numbers line (words text.now) }
+        ensures ok { OnOk result (self.new ≡ writes.written self.old line.entry) }
+        ensures err { OnErr result (self.new ≡ self.old) }
+    {
+        own_digits_spell_number();
+        let front = match behind {
+            Some(behind) => &text[..text.len() - behind.len()],
+            None => &[],
+        };
+        let version = version_after(self.version, &line);
+        self.line.clear();
+        put_rest(line, &mut self.line);
+        add(&mut self.text, front, self.line.as_bytes())?;
+        self.version = version;
+        Ok(())
+    }
+
+    /// Takes a line, if one was read from the text and is due in the section.
+    #[inline(always)]
+    fn keep(
+        &mut self,
+        section: Section,
+        read: Result<ReadLine<'_, '_>, Misfit>,
+        text: &[u8],
+        misfit: &mut Option<Misfit>,
+    ) -> Result<Taken, AllocError>
+        requires spelled { IfOk read (λ s. line_of self.old.version (words text.now) ≡ Some s.line) }
+        requires behind { IfOk read (λ s. words_behind s.behind ≡ behind_numbers s.line (words text.now)) }
+        ensures ok { IfOk result (λ t. step_told t self.new ≡ step_by rewrite_grammar section self.old (option_map (λ s. s.line) (result_ok read.entry))) }
+        ensures err { OnErr result (self.new ≡ self.old) }
+        ensures adds { OnErr result (adds rewrite_grammar section (option_map (λ s. s.line) (result_ok read.entry)) ≡ true) }
+    {
+        let ReadLine { line, behind } = match read {
+            Ok(read) => read,
+            Err(left) => {
+                *misfit = Some(left);
+                return Ok(Taken::Misfit);
+            }
+        };
+        let Some(after) = section_after(section, &line) else {
+            return Ok(Taken::NotDue);
+        };
+        self.write(line, text, behind)?;
+        Ok(Taken::Kept(after))
+    }
+}
+
 impl Form for RewriteForm {
     ghost use Rattle.trace_text.specs.declared.line.Line.{Line};
     ghost use Rattle.trace_text.specs.TraceRewriterView.{rewrite_grammar};
@@ -47,6 +125,8 @@ impl Form for RewriteForm {
 
     ghost grammar = { rewrite_grammar };
 
+    // What the most frequent lines say is written where it is read, and not moved.
+    #[inline(always)]
     fn take(
         &mut self,
         section: Section,
@@ -54,22 +134,18 @@ impl Form for RewriteForm {
         scratch: &mut Scratch,
     ) -> Result<Taken, AllocError> {
         let Scratch { bytes, misfit } = scratch;
-        let read = read_line(text, self.version, bytes);
-        let line = match &read {
-            Ok(line) => line,
-            Err(left) => {
-                *misfit = Some(*left);
-                return Ok(Taken::Misfit);
+        match text {
+            [b's', b'u', b'b', b' ', rest @ ..] => {
+                self.keep(section, sub(Some(rest), bytes), text, misfit)
             }
-        };
-        let Some(after) = section_after(section, line) else {
-            return Ok(Taken::NotDue);
-        };
-        self.line.clear();
-        put_line(line, &mut self.line);
-        self.text.extend_from_slice(self.line.as_bytes())?;
-        self.version = version_after(self.version, line);
-        Ok(Taken::Kept(after))
+            [b'a', b'n', b's', b' ', rest @ ..] => {
+                self.keep(section, ans(Some(rest), bytes), text, misfit)
+            }
+            [b'e', b'n', b't', b' ', rest @ ..] => {
+                self.keep(section, ent(Some(rest), bytes), text, misfit)
+            }
+            _ => self.keep(section, any_line(text, self.version, bytes), text, misfit),
+        }
     }
 
     fn expected(section: Section) -> Expected {

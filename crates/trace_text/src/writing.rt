@@ -2,7 +2,7 @@
 ghost use Rattle.std.specs.Prelude.{◌≡◌, ◌≤◌, ◌++◌, ◌∷◌, [], length, map, string_bytes, IfOk, OnOk};
 ghost use Rattle.std.specs.Fmt.{decimal};
 ghost use Rattle.arrayvec.specs.ArrayString.{array_string_len};
-ghost use Rattle.trace_text.specs.TraceRewriterView.{added};
+ghost use Rattle.trace_text.specs.TraceRewriterView.{rest_of};
 ghost use Rattle.trace_text.specs.Texts.{memory_line, record_line, entry_line, lines_text, records_text, trace_text};
 
 use crate::line::Line;
@@ -93,17 +93,28 @@ fn put_entry(entry: &EntryRef<'_>, line: &mut ArrayString<512>)
     line.push_str("\n");
 }
 
-/// Writes a line in the second version.
-pub(crate) fn put_line(said: &Line<'_>, line: &mut ArrayString<512>)
+/// Writes what is new of a line in the second version: its operation or its reply; all of it, if it has neither.
+#[inline(always)]
+pub(crate) fn put_rest(said: Line<'_>, line: &mut ArrayString<512>)
     requires { array_string_len line.old ≡ 0 }
-    ensures { line.new.bytes ≡ added said.now }
+    ensures { line.new.bytes ≡ rest_of said.entry }
 {
     match said {
         Line::FirstLine(_) => line.push_str("pciex-trace 2\n"),
-        Line::Memory(extent) => put_memory(*extent, line),
-        Line::Record(record) => put_record(record, line),
+        Line::Memory(ref extent) => put_memory(*extent, line),
+        Line::Record(RecordRef::Sub { op, .. }) => {
+            write_op(&op, line);
+            line.push_str("\n");
+        }
+        Line::Record(RecordRef::Ans { reply, .. }) => {
+            write_reply(&reply, line);
+            line.push_str("\n");
+        }
         Line::History => line.push_str("history\n"),
-        Line::Entry(entry) => put_entry(entry, line),
+        Line::Entry(entry) => {
+            write_op(&entry.op, line);
+            line.push_str("\n");
+        }
         Line::End => line.push_str("end\n"),
     }
 }

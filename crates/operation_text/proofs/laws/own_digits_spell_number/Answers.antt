@@ -4,7 +4,7 @@ use Rattle.std.proofs.lemmas.Fmt.{length-decimal-le}
 use Rattle.operation_text.specs.Texts.{hexadecimal}
 use Rattle.operation_text.proofs.DigitLemmas.{hexadecimal-short}
 use Rattle.operation_text.proofs.ReadBackLemmas.{decimal-reads, hexadecimal-reads, decimal-word, hexadecimal-word, word-first, word-alone}
-use Rattle.operation_text.proofs.OpLemmas.{numeral-range, printed-word}
+use Rattle.operation_text.proofs.OpLemmas.{numeral-range, own-digits, printed-word}
 use Rattle.operation_text.proofs.laws.own_digits_spell_number.Goals as goal
 
 pub returns-clause-range : goal.returns-clause-range
@@ -12,6 +12,9 @@ returns-clause-range c = λ radix most n word. numeral-range radix most n word
 
 pub returns-clause-decimal : goal.returns-clause-decimal
 returns-clause-decimal c = decimal-reads
+
+pub returns-clause-one_word : goal.returns-clause-one_word
+returns-clause-one_word c = own-digits
 
 pub returns-clause-hexadecimal : goal.returns-clause-hexadecimal
 returns-clause-hexadecimal c = hexadecimal-reads
