@@ -79,7 +79,8 @@ fn step(
     witness: &mut SessionWitness,
     event: &EventRef<'_>,
 ) -> Result<(), Refusal>
-    ensures ok { OnOk result (IsStep fabric.old is_traced witness.old.records.items event.now fabric.new witness.new.records.items witness.new.last.text.bytes) }
+    ensures ok { OnOk result (IsStep fabric.old is_traced witness.old.records.items event.now fabric.new witness.new.records.items
+        witness.new.last.text.bytes) }
     ensures session { IsKept fabric.old is_traced witness.old.records.items → IsKept fabric.new is_traced witness.new.records.items }
     ensures refused { IfErr result (λ r. IsTold r → answer fabric.old event.now ≡ Err r) }
     ensures no_memory { IfErr result (λ r. is_memory r ≡ true → EventWantsMemory fabric.old is_traced event.now) }

@@ -118,7 +118,8 @@ impl Witness for SettleWitness {
 
     ghost saw = { λ line. settled_of };
 
-    ghost has_room = { λ event w. IsRecorded event → (w.is_traced ≡ true → vec_len w.trace < vec_capacity w.trace) × (vec_len w.collected < vec_capacity w.collected) };
+    ghost has_room = { λ event w. IsRecorded event → (w.is_traced ≡ true →
+        vec_len w.trace < vec_capacity w.trace) × (vec_len w.collected < vec_capacity w.collected) };
 
     ghost needs_room = { IsRecorded };
 

@@ -30,10 +30,13 @@ pub fn packets_are_drawn_as_they_are()
     ensures sent { (f : Fabric) (cs : List CourseView) (row : Option ℕ) (lane : LaneName) (e : LaneEndsView) (cargo : CargoView) (number : ℕ) →
         AreAccountsOf f cs → lane_at f lane ≡ Ok e →
         next_item e.sender.sending ≡ Some cargo →
-        (c : Option Carried) × IsSaidOfBytes f.memory.entries cargo c × ((followed cs row (events.Transmit lane) (seen.Sent number)).deed ≡ deeds.Sent lane number c) }
-    ensures arrived { (f : Fabric) (cs : List CourseView) (row : Option ℕ) (lane : LaneName) (e : LaneEndsView) (p : WirePacket) (fate : Fate) (arrival : Arrival) → AreAccountsOf f cs → lane_at f lane ≡ Ok e →
+        (c : Option Carried) × IsSaidOfBytes f.memory.entries cargo c ×
+        ((followed cs row (events.Transmit lane) (seen.Sent number)).deed ≡ deeds.Sent lane number c) }
+    ensures arrived { (f : Fabric) (cs : List CourseView) (row : Option ℕ) (lane : LaneName) (e : LaneEndsView) (p : WirePacket) (fate : Fate)
+        (arrival : Arrival) → AreAccountsOf f cs → lane_at f lane ≡ Ok e →
         slice_get e.forward 0 ≡ Some p →
-        (s : PacketSent) × IsSaidOnWire f.memory.entries p s × ((followed cs row (events.Deliver lane fate) (seen.Delivered arrival)).deed ≡ deeds.Arrived lane fate arrival (Some s)) }
+        (s : PacketSent) × IsSaidOnWire f.memory.entries p s ×
+        ((followed cs row (events.Deliver lane fate) (seen.Delivered arrival)).deed ≡ deeds.Arrived lane fate arrival (Some s)) }
     ensures forwarded { (f : Fabric) (cs : List CourseView) (row : Option ℕ) (lane : LaneName) (e : LaneEndsView) (x : Item) (place port : ℕ) →
         AreAccountsOf f cs → lane_at f lane ≡ Ok e →
         slice_get e.receiver.queue place ≡ Some x →
@@ -59,5 +62,6 @@ pub fn replays_are_drawn_as_they_are()
         IsSoundFabric f → AreAccountsOf f cs →
         Happens f (events.DeliverDllp lane fate) what f' → lane_at f lane ≡ Ok e → lane_at f' lane ≡ Ok e' →
         (s : DllpSent) × (slice_get e.back 0 ≡ Some s.dllp) ×
-        ((followed cs row (events.DeliverDllp lane fate) what).deed ≡ deeds.ArrivedDllp lane fate (Some s) (replay_between e.sender.sending e'.sender.sending)) }
+        ((followed cs row (events.DeliverDllp lane fate) what).deed ≡
+        deeds.ArrivedDllp lane fate (Some s) (replay_between e.sender.sending e'.sender.sending)) }
 {}

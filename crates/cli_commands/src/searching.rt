@@ -40,8 +40,12 @@ pub(crate) fn run_search_as<C: Clock, R: Read, W: Write, E: Write>(
     writer: &mut W,
     errors: &mut E,
 ) -> Result<u8, EngineFault>
-    ensures ok { IfOk result (IsWholeAs search.entry.output search.entry.options.granularity (record { choices = search.entry.options.limit; work = search.entry.work }) (R.remaining reader.old) (R.remaining reader.new) (W.contents writer.old) (W.contents writer.new)) }
-    ensures err { OnErr result (IsPartAs search.entry.output search.entry.options.granularity (record { choices = search.entry.options.limit; work = search.entry.work }) (R.remaining reader.old) (R.remaining reader.new) (W.contents writer.old) (W.contents writer.new)) }
+    ensures ok { IfOk result (IsWholeAs search.entry.output search.entry.options.granularity
+        (record { choices = search.entry.options.limit; work = search.entry.work }) (R.remaining reader.old) (R.remaining reader.new)
+        (W.contents writer.old) (W.contents writer.new)) }
+    ensures err { OnErr result (IsPartAs search.entry.output search.entry.options.granularity
+        (record { choices = search.entry.options.limit; work = search.entry.work }) (R.remaining reader.old) (R.remaining reader.new)
+        (W.contents writer.old) (W.contents writer.new)) }
 {
     let Search {
         options,

@@ -233,7 +233,8 @@ fn refused_count(request: &TlpRef<'_>) -> Option<u16>
 /// The completion of a memory request that is not supported.
 pub(crate) fn refused<'r>(request: &TlpRef<'_>, completer: u16) -> Option<TlpRef<'r>>
     ensures { (op : Op) → op_of request.now ≡ Some op →
-        result ≡ Some (spec.completion_without (classes.descriptor_of request.now) completer Status.Unsupported (spec.refused_count request.now.kind request.now.body request.now.length)) }
+        result ≡ Some (spec.completion_without (classes.descriptor_of request.now) completer Status.Unsupported
+        (spec.refused_count request.now.kind request.now.body request.now.length)) }
 {
     let count = refused_count(request)?;
     let header = request.header;

@@ -40,7 +40,8 @@ pub fn each_request_leaves_once()
 /// yet: it waits behind the others, and so it acts behind all posted requests that came before it. Writes alone are posted.
 pub fn posted_requests_act_when_they_come()
     ensures acts { (e : EndpointView) (cs ds : List Call) (b : List ℕ) (t : TlpView) → becomes b ≡ received.Posted t →
-        all_effects e (cs ++ Take b ∷ ds) ≡ all_effects e cs ++ (effects_posted (after_calls e cs).device (op_of t) ++ all_effects (after_calls e (cs ++ Take b ∷ [])) ds) }
+        all_effects e (cs ++ Take b ∷ ds) ≡ all_effects e cs ++
+        (effects_posted (after_calls e cs).device (op_of t) ++ all_effects (after_calls e (cs ++ Take b ∷ [])) ds) }
     ensures stays { (e : EndpointView) (cs : List Call) (b : List ℕ) (t : TlpView) → becomes b ≡ received.Posted t →
         (after_calls e (cs ++ Take b ∷ [])).waiting ≡ (after_calls e cs).waiting }
     ensures later { (e : EndpointView) (cs ds : List Call) (b : List ℕ) (t : TlpView) → becomes b ≡ received.NonPosted t →
@@ -69,6 +70,7 @@ pub fn a_read_goes_on_where_its_first_block_ended()
         op_of (behind (dw_in_front op) t) ≡ Some rest →
         (address_of rest ≡ address_of (first_block op) + count_of (first_block op)) × (address_of rest % 128 ≡ 0) }
     ensures counts { (t : TlpView) (op : Op) → op_of t ≡ Some op → op_fault op ≡ None → (dw_in_front op ≡ 0 → ⊥) →
-        (byte_count t.kind t.body t.length ≡ count_of (first_block op) - lead (enables_of op) + byte_count (behind (dw_in_front op) t).kind (behind (dw_in_front op) t).body (behind (dw_in_front op) t).length)
+        (byte_count t.kind t.body t.length ≡ count_of (first_block op) - lead (enables_of op) +
+        byte_count (behind (dw_in_front op) t).kind (behind (dw_in_front op) t).body (behind (dw_in_front op) t).length)
         × (lower_address (behind (dw_in_front op) t).kind (behind (dw_in_front op) t).body (behind (dw_in_front op) t).length ≡ 0) }
 {}

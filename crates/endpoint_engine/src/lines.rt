@@ -165,7 +165,8 @@ impl Asked {
     #[tactic(auto, using(crate::proofs::Reading::unread))]
     fn take(&mut self, digits: &[u8], out: &mut Vec<u8>) -> Result<Verdict, AllocError>
         requires { length digits.now ≤ 512 }
-        ensures ok { IfOk result (λ verdict. IsAnswer self.new out.old.items out.new.items verdict (spec.answer_tlp self.old (decode_of (digits_of digits.now)))) }
+        ensures ok { IfOk result (λ verdict. IsAnswer self.new out.old.items out.new.items verdict
+            (spec.answer_tlp self.old (decode_of (digits_of digits.now)))) }
         ensures err { OnErr result (out.new.items ≡ out.old.items) }
     {
         if !self.line.read(digits) {
@@ -266,8 +267,10 @@ pub fn run_endpoint_with_reasons<R: Read, W: Write, E: Write>(
     writer: &mut W,
     errors: &mut E,
 ) -> Result<u8, EngineFault>
-    ensures ok { IfOk result (IsWhole (spec.out_endpoint options.setup options.is_traced) (R.remaining reader.old) (R.remaining reader.new) (W.contents writer.old) (W.contents writer.new)) }
-    ensures err { OnErr result (IsPart (spec.out_endpoint options.setup options.is_traced) (R.remaining reader.old) (R.remaining reader.new) (W.contents writer.old) (W.contents writer.new)) }
+    ensures ok { IfOk result (IsWhole (spec.out_endpoint options.setup options.is_traced) (R.remaining reader.old) (R.remaining reader.new)
+        (W.contents writer.old) (W.contents writer.new)) }
+    ensures err { OnErr result (IsPart (spec.out_endpoint options.setup options.is_traced) (R.remaining reader.old) (R.remaining reader.new)
+        (W.contents writer.old) (W.contents writer.new)) }
     ensures read { IfErr result (λ f. f ≡ EngineFault.Read →
         IsCaughtUp spec.endpoint_responses (spec.new_device options.setup options.is_traced) (R.remaining reader.old) (R.remaining reader.new) (W.contents writer.old) (W.contents writer.new)) }
 {
@@ -289,8 +292,10 @@ pub fn run_endpoint<R: Read, W: Write>(
     reader: &mut R,
     writer: &mut W,
 ) -> Result<u8, EngineFault>
-    ensures ok { IfOk result (IsWhole (spec.out_endpoint options.setup options.is_traced) (R.remaining reader.old) (R.remaining reader.new) (W.contents writer.old) (W.contents writer.new)) }
-    ensures err { OnErr result (IsPart (spec.out_endpoint options.setup options.is_traced) (R.remaining reader.old) (R.remaining reader.new) (W.contents writer.old) (W.contents writer.new)) }
+    ensures ok { IfOk result (IsWhole (spec.out_endpoint options.setup options.is_traced) (R.remaining reader.old) (R.remaining reader.new)
+        (W.contents writer.old) (W.contents writer.new)) }
+    ensures err { OnErr result (IsPart (spec.out_endpoint options.setup options.is_traced) (R.remaining reader.old) (R.remaining reader.new)
+        (W.contents writer.old) (W.contents writer.new)) }
     ensures read { IfErr result (λ f. f ≡ EngineFault.Read →
         IsCaughtUp spec.endpoint_responses (spec.new_device options.setup options.is_traced) (R.remaining reader.old) (R.remaining reader.new) (W.contents writer.old) (W.contents writer.new)) }
 {

@@ -20,7 +20,8 @@ fn once<W: Witness>(
     line: u64,
     event: &Event,
 ) -> Result<bool, AllocError>
-    ensures state { OnOk result (Does (W.saw line) fabric.old (W.kept witness.old) moved.old (λ s. spec.tried s event.now) fabric.new (W.kept witness.new) moved.new) }
+    ensures state { OnOk result (Does (W.saw line) fabric.old (W.kept witness.old) moved.old (λ s. spec.tried s event.now) fabric.new
+        (W.kept witness.new) moved.new) }
     ensures went { IfOk result (λ went. went ≡ spec.goes fabric.old event.now) }
     ensures err { OnErr result ((event : events.Event) × WantsMemory W.needs_room W.may_lose fabric.new event) }
     ensures reached { Reached (W.saw line) (IsLossless W.may_lose) fabric.old (W.kept witness.old) fabric.new (W.kept witness.new) }
@@ -43,7 +44,8 @@ fn all<W: Witness>(
     line: u64,
     event: &Event,
 ) -> Result<(), AllocError>
-    ensures state { OnOk result (Does (W.saw line) fabric.old (W.kept witness.old) moved.old (λ s. spec.all s event.now) fabric.new (W.kept witness.new) moved.new) }
+    ensures state { OnOk result (Does (W.saw line) fabric.old (W.kept witness.old) moved.old (λ s. spec.all s event.now) fabric.new
+        (W.kept witness.new) moved.new) }
     ensures err { OnErr result ((event : events.Event) × WantsMemory W.needs_room W.may_lose fabric.new event) }
     ensures reached { Reached (W.saw line) (IsLossless W.may_lose) fabric.old (W.kept witness.old) fabric.new (W.kept witness.new) }
 {
@@ -63,7 +65,8 @@ fn try_each<W: Witness>(
     line: u64,
     attempts: &[Attempt],
 ) -> Result<(), AllocError>
-    ensures state { OnOk result (Does (W.saw line) fabric.old (W.kept witness.old) moved.old (λ s. fold spec.attempted s attempts.now) fabric.new (W.kept witness.new) moved.new) }
+    ensures state { OnOk result (Does (W.saw line) fabric.old (W.kept witness.old) moved.old (λ s. fold spec.attempted s attempts.now) fabric.new
+        (W.kept witness.new) moved.new) }
     ensures err { OnErr result ((event : events.Event) × WantsMemory W.needs_room W.may_lose fabric.new event) }
     ensures reached { Reached (W.saw line) (IsLossless W.may_lose) fabric.old (W.kept witness.old) fabric.new (W.kept witness.new) }
 {
@@ -86,7 +89,8 @@ fn lane_turn<W: Witness>(
     line: u64,
     lane: LaneName,
 ) -> Result<(), AllocError>
-    ensures state { OnOk result (Does (W.saw line) fabric.old (W.kept witness.old) moved.old (λ s. spec.lane_turn s lane) fabric.new (W.kept witness.new) moved.new) }
+    ensures state { OnOk result (Does (W.saw line) fabric.old (W.kept witness.old) moved.old (λ s. spec.lane_turn s lane) fabric.new
+        (W.kept witness.new) moved.new) }
     ensures err { OnErr result ((event : events.Event) × WantsMemory W.needs_room W.may_lose fabric.new event) }
     ensures reached { Reached (W.saw line) (IsLossless W.may_lose) fabric.old (W.kept witness.old) fabric.new (W.kept witness.new) }
 {

@@ -108,7 +108,8 @@ impl CreditGate {
             IsTrue result ↔ ((p : Part) → HasRoom (allowance need.class p self.now) (known p) (used p) (pick p need.header need.units)) }
         ensures room { need.header ≤ 127 → need.units ≤ 2047 →
             ((p : Part) → 0 < (allowance need.class p self.now).first → room_of p (allowance need.class p self.now) ≤ most p) →
-            IsTrue result ↔ ((p : Part) → 0 < (allowance need.class p self.now).first → pick p need.header need.units ≤ room_of p (allowance need.class p self.now)) }
+            IsTrue result ↔ ((p : Part) → 0 < (allowance need.class p self.now).first →
+            pick p need.header need.units ≤ room_of p (allowance need.class p self.now)) }
         ensures infinite { ((p : Part) → (allowance need.class p self.now).first ≡ 0) → IsTrue result }
     {
         match need.class {

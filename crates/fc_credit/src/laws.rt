@@ -43,10 +43,12 @@ pub fn each_event_keeps_the_account()
 /// come to the first value. The gate's test is that of the room in whole numbers, and the receiver sees no overflow. A
 /// gate whose CREDIT_LIMIT is CREDITS_ALLOCATED of the ledger knows all that was given.
 pub fn an_account_is_right()
-    ensures right { (credits : LaneCredits) (gate : CreditGateView) (ledger : CreditLedger) (numbers : Accounts) (queue on_the_way : List Need) (wire : List Dllp) (c : Class) (p : Part) →
+    ensures right { (credits : LaneCredits) (gate : CreditGateView) (ledger : CreditLedger) (numbers : Accounts) (queue on_the_way : List Need)
+        (wire : List Dllp) (c : Class) (p : Part) →
         HasCredit credits gate ledger numbers queue on_the_way wire → 0 < first_of c p credits →
         IsRight p (first_of c p credits) (allowance c p gate) (grant c p ledger) (numbers c p) (demand c p queue) (demand c p on_the_way) }
-    ensures all_known { (credits : LaneCredits) (gate : CreditGateView) (ledger : CreditLedger) (numbers : Accounts) (queue on_the_way : List Need) (wire : List Dllp) (c : Class) (p : Part) →
+    ensures all_known { (credits : LaneCredits) (gate : CreditGateView) (ledger : CreditLedger) (numbers : Accounts) (queue on_the_way : List Need)
+        (wire : List Dllp) (c : Class) (p : Part) →
         HasCredit credits gate ledger numbers queue on_the_way wire → 0 < first_of c p credits → (allowance c p gate).limit ≡ allocated p (grant c p ledger) →
         (numbers c p).known ≡ (numbers c p).given }
 {}

@@ -52,7 +52,9 @@ impl Model for Hall {
 
     ghost view = { λ h. record { table_id = h.board.shared.table_id; config = h.config; opened = h.board.shared.key.opened.value; seats = h.board.shared.key.seats } };
 
-    ghost invariant = { λ h. IsSized h.board.shared.table_id h.config.requesters × (vec_len h.shelves.requesters ≡ 0) × (vec_len h.shelves.up ≡ 0) × (vec_len h.shelves.down ≡ 0) × (h.config.requesters ≤ vec_capacity h.shelves.requesters) × (h.config.requesters ≤ vec_capacity h.shelves.up) × (h.config.requesters ≤ vec_capacity h.shelves.down) };
+    ghost invariant = { λ h. IsSized h.board.shared.table_id h.config.requesters × (vec_len h.shelves.requesters ≡ 0) × (vec_len h.shelves.up ≡ 0) ×
+        (vec_len h.shelves.down ≡ 0) × (h.config.requesters ≤ vec_capacity h.shelves.requesters) × (h.config.requesters ≤ vec_capacity h.shelves.up) ×
+        (h.config.requesters ≤ vec_capacity h.shelves.down) };
 }
 
 impl Hall {
@@ -147,7 +149,8 @@ impl Hall {
     pub fn collect(&self, seat: &mut ReqSeat) -> Result<Option<Answered>, HallRefusal>
         requires { IsSeatOf self.now seat.old }
         ensures seat { IsSeatOf self.now seat.new }
-        ensures collected { IfOk result (λ o. MatchOption o (SeesTells seat.old.knows seat.new.knows) (λ a. CollectTells seat.old.knows a.number a.reply a.n seat.new.knows)) }
+        ensures collected { IfOk result (λ o. MatchOption o (SeesTells seat.old.knows seat.new.knows)
+            (λ a. CollectTells seat.old.knows a.number a.reply a.n seat.new.knows)) }
         ensures refused { IfErr result (λ _. seat.new ≡ seat.old) }
         ensures why { IfErr result (λ r. IsWithAnother seat.old.knows (Collect (seat.old.knows.number + 1)) r) }
         ensures possible { IfErr result (λ r. IsPossibleInHall r) }

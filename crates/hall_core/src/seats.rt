@@ -30,7 +30,8 @@ impl Model for ReqSeat {
 
     ghost view = { λ s. record { table_id = s.place.table_id; knows = (token_of s.place.me.0).knows } };
 
-    ghost invariant = { λ s. IsIdle s.place.me × ((token_of s.place.me.0).knows.number ≡ s.number) × (s.number < (token_of s.place.me.0).knows.config.requesters) × ((token_of s.place.me.0).knows.config.requesters ≤ 7) };
+    ghost invariant = { λ s. IsIdle s.place.me × ((token_of s.place.me.0).knows.number ≡ s.number) ×
+        (s.number < (token_of s.place.me.0).knows.config.requesters) × ((token_of s.place.me.0).knows.config.requesters ≤ 7) };
 }
 
 /// A seat for the other events. It is `Send`, and can be dropped. It is used with the hall that it came from.
@@ -103,7 +104,9 @@ pub fn req_seats(
 ) -> Result<Vec<ReqSeat>, AllocError>
     requires table { (place.old.table_id ≡ steps.now.table_id) × (0 < steps.now.table_id.words) × (config.now.requesters ≤ 7) }
     requires tokens { place.old.me ≡ (newcomers config.now steps.now.key.opened.value steps.now.key.seats 0 (config.now.requesters + work), []) }
-    ensures seats { IfOk result (λ v. AreNewSeats (record { table_id = steps.now.table_id; config = config.now; opened = steps.now.key.opened.value; seats = steps.now.key.seats }) 0 config.now.requesters v.items) }
+    ensures seats { IfOk result (λ v. AreNewSeats
+        (record { table_id = steps.now.table_id; config = config.now; opened = steps.now.key.opened.value; seats = steps.now.key.seats })
+        0 config.now.requesters v.items) }
     ensures rest { IfOk result (λ _. (place.new.table_id ≡ place.old.table_id) ×
         (place.new.me ≡ (newcomers config.now steps.now.key.opened.value steps.now.key.seats config.now.requesters work, []))) }
 {
@@ -142,7 +145,9 @@ pub fn work_seats(
 ) -> Result<Vec<WorkSeat>, AllocError>
     requires table { (place.old.table_id ≡ steps.now.table_id) × (0 < steps.now.table_id.words) × (work ≤ 64) }
     requires tokens { place.old.me ≡ (newcomers config.now steps.now.key.opened.value steps.now.key.seats config.now.requesters work, []) }
-    ensures seats { IfOk result (λ v. AreNewSeats (record { table_id = steps.now.table_id; config = config.now; opened = steps.now.key.opened.value; seats = steps.now.key.seats }) config.now.requesters work v.items) }
+    ensures seats { IfOk result (λ v. AreNewSeats
+        (record { table_id = steps.now.table_id; config = config.now; opened = steps.now.key.opened.value; seats = steps.now.key.seats })
+        config.now.requesters work v.items) }
 {
     let mut seats = Vec::with_capacity(alloc, work)?;
     for index in 0..work {

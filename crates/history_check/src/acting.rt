@@ -90,8 +90,10 @@ fn zeros(alloc: Global) -> Result<Vec<u32>, AllocError>
 pub(crate) fn act<C: AsClaim>(alloc: Global, index: &Index, claim: &C) -> Result<Points, Flaw>
     requires { IsIndex index.now (C.claim claim.now).records }
     ensures points { IfOk result (λ points. ArePoints points (C.claim claim.now).records (C.claim claim.now).memory.entries) }
-    ensures ok { OnOk result (flaw.first_at (flaw.entry_at (C.claim claim.now).records (C.claim claim.now).memory.entries) (length (C.claim claim.now).memory.entries) ≡ None) }
-    ensures err { IfErr result (flaw.Tells (flaw.first_at (flaw.entry_at (C.claim claim.now).records (C.claim claim.now).memory.entries) (length (C.claim claim.now).memory.entries))) }
+    ensures ok { OnOk result (flaw.first_at (flaw.entry_at (C.claim claim.now).records (C.claim claim.now).memory.entries)
+        (length (C.claim claim.now).memory.entries) ≡ None) }
+    ensures err { IfErr result (flaw.Tells (flaw.first_at (flaw.entry_at (C.claim claim.now).records (C.claim claim.now).memory.entries)
+        (length (C.claim claim.now).memory.entries))) }
 {
     if claim.entries() > NONE as usize {
         return Err(NO_MEMORY);

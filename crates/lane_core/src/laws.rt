@@ -124,7 +124,8 @@ pub fn found_within_the_window()
         number ≡ (oldest_unacknowledged credits before + (after_calls (new_lane credits) before).sender.sending.place) % 4096 }
     ensures found { (credits : LaneCredits) (before after : List Call) → AreCalls before →
         deliveries after ≤ length (after_calls (new_lane credits) before).forward →
-        (oldest_unacknowledged credits before ≤ next_accepted credits (before ++ after)) × (next_accepted credits (before ++ after) ≤ next_entered credits before) }
+        (oldest_unacknowledged credits before ≤ next_accepted credits (before ++ after)) ×
+        (next_accepted credits (before ++ after) ≤ next_entered credits before) }
 {
     reading_is_spelling();
 }

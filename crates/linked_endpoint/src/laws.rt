@@ -31,7 +31,8 @@ pub fn each_accepted_request_acts_once()
         (run_in setup ours calls).linked.endpoint.device.bytes ≡
         devices.bytes_by (run_in setup ours calls).start.device.bytes (devices.all_effects (run_in setup ours calls).start (run_in setup ours calls).device_calls) }
     ensures entered { (setup : SetupView) (ours : LaneCredits) (calls : List Call) → AreCalls calls →
-        cargos_of (run_in setup ours calls).completed ≡ (story ours (run_in setup ours calls)).entered ++ cargos_of (list_of (run_in setup ours calls).linked.held) }
+        cargos_of (run_in setup ours calls).completed ≡ (story ours (run_in setup ours calls)).entered ++
+        cargos_of (list_of (run_in setup ours calls).linked.held) }
     ensures sent { (setup : SetupView) (ours : LaneCredits) (calls : List Call) (number : ℕ) → AreCalls calls →
         outgoing_of (run_in setup ours calls).linked.port ≡ Outgoing.Packet number →
         IsEntered (story ours (run_in setup ours calls)).entered number (outgoing_bytes (run_in setup ours calls).linked.port) }

@@ -58,7 +58,8 @@ impl Asked {
         out: &mut Vec<u8>,
     ) -> Result<Verdict, AllocError>
         requires { length digits.now ≤ 512 }
-        ensures ok { IfOk result (λ verdict. IsAnswer self.new out.old.items out.new.items verdict (spec.answer_packet_bytes self.old (decode_of (digits_of digits.now)) good)) }
+        ensures ok { IfOk result (λ verdict. IsAnswer self.new out.old.items out.new.items verdict
+            (spec.answer_packet_bytes self.old (decode_of (digits_of digits.now)) good)) }
         ensures err { OnErr result (out.new.items ≡ out.old.items) }
     {
         if !self.line.read(digits) {
@@ -76,7 +77,8 @@ impl Asked {
         out: &mut Vec<u8>,
     ) -> Result<Verdict, AllocError>
         requires { length digits.now ≤ 512 }
-        ensures ok { IfOk result (λ verdict. IsAnswer self.new out.old.items out.new.items verdict (spec.answer_dllp_bytes self.old (decode_of (digits_of digits.now)) good)) }
+        ensures ok { IfOk result (λ verdict. IsAnswer self.new out.old.items out.new.items verdict
+            (spec.answer_dllp_bytes self.old (decode_of (digits_of digits.now)) good)) }
         ensures err { OnErr result (out.new.items ≡ out.old.items) }
     {
         if !self.line.read(digits) {
@@ -88,7 +90,8 @@ impl Asked {
     /// Answers what stands behind `packet`.
     fn answer_packet(&mut self, line: &[u8], out: &mut Vec<u8>) -> Result<Verdict, AllocError>
         requires { length line.now ≤ 512 }
-        ensures ok { IfOk result (λ verdict. IsAnswer self.new out.old.items out.new.items verdict (spec.answer_packet self.old (marked self.old.has_crc line.now))) }
+        ensures ok { IfOk result (λ verdict. IsAnswer self.new out.old.items out.new.items verdict
+            (spec.answer_packet self.old (marked self.old.has_crc line.now))) }
         ensures err { OnErr result (out.new.items ≡ out.old.items) }
     {
         match marked(self.has_crc(), line) {
@@ -100,7 +103,8 @@ impl Asked {
     /// Answers what stands behind `dllp`.
     fn answer_dllp(&mut self, line: &[u8], out: &mut Vec<u8>) -> Result<Verdict, AllocError>
         requires { length line.now ≤ 512 }
-        ensures ok { IfOk result (λ verdict. IsAnswer self.new out.old.items out.new.items verdict (spec.answer_dllp self.old (marked self.old.has_crc line.now))) }
+        ensures ok { IfOk result (λ verdict. IsAnswer self.new out.old.items out.new.items verdict
+            (spec.answer_dllp self.old (marked self.old.has_crc line.now))) }
         ensures err { OnErr result (out.new.items ≡ out.old.items) }
     {
         match marked(self.has_crc(), line) {

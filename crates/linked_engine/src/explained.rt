@@ -83,8 +83,10 @@ pub fn run_linked_with_reasons<R: Read, W: Write, E: Write>(
     writer: &mut W,
     errors: &mut E,
 ) -> Result<u8, EngineFault>
-    ensures ok { IfOk result (IsWhole (spec.out_linked options.device.setup options.credits options.has_crc options.device.is_traced) (R.remaining reader.old) (R.remaining reader.new) (W.contents writer.old) (W.contents writer.new)) }
-    ensures err { OnErr result (IsPart (spec.out_linked options.device.setup options.credits options.has_crc options.device.is_traced) (R.remaining reader.old) (R.remaining reader.new) (W.contents writer.old) (W.contents writer.new)) }
+    ensures ok { IfOk result (IsWhole (spec.out_linked options.device.setup options.credits options.has_crc options.device.is_traced)
+        (R.remaining reader.old) (R.remaining reader.new) (W.contents writer.old) (W.contents writer.new)) }
+    ensures err { OnErr result (IsPart (spec.out_linked options.device.setup options.credits options.has_crc options.device.is_traced)
+        (R.remaining reader.old) (R.remaining reader.new) (W.contents writer.old) (W.contents writer.new)) }
     ensures read { IfErr result (λ f. f ≡ EngineFault.Read →
         IsCaughtUp spec.link_responses (spec.new_lines options.device.setup options.credits options.has_crc options.device.is_traced) (R.remaining reader.old) (R.remaining reader.new) (W.contents writer.old) (W.contents writer.new)) }
 {
@@ -107,8 +109,10 @@ pub fn run_linked<R: Read, W: Write>(
     reader: &mut R,
     writer: &mut W,
 ) -> Result<u8, EngineFault>
-    ensures ok { IfOk result (IsWhole (spec.out_linked options.device.setup options.credits options.has_crc options.device.is_traced) (R.remaining reader.old) (R.remaining reader.new) (W.contents writer.old) (W.contents writer.new)) }
-    ensures err { OnErr result (IsPart (spec.out_linked options.device.setup options.credits options.has_crc options.device.is_traced) (R.remaining reader.old) (R.remaining reader.new) (W.contents writer.old) (W.contents writer.new)) }
+    ensures ok { IfOk result (IsWhole (spec.out_linked options.device.setup options.credits options.has_crc options.device.is_traced)
+        (R.remaining reader.old) (R.remaining reader.new) (W.contents writer.old) (W.contents writer.new)) }
+    ensures err { OnErr result (IsPart (spec.out_linked options.device.setup options.credits options.has_crc options.device.is_traced)
+        (R.remaining reader.old) (R.remaining reader.new) (W.contents writer.old) (W.contents writer.new)) }
     ensures read { IfErr result (λ f. f ≡ EngineFault.Read →
         IsCaughtUp spec.link_responses (spec.new_lines options.device.setup options.credits options.has_crc options.device.is_traced) (R.remaining reader.old) (R.remaining reader.new) (W.contents writer.old) (W.contents writer.new)) }
 {

@@ -34,7 +34,8 @@ pub fn the_trace_behind_a_link_is_ok()
     ensures tellable { (s : SetupView) (ours : LaneCredits) (has_crc : Bool) (input : List ℕ) (l : LogView) →
         is_size s.size ≡ true → (asked s ours has_crc input).log ≡ Some l → IsCounted l → IsTellable l.claim }
     ensures ok { (s : SetupView) (ours : LaneCredits) (has_crc : Bool) (input : List ℕ) (l : LogView) →
-        is_size s.size ≡ true → (asked s ours has_crc input).log ≡ Some l → IsCounted l → (out_check_clocked (trace_after s ours has_crc input)).text ≡ codes "ok\n" }
+        is_size s.size ≡ true → (asked s ours has_crc input).log ≡ Some l → IsCounted l →
+        (out_check_clocked (trace_after s ours has_crc input)).text ≡ codes "ok\n" }
     ensures status { (s : SetupView) (ours : LaneCredits) (has_crc : Bool) (input : List ℕ) (l : LogView) →
         is_size s.size ≡ true → (asked s ours has_crc input).log ≡ Some l → IsCounted l → (out_check_clocked (trace_after s ours has_crc input)).status ≡ 0 }
 {

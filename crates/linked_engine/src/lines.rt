@@ -155,7 +155,8 @@ impl Lines {
 
     /// A packet with its LCRC arrives.
     fn come_checked(&mut self, bytes: &[u8], out: &mut Vec<u8>) -> Result<Verdict, AllocError>
-        ensures ok { IfOk result (λ verdict. IsAnswer self.new out.old.items out.new.items verdict (spec.answer_checked self.old (lcrc_check_of bytes.now) (without_last 4 bytes.now))) }
+        ensures ok { IfOk result (λ verdict. IsAnswer self.new out.old.items out.new.items verdict
+            (spec.answer_checked self.old (lcrc_check_of bytes.now) (without_last 4 bytes.now))) }
         ensures err { OnErr result (out.new.items ≡ out.old.items) }
     {
         match check_packet(bytes) {

@@ -175,7 +175,8 @@ fn complete_all(
     requires { ArePartners memory.now.partners.now store.old.records }
     ensures memory { store.new.memory ≡ store.old.memory }
     ensures ok { OnOk result (store.new.records ≡ map (completed memory.now.extent bytes.old (history_of store.old.records steps.now)) store.old.records) }
-    ensures err { OnErr result ((n : ℕ) × (store.new.records ≡ map (completed memory.now.extent bytes.old (history_of store.old.records (take n steps.now))) store.old.records)) }
+    ensures err { OnErr result ((n : ℕ) × (store.new.records ≡
+        map (completed memory.now.extent bytes.old (history_of store.old.records (take n steps.now))) store.old.records)) }
 {
     for at in 0..steps.len() {
         step_on(store, bytes, memory, steps[at])?;

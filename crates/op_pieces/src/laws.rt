@@ -22,7 +22,8 @@ pub fn pieces_act_as_their_request()
         fold (left_by x) m (take j (cut b (dw_of op) op)) ≡ m }
     ensures replied { (x : Extent) (b : ℕ) (m : List ℕ) (op piece : Op) (j : ℕ) (part : Reply) → length m ≡ x.size → is_served x op ≡ true →
         list_all (is_served x) (cut b (dw_of op) op) ≡ true → is_posted op ≡ false →
-        slice_get (cut b (dw_of op) op) j ≡ Some piece → slice_get (parts (cut b (dw_of op) op) (answer x.base x.block m op)) j ≡ Some part → answer x.base x.block m piece ≡ part }
+        slice_get (cut b (dw_of op) op) j ≡ Some piece → slice_get (parts (cut b (dw_of op) op) (answer x.base x.block m op)) j ≡ Some part →
+        answer x.base x.block m piece ≡ part }
 {
     only_the_place_changes();
     refused_and_read_change_nothing();

@@ -70,9 +70,11 @@ pub fn no_more_is_held_than_was_advertised()
     ensures allocated_units { (ours : LaneCredits) (calls : List Call) (class : Class) → IsInLimits ours → AreCalls calls →
         allocated_units class (story_in ours calls) ≡ ((first_of ours class).units + units_in class (story_in ours calls).freed) % 4096 }
     ensures received_headers { (ours : LaneCredits) (calls : List Call) (class : Class) → IsInLimits ours → AreCalls calls →
-        (ledger_of class (story_in ours calls).port.incoming.ledger).header.received ≡ (headers_in class (story_in ours calls).held + headers_in class (story_in ours calls).freed) % 256 }
+        (ledger_of class (story_in ours calls).port.incoming.ledger).header.received ≡
+        (headers_in class (story_in ours calls).held + headers_in class (story_in ours calls).freed) % 256 }
     ensures received_units { (ours : LaneCredits) (calls : List Call) (class : Class) → IsInLimits ours → AreCalls calls →
-        (ledger_of class (story_in ours calls).port.incoming.ledger).units.received ≡ (units_in class (story_in ours calls).held + units_in class (story_in ours calls).freed) % 4096 }
+        (ledger_of class (story_in ours calls).port.incoming.ledger).units.received ≡
+        (units_in class (story_in ours calls).held + units_in class (story_in ours calls).freed) % 4096 }
 {
     bytes_spell_one_dllp();
 }

@@ -82,7 +82,8 @@ pub fn are_apart(one: &OpRef<'_>, other: &OpRef<'_>) -> bool
 /// Of two ranges, each with its first address and its number of bytes, no address is in both.
 #[inline(always)]
 pub fn lie_apart(one: (u64, u32), other: (u64, u32)) -> bool
-    ensures { IsTrue result → (op w : Op) → address_of op ≡ one.0 → count_of op ≡ one.1 → address_of w ≡ other.0 → count_of w ≡ other.1 → effects.AreApart op w }
+    ensures { IsTrue result → (op w : Op) → address_of op ≡ one.0 → count_of op ≡ one.1 → address_of w ≡ other.0 → count_of w ≡ other.1 →
+        effects.AreApart op w }
 {
     if one.0 <= other.0 {
         u64::from(one.1) <= other.0 - one.0

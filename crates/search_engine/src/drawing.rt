@@ -122,8 +122,10 @@ pub fn run_search_drawn<C: Clock, R: Read, W: Write, E: Write>(
     writer: &mut W,
     errors: &mut E,
 ) -> Result<u8, EngineFault>
-    ensures ok { IfOk result (IsWholeDrawn task.entry.demand.options.granularity (bounds_of task.entry.demand) (R.remaining reader.old) (R.remaining reader.new) (W.contents writer.old) (W.contents writer.new)) }
-    ensures err { OnErr result (IsPartDrawn task.entry.demand.options.granularity (bounds_of task.entry.demand) (R.remaining reader.old) (R.remaining reader.new) (W.contents writer.old) (W.contents writer.new)) }
+    ensures ok { IfOk result (IsWholeDrawn task.entry.demand.options.granularity (bounds_of task.entry.demand) (R.remaining reader.old)
+        (R.remaining reader.new) (W.contents writer.old) (W.contents writer.new)) }
+    ensures err { OnErr result (IsPartDrawn task.entry.demand.options.granularity (bounds_of task.entry.demand) (R.remaining reader.old)
+        (R.remaining reader.new) (W.contents writer.old) (W.contents writer.new)) }
 {
     let SearchTask { demand, clock } = task;
     let text = read_rest(alloc, reader)?;

@@ -64,7 +64,8 @@ fn answered<C: Clock, E: Write>(
     clock: &C,
     errors: &mut E,
 ) -> Result<Answer, AllocError>
-    ensures answers { IfOk result (λ a. OutSearchFor demand.has_core demand.options.granularity (bounds_of demand) text.items (text_of a.outcome.text) a.outcome.status) }
+    ensures answers { IfOk result (λ a. OutSearchFor demand.has_core demand.options.granularity (bounds_of demand) text.items
+        (text_of a.outcome.text) a.outcome.status) }
     ensures ending { IfOk result (λ a. TellsEnding (bounds_of demand) a.outcome.ending (text_of a.outcome.text) a.outcome.status) }
 {
     let finding = find(alloc, &text, demand, clock, errors)?;
@@ -102,8 +103,10 @@ pub fn run_search_for<C: Clock, R: Read, W: Write, E: Write>(
     writer: &mut W,
     errors: &mut E,
 ) -> Result<u8, EngineFault>
-    ensures ok { IfOk result (IsWholeFor task.entry.demand.has_core task.entry.demand.options.granularity (bounds_of task.entry.demand) (R.remaining reader.old) (R.remaining reader.new) (W.contents writer.old) (W.contents writer.new)) }
-    ensures err { OnErr result (IsPartFor task.entry.demand.has_core task.entry.demand.options.granularity (bounds_of task.entry.demand) (R.remaining reader.old) (R.remaining reader.new) (W.contents writer.old) (W.contents writer.new)) }
+    ensures ok { IfOk result (IsWholeFor task.entry.demand.has_core task.entry.demand.options.granularity (bounds_of task.entry.demand)
+        (R.remaining reader.old) (R.remaining reader.new) (W.contents writer.old) (W.contents writer.new)) }
+    ensures err { OnErr result (IsPartFor task.entry.demand.has_core task.entry.demand.options.granularity (bounds_of task.entry.demand)
+        (R.remaining reader.old) (R.remaining reader.new) (W.contents writer.old) (W.contents writer.new)) }
 {
     let SearchTask { demand, clock } = task;
     let text = read_rest(alloc, reader)?;
@@ -124,8 +127,10 @@ pub fn run_search_with<R: Read, W: Write, E: Write>(
     writer: &mut W,
     errors: &mut E,
 ) -> Result<u8, EngineFault>
-    ensures ok { IfOk result (IsWholeWith options.granularity options.limit (R.remaining reader.old) (R.remaining reader.new) (W.contents writer.old) (W.contents writer.new)) }
-    ensures err { OnErr result (IsPartWith options.granularity options.limit (R.remaining reader.old) (R.remaining reader.new) (W.contents writer.old) (W.contents writer.new)) }
+    ensures ok { IfOk result (IsWholeWith options.granularity options.limit (R.remaining reader.old) (R.remaining reader.new) (W.contents writer.old)
+        (W.contents writer.new)) }
+    ensures err { OnErr result (IsPartWith options.granularity options.limit (R.remaining reader.old) (R.remaining reader.new)
+        (W.contents writer.old) (W.contents writer.new)) }
 {
     let task = SearchTask {
         demand: options.plain(),

@@ -228,7 +228,8 @@ pub fn reasons_of(alloc: Global, case: Case<'_>, limit: u64) -> Result<Reasons, 
     ensures explained { IfOk result (λ r. IfSome r.before (λ b. IsExplainedBefore case.entry.searched.seen.now case.entry.searched.count b.count)) }
     ensures next { IfOk result (λ r. IfSome r.before (λ b. b.count + 1 ≡ case.entry.searched.count)) }
     ensures expected { IfOk result (λ r. IfSome r.before (λ b. IfSome b.expected (IsExpected case.entry.searched.seen.now b.count))) }
-    ensures answers { IfOk result (λ r. IsTold case.entry.searched.seen.now case.entry.searched.count (observed case.entry.read.seen.now) case.entry.read.seen.now.records r.why) }
+    ensures answers { IfOk result (λ r. IsTold case.entry.searched.seen.now case.entry.searched.count
+        (observed case.entry.read.seen.now) case.entry.read.seen.now.records r.why) }
 {
     let before = explained(alloc, case.searched, limit)?;
     if is_misformed(alloc, case.read)? {

@@ -347,7 +347,8 @@ impl Words {
         requires word { word < 262144 }
         ensures keeps { OnOk result (Keeps self.old self.new) }
         ensures rise { OnOk result (AllRise self.new judged.entry.request.b) }
-        ensures own { OnOk result (IsKnownAt log.now.extent self.new judged.entry.request.b judged.entry.request.op.now (told_of judged.entry.request.told) word) }
+        ensures own { OnOk result (IsKnownAt log.now.extent self.new judged.entry.request.b judged.entry.request.op.now
+            (told_of judged.entry.request.told) word) }
     {
         let Request { b, op, told } = judged.request;
         self.add_name(alloc, word, b)?;

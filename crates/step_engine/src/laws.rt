@@ -45,11 +45,14 @@ pub fn what_a_script_does_is_explained()
 /// tell that trace.
 pub fn what_a_script_does_is_ok()
     ensures ok { (keeps_going echoes : Bool) (input : List ℕ) (p : Progress) →
-        RunsThrough keeps_going input p → IsTellable (claim_with p.fabric p.records) → (out_check (out_step_with (traced keeps_going echoes) input).text).text ≡ codes "ok\n" }
+        RunsThrough keeps_going input p → IsTellable (claim_with p.fabric p.records) →
+        (out_check (out_step_with (traced keeps_going echoes) input).text).text ≡ codes "ok\n" }
     ensures status { (keeps_going echoes : Bool) (input : List ℕ) (p : Progress) →
-        RunsThrough keeps_going input p → IsTellable (claim_with p.fabric p.records) → (out_check (out_step_with (traced keeps_going echoes) input).text).status ≡ 0 }
+        RunsThrough keeps_going input p → IsTellable (claim_with p.fabric p.records) →
+        (out_check (out_step_with (traced keeps_going echoes) input).text).status ≡ 0 }
     ensures clocked { (keeps_going echoes : Bool) (input : List ℕ) (p : Progress) →
-        RunsThrough keeps_going input p → IsTellable (claim_with p.fabric p.records) → (out_check_clocked (out_step_with (traced keeps_going echoes) input).text).text ≡ codes "ok\n" }
+        RunsThrough keeps_going input p → IsTellable (claim_with p.fabric p.records) →
+        (out_check_clocked (out_step_with (traced keeps_going echoes) input).text).text ≡ codes "ok\n" }
 {
     a_clocked_trace_is_ok();
     what_a_script_does_is_explained();
@@ -77,7 +80,8 @@ pub fn a_traced_script_is_explained()
 /// the script's run with `--trace` writes, if lines can tell that trace.
 pub fn a_traced_script_is_ok()
     ensures ok { (input : List ℕ) (c : Config) (f f' : Fabric) (events : List Event) (rs : List Record) →
-        IsScript input c events → IsNewWith c f → Runs f events rs f' → IsTellable (claim_with f' rs) → (out_check (out_step true input).text).text ≡ codes "ok\n" }
+        IsScript input c events → IsNewWith c f → Runs f events rs f' → IsTellable (claim_with f' rs) →
+        (out_check (out_step true input).text).text ≡ codes "ok\n" }
     ensures status { (input : List ℕ) (c : Config) (f f' : Fabric) (events : List Event) (rs : List Record) →
         IsScript input c events → IsNewWith c f → Runs f events rs f' → IsTellable (claim_with f' rs) → (out_check (out_step true input).text).status ≡ 0 }
 {

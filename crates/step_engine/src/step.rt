@@ -199,7 +199,8 @@ impl Stepper {
         out: &mut Vec<u8>,
     ) -> Result<Verdict, AllocError>
         requires { array_string_len text.old ≤ 320 }
-        ensures ok { IfOk result (λ verdict. IsAnswer self.new out.old.items out.new.items verdict (spec.passes self.old (spec.shown self.old line.now text.old.bytes))) }
+        ensures ok { IfOk result (λ verdict. IsAnswer self.new out.old.items out.new.items verdict
+            (spec.passes self.old (spec.shown self.old line.now text.old.bytes))) }
         ensures err { OnErr result (out.new.items ≡ out.old.items) }
     {
         if !self.options.is_traced {
@@ -217,7 +218,8 @@ impl Stepper {
         out: &mut Vec<u8>,
     ) -> Result<Verdict, AllocError>
         requires { array_string_len text.old ≤ 320 }
-        ensures ok { IfOk result (λ verdict. IsAnswer self.new out.old.items out.new.items verdict (spec.ends self.old (spec.shown self.old line.now text.old.bytes))) }
+        ensures ok { IfOk result (λ verdict. IsAnswer self.new out.old.items out.new.items verdict
+            (spec.ends self.old (spec.shown self.old line.now text.old.bytes))) }
         ensures err { OnErr result (out.new.items ≡ out.old.items) }
     {
         self.put(line, text, out)?;
@@ -299,7 +301,8 @@ impl Stepper {
         room: &mut Answer,
         out: &mut Vec<u8>,
     ) -> Result<Verdict, AllocError>
-        ensures ok { IfOk result (λ verdict. IsAnswer self.new out.old.items out.new.items verdict (spec.happened self.old line.now self.old.fabric event.now)) }
+        ensures ok { IfOk result (λ verdict. IsAnswer self.new out.old.items out.new.items verdict
+            (spec.happened self.old line.now self.old.fabric event.now)) }
         ensures err { OnErr result (out.new.items ≡ out.old.items) }
     {
         let number = self.next_line();
@@ -454,8 +457,10 @@ pub fn run_step_with<R: Read, W: Write>(
     reader: &mut R,
     writer: &mut W,
 ) -> Result<u8, EngineFault>
-    ensures ok { IfOk result (IsWhole (spec.out_step_with options) (R.remaining reader.old) (R.remaining reader.new) (W.contents writer.old) (W.contents writer.new)) }
-    ensures err { OnErr result (IsPart (spec.out_step_with options) (R.remaining reader.old) (R.remaining reader.new) (W.contents writer.old) (W.contents writer.new)) }
+    ensures ok { IfOk result (IsWhole (spec.out_step_with options) (R.remaining reader.old) (R.remaining reader.new) (W.contents writer.old)
+        (W.contents writer.new)) }
+    ensures err { OnErr result (IsPart (spec.out_step_with options) (R.remaining reader.old) (R.remaining reader.new) (W.contents writer.old)
+        (W.contents writer.new)) }
     ensures read { IfErr result (λ f. f ≡ EngineFault.Read →
         IsCaughtUp spec.step_responses (spec.new_script options) (R.remaining reader.old) (R.remaining reader.new) (W.contents writer.old) (W.contents writer.new)) }
 {
@@ -469,8 +474,10 @@ pub fn run_step<R: Read, W: Write>(
     reader: &mut R,
     writer: &mut W,
 ) -> Result<u8, EngineFault>
-    ensures ok { IfOk result (IsWhole (spec.out_step is_traced) (R.remaining reader.old) (R.remaining reader.new) (W.contents writer.old) (W.contents writer.new)) }
-    ensures err { OnErr result (IsPart (spec.out_step is_traced) (R.remaining reader.old) (R.remaining reader.new) (W.contents writer.old) (W.contents writer.new)) }
+    ensures ok { IfOk result (IsWhole (spec.out_step is_traced) (R.remaining reader.old) (R.remaining reader.new) (W.contents writer.old)
+        (W.contents writer.new)) }
+    ensures err { OnErr result (IsPart (spec.out_step is_traced) (R.remaining reader.old) (R.remaining reader.new) (W.contents writer.old)
+        (W.contents writer.new)) }
     ensures read { IfErr result (λ f. f ≡ EngineFault.Read →
         IsCaughtUp spec.step_responses (spec.new_script (plain is_traced)) (R.remaining reader.old) (R.remaining reader.new) (W.contents writer.old) (W.contents writer.new)) }
 {

@@ -24,7 +24,8 @@ pub fn forward_ends(
     ensures no_credits { (item : Item) → slice_get from.old.queue place ≡ Some item → IsTrue (is_takeable from.old.queue place) →
         (result ≡ Err (ForwardRefusal.Lane (LaneRefusal.NoCredits (need_of item.0).class))) ↔ (gate_covers to.old.gate (need_of item.0) ≡ false) }
     ensures full { (item : Item) → slice_get from.old.queue place ≡ Some item → IsTrue (is_takeable from.old.queue place) →
-        (result ≡ Err (ForwardRefusal.Lane LaneRefusal.WindowFull)) ↔ (IsTrue (gate_covers to.old.gate (need_of item.0)) × (2047 ≤ length to.old.sending.kept)) }
+        (result ≡ Err (ForwardRefusal.Lane LaneRefusal.WindowFull)) ↔ (IsTrue (gate_covers to.old.gate (need_of item.0)) ×
+        (2047 ≤ length to.old.sending.kept)) }
     ensures class { (c : Class) → result ≡ Err (ForwardRefusal.Lane (LaneRefusal.NoCredits c)) →
         (item : Item) × (slice_get from.old.queue place ≡ Some item) × (c ≡ (need_of item.0).class) }
     ensures lacks { (refusal : LaneRefusal) → result ≡ Err (ForwardRefusal.Lane refusal) →
@@ -51,7 +52,8 @@ pub fn forward(from: &mut Lane, place: usize, to: &mut Lane) -> Result<(), Forwa
     ensures no_credits { (item : Item) → slice_get from.old.receiver.queue place ≡ Some item → IsTrue (is_takeable from.old.receiver.queue place) →
         (result ≡ Err (ForwardRefusal.Lane (LaneRefusal.NoCredits (need_of item.0).class))) ↔ (gate_covers to.old.sender.gate (need_of item.0) ≡ false) }
     ensures full { (item : Item) → slice_get from.old.receiver.queue place ≡ Some item → IsTrue (is_takeable from.old.receiver.queue place) →
-        (result ≡ Err (ForwardRefusal.Lane LaneRefusal.WindowFull)) ↔ (IsTrue (gate_covers to.old.sender.gate (need_of item.0)) × (2047 ≤ length to.old.sender.sending.kept)) }
+        (result ≡ Err (ForwardRefusal.Lane LaneRefusal.WindowFull)) ↔ (IsTrue (gate_covers to.old.sender.gate (need_of item.0)) ×
+        (2047 ≤ length to.old.sender.sending.kept)) }
     ensures class { (c : Class) → result ≡ Err (ForwardRefusal.Lane (LaneRefusal.NoCredits c)) →
         (item : Item) × (slice_get from.old.receiver.queue place ≡ Some item) × (c ≡ (need_of item.0).class) }
     ensures lacks { (refusal : LaneRefusal) → result ≡ Err (ForwardRefusal.Lane refusal) →

@@ -138,7 +138,8 @@ fn put_rest(out: &mut ArrayVec<u8, MAX_HEADER>, requester: u16, tag: u8, body: B
 fn front(header: &Header) -> [u8; 4]
     requires tc { header.now.tc < 8 }
     requires attr { header.now.attr < 8 }
-    ensures { result ≡ code_of header.now.kind header.now.body ∷ (header.now.tc * 16 + header.now.attr / 4 * 4) ∷ (header.now.attr % 4 * 16 + header.now.length % 1024 / 256) ∷ (header.now.length % 256) ∷ [] }
+    ensures { result ≡ code_of header.now.kind header.now.body ∷ (header.now.tc * 16 + header.now.attr / 4 * 4) ∷
+        (header.now.attr % 4 * 16 + header.now.length % 1024 / 256) ∷ (header.now.length % 256) ∷ [] }
 {
     [
         first_byte(header.kind, header.body),

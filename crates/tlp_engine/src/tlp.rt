@@ -143,7 +143,8 @@ impl Device {
         room: &mut Room,
         out: &mut Vec<u8>,
     ) -> Result<Verdict, AllocError>
-        ensures ok { IfOk result (λ verdict. IsAnswer self.new out.old.items out.new.items verdict (answer_request without_history self.old request.now (slice_index self.old.counts (request.now.requester / 256)))) }
+        ensures ok { IfOk result (λ verdict. IsAnswer self.new out.old.items out.new.items verdict
+            (answer_request without_history self.old request.now (slice_index self.old.counts (request.now.requester / 256)))) }
         ensures err { OnErr result (out.new.items ≡ out.old.items) }
     {
         let number = self.count(request);
@@ -181,7 +182,8 @@ impl Device {
         room: &mut Room,
         out: &mut Vec<u8>,
     ) -> Result<Verdict, AllocError>
-        ensures ok { IfOk result (λ verdict. IsAnswer self.new out.old.items out.new.items verdict (answer_reading without_history self.old (reading bytes.now))) }
+        ensures ok { IfOk result (λ verdict. IsAnswer self.new out.old.items out.new.items verdict
+            (answer_reading without_history self.old (reading bytes.now))) }
         ensures err { OnErr result (out.new.items ≡ out.old.items) }
     {
         match decode_lent(bytes) {

@@ -94,9 +94,11 @@ impl<E: Write + Drop> TraceReasons<E> {
         lines: &TraceLines,
     ) -> Result<(), EngineFault>
         ensures told { self.new.told ≡ self.old.told }
-        ensures errors { OnOk result (IsReasonToldAt (line_of_flaw lines.now (length (C.claim claim.now).records) flaw.kind flaw.place) self.old.errors self.new.errors) }
+        ensures errors { OnOk result (IsReasonToldAt (line_of_flaw lines.now
+            (length (C.claim claim.now).records) flaw.kind flaw.place) self.old.errors self.new.errors) }
         ensures fault { IfErr result (λ f. f ≡ EngineFault.Write) }
-        ensures part { OnErr result (IsReasonBegunAt (line_of_flaw lines.now (length (C.claim claim.now).records) flaw.kind flaw.place) self.old.errors self.new.errors) }
+        ensures part { OnErr result (IsReasonBegunAt (line_of_flaw lines.now
+            (length (C.claim claim.now).records) flaw.kind flaw.place) self.old.errors self.new.errors) }
     {
         let reason = flaw_reason(alloc, claim, flaw, lines);
         let line = line_of(flaw, claim, lines);

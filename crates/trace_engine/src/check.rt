@@ -43,7 +43,8 @@ fn tell_ok(out: &mut Vec<u8>) -> Result<Verdict, AllocError>
 /// Adds the line of a trace that the history explains, whose `n` have that flaw: it is told in the line only
 /// if it is asked for.
 fn tell_clock(flaw: Flaw, is_clocked: bool, out: &mut Vec<u8>) -> Result<Verdict, AllocError>
-    ensures ok { IfOk result (λ verdict. IsAnswer nothing_read out.old.items out.new.items verdict (judged (if_clocked is_clocked (Some (flaw.kind, flaw.place))))) }
+    ensures ok { IfOk result (λ verdict. IsAnswer nothing_read out.old.items out.new.items verdict
+        (judged (if_clocked is_clocked (Some (flaw.kind, flaw.place))))) }
     ensures err { OnErr result (out.new.items ≡ out.old.items) }
 {
     if is_clocked {
@@ -204,8 +205,10 @@ pub fn run_check_with<R: Read, W: Write, E: Write>(
     writer: &mut W,
     errors: &mut E,
 ) -> Result<u8, EngineFault>
-    ensures ok { IfOk result (IsWhole (out_check_with is_clocked) (R.remaining reader.old) (R.remaining reader.new) (W.contents writer.old) (W.contents writer.new)) }
-    ensures err { OnErr result (IsPart (out_check_with is_clocked) (R.remaining reader.old) (R.remaining reader.new) (W.contents writer.old) (W.contents writer.new)) }
+    ensures ok { IfOk result (IsWhole (out_check_with is_clocked) (R.remaining reader.old) (R.remaining reader.new) (W.contents writer.old)
+        (W.contents writer.new)) }
+    ensures err { OnErr result (IsPart (out_check_with is_clocked) (R.remaining reader.old) (R.remaining reader.new) (W.contents writer.old)
+        (W.contents writer.new)) }
 {
     let checker = Checker::new(alloc, errors);
     if is_clocked {

@@ -30,7 +30,8 @@ pub(crate) struct KeptOp<'a> {
 pub(crate) fn is_same_op(left: KeptOp<'_>, right: KeptOp<'_>) -> bool
     requires left { HasOp left.bytes.now left.kind left.fields.now }
     requires right { HasOp right.bytes.now right.kind right.fields.now }
-    ensures { result ≡ flaw.same_op (op_in left.entry.bytes.now left.entry.kind left.entry.fields.now) (op_in right.entry.bytes.now right.entry.kind right.entry.fields.now) }
+    ensures { result ≡ flaw.same_op (op_in left.entry.bytes.now left.entry.kind left.entry.fields.now)
+        (op_in right.entry.bytes.now right.entry.kind right.entry.fields.now) }
 {
     let fields = left.fields;
     let others = right.fields;

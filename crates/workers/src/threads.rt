@@ -38,7 +38,8 @@ impl<'a> Promise<Ended> for Keeps<'a> {
     ghost use Rattle.worker_requester.specs.Following.{Finishes};
     ghost use Rattle.std.specs.Prelude.{◌≡◌, suc, IfNone};
 
-    ghost kept_by = { λ p r. IsSeatOf p.hall.now r.seat × (suc r.seat.knows.number ≡ p.requester) × (r.pusher.queue ≡ p.recorder.now) × (r.pusher.pushed.requester ≡ p.requester) × IfNone r.stop (Finishes p.script.now r.pusher.pushed × (r.pusher.pushed.records ≡ r.seat.knows.records)) };
+    ghost kept_by = { λ p r. IsSeatOf p.hall.now r.seat × (suc r.seat.knows.number ≡ p.requester) × (r.pusher.queue ≡ p.recorder.now) ×
+        (r.pusher.pushed.requester ≡ p.requester) × IfNone r.stop (Finishes p.script.now r.pusher.pushed × (r.pusher.pushed.records ≡ r.seat.knows.records)) };
 }
 
 /// What a requester's thread does.
