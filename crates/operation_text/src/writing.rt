@@ -79,19 +79,36 @@ fn put_two(number: u8, out: &mut ArrayString<512>)
     write_octet(number / 10 * 16 + number % 10, out);
 }
 
+/// Adds the digits of a number below 100, which fit.
+#[inline(always)]
+fn put_small(number: u8, out: &mut ArrayString<512>)
+    requires number { number < 100 }
+    requires room { array_string_len out.old + length (decimal number) ≤ 512 }
+    ensures { out.new.bytes ≡ out.old.bytes ++ decimal number }
+{
+    if number >= 10 {
+        put_two(number, out);
+    } else {
+        put_one(number, out);
+    }
+}
+
 /// Adds the number's digits, which fit.
 fn put_decimal(number: u64, out: &mut ArrayString<512>)
     requires { array_string_len out.old + length (decimal number) ≤ 512 }
     ensures { out.new.bytes ≡ out.old.bytes ++ decimal number }
 {
-    if number >= 100 {
-        put_decimal(number / 100, out);
-        put_two((number % 100) as u8, out);
-    } else if number >= 10 {
-        put_two(number as u8, out);
-    } else {
-        put_one(number as u8, out);
+    if number < 100 {
+        put_small(number as u8, out);
+        return;
     }
+    let front = number / 100;
+    if front < 100 {
+        put_small(front as u8, out);
+    } else {
+        put_decimal(front, out);
+    }
+    put_two((number % 100) as u8, out);
 }
 
 /// Adds the number in decimal, without leading zeros.

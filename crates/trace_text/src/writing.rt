@@ -52,9 +52,9 @@ fn put_memory(extent: Extent, line: &mut ArrayString<512>)
 
 /// Writes the line of a record.
 #[inline(always)]
-fn put_record(seen: &RecordRef<'_>, line: &mut ArrayString<512>)
+fn put_record(seen: RecordRef<'_>, line: &mut ArrayString<512>)
     requires { array_string_len line.old ≡ 0 }
-    ensures { line.new.bytes ≡ record_line seen.now ++ 10 ∷ [] }
+    ensures { line.new.bytes ≡ record_line seen.entry ++ 10 ∷ [] }
 {
     match seen {
         RecordRef::Sub {
@@ -63,9 +63,9 @@ fn put_record(seen: &RecordRef<'_>, line: &mut ArrayString<512>)
             op,
             n,
         } => {
-            put_request("sub ", *requester, *number, line);
-            put_count(*n, line);
-            write_op(op, line);
+            put_request("sub ", requester, number, line);
+            put_count(n, line);
+            write_op(&op, line);
         }
         RecordRef::Ans {
             requester,
@@ -73,9 +73,9 @@ fn put_record(seen: &RecordRef<'_>, line: &mut ArrayString<512>)
             reply,
             n,
         } => {
-            put_request("ans ", *requester, *number, line);
-            put_count(*n, line);
-            write_reply(reply, line);
+            put_request("ans ", requester, number, line);
+            put_count(n, line);
+            write_reply(&reply, line);
         }
     }
     line.push_str("\n");
@@ -83,13 +83,18 @@ fn put_record(seen: &RecordRef<'_>, line: &mut ArrayString<512>)
 
 /// Writes the line of an entry.
 #[inline(always)]
-fn put_entry(entry: &EntryRef<'_>, line: &mut ArrayString<512>)
+fn put_entry(entry: EntryRef<'_>, line: &mut ArrayString<512>)
     requires { array_string_len line.old ≡ 0 }
-    ensures { line.new.bytes ≡ entry_line entry.now ++ 10 ∷ [] }
+    ensures { line.new.bytes ≡ entry_line entry.entry ++ 10 ∷ [] }
 {
-    put_request("ent ", entry.requester, entry.number, line);
+    let EntryRef {
+        requester,
+        number,
+        op,
+    } = entry;
+    put_request("ent ", requester, number, line);
     line.push_str(" ");
-    write_op(&entry.op, line);
+    write_op(&op, line);
     line.push_str("\n");
 }
 
@@ -127,7 +132,7 @@ fn add_records<C: AsClaim>(claim: &C, text: &mut String) -> Result<(), AllocErro
     for place in 0..claim.records() {
         if let Some(record) = claim.record(place) {
             line.clear();
-            put_record(&record, &mut line);
+            put_record(record, &mut line);
             text.push_str(line.as_str())?;
         }
     }
@@ -142,7 +147,7 @@ fn add_entries<C: AsClaim>(claim: &C, text: &mut String) -> Result<(), AllocErro
     for index in 0..claim.entries() {
         if let Some(entry) = claim.entry(index) {
             line.clear();
-            put_entry(&entry, &mut line);
+            put_entry(entry, &mut line);
             text.push_str(line.as_str())?;
         }
     }
