@@ -16,12 +16,14 @@ use seq_memory::laws::{only_the_place_changes, refused_and_read_change_nothing};
 use tlp_core::{OpRef, Payload, PayloadRef, Width, payload_of};
 
 /// What an operation leaves of the bytes at its place.
+#[inline(always)]
 pub(crate) fn changed(block: u16, op: &OpRef<'_>, old: &[u8]) -> Payload
     requires block { IsBlock block }
     requires few { length old.now ≤ 128 }
     ensures { result.items ≡ after (address_of op.now) block old.now op.now }
 {
-    let mut new = payload_of(old);
+    let mut new = Payload::new();
+    let _ = new.try_extend_from_slice(old);
     act(op.address(), block, new.as_mut_slice(), op);
     new
 }

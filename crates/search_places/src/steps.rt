@@ -90,24 +90,6 @@ impl Place {
         act_on(log, self.bytes.as_mut_slice(), b)
     }
 
-    /// One step. The bytes that it overwrites.
-    #[inline(always)]
-    fn go(&mut self, log: &Log, step: Step) -> Result<Payload, AllocError>
-        requires place { IsPlace log.now self.old }
-        requires allowed { Allowed log.now self.old.state step }
-        ensures old { IfOk result (λ old. old.items ≡ old_of log.now self.old.state step) }
-        ensures state { OnOk result (self.new.state ≡ next log.now self.old.state step) }
-        ensures place { OnOk result (IsPlace log.now self.new) }
-    {
-        match step {
-            Step::Pass => {
-                self.pass(log)?;
-                Ok(Payload::new())
-            }
-            Step::Act(b) => Ok(self.act(log, b)),
-        }
-    }
-
     /// Takes a step that may be taken here. The result serves to take it back. Err only where there
     /// is no memory; the place is of no more use then.
     #[inline(always)]
@@ -119,8 +101,19 @@ impl Place {
         ensures pass { IfOk result (λ d. d.step ≡ kinds.Pass → d.old.items ≡ []) }
         ensures place { OnOk result (IsPlace log.now self.new) }
     {
-        let old = self.go(log, step)?;
-        Ok(Done { step, old })
+        match step {
+            Step::Pass => {
+                self.pass(log)?;
+                Ok(Done {
+                    step,
+                    old: Payload::new(),
+                })
+            }
+            Step::Act(b) => Ok(Done {
+                step,
+                old: self.act(log, b),
+            }),
+        }
     }
 
     /// The last event that was passed is to be passed.
