@@ -12,7 +12,7 @@ use Rattle.replay_sender.specs.declared.fault.AckFault.{AckFault}
 use Rattle.replay_sender.specs.CargoView.{CargoView}
 use Rattle.replay_sender.specs.SenderView.{SenderView, next_item, number_at, acknowledged as dropped, from_oldest}
 use Rattle.link_receiver.specs.declared.receiver.Reception.TheVariants.{Accept, Duplicate, NakNow, Quiet}
-use Rattle.switch_core.specs.Routing.{port_of}
+use Rattle.switch_ports.specs.Routing.{port_of}
 use Rattle.vc_queue.specs.Queue.{Item}
 use Rattle.lane_ends.specs.declared.packet.WirePacket.{WirePacket}
 use Rattle.lane_ends.specs.declared.packet.Fate.{Fate}

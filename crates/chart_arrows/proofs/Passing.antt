@@ -13,7 +13,7 @@ use Rattle.requester_core.specs.Answers.{Answer}
 use Rattle.requester_core.specs.declared.fault.SubmitRefusal.{SubmitRefusal}
 use Rattle.requester_core.specs.Request.{request_for}
 use Rattle.requester_core.specs.RequesterView.{RequesterView, tag_for, lacks_tag, prepared, prepared_by, after_opened, finished, after_finish}
-use Rattle.switch_core.specs.Routing.{port_of}
+use Rattle.switch_ports.specs.Routing.{port_of}
 use Rattle.vc_queue.specs.Queue.{Item, is_takeable}
 use Rattle.lane_ends.specs.Content.{cargo_of, item_spelled}
 use Rattle.lane_ends.specs.Steps.{LaneEndsView, ReceiverEndView, SenderEndView, entered as entered_at, after_take}

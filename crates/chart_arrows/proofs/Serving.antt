@@ -19,7 +19,7 @@ use Rattle.seq_memory.specs.Step.{refusal, read_back, data_of, answer_by, answer
 use Rattle.requester_core.specs.Request.{kind_for}
 use Rattle.completer_core.specs.Completion.{completion_for, unless_posted, completion_of}
 use Rattle.completer_core.specs.Serving.{request_entry, with_entry, after_serving, completion_to}
-use Rattle.switch_core.specs.Routing.{port_of}
+use Rattle.switch_ports.specs.Routing.{port_of}
 use Rattle.vc_queue.specs.Queue.{Item}
 use Rattle.lane_ends.specs.Steps.{LaneEndsView, ReceiverEndView, SenderEndView, entered as entered_at, after_take}
 use Rattle.lane_core.specs.Calls.{content, on_the_way}

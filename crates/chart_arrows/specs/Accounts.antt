@@ -4,7 +4,7 @@ use Rattle.tlp_core.specs.Ops.{Op}
 use Rattle.tlp_core.specs.Operation.{op_of}
 use Rattle.seq_memory.specs.Entries.{Entry}
 use Rattle.replay_sender.specs.CargoView.{CargoView}
-use Rattle.switch_core.specs.Routing.{port_of}
+use Rattle.switch_ports.specs.Routing.{port_of}
 use Rattle.vc_queue.specs.Queue.{Item}
 use Rattle.lane_ends.specs.declared.packet.WirePacket.{WirePacket}
 use Rattle.lane_ends.specs.Content.{item_spelled}

@@ -1,7 +1,7 @@
 //! Which option's value is refused, for people.
 use crate::options::{Allowed, ValueOption};
 use std::fmt;
-use switch_core::REQUESTERS;
+use switch_ports::REQUESTERS;
 
 /// How many bytes are shown of a value.
 const SHOWN: usize = 40;

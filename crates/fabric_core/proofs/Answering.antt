@@ -9,8 +9,8 @@ use Rattle.requester_core.specs.RequesterView.{RequesterView}
 use Rattle.lane_ends.specs.Steps.{LaneEndsView, ReceiverEndView, SenderEndView}
 use Rattle.tlp_core.specs.Operation.{is_completion}
 use Rattle.vc_queue.specs.Queue.{Item, is_takeable}
-use Rattle.switch_core.specs.Routing.{route, port_of, is_requester}
-use Rattle.switch_core.specs.declared.fault.RouteFault.TheVariants.{NoPort}
+use Rattle.switch_ports.specs.Routing.{route, port_of, is_requester}
+use Rattle.switch_ports.specs.declared.fault.RouteFault.TheVariants.{NoPort}
 use Rattle.fabric_laws.specs.Fabric.{Fabric}
 use Rattle.fabric_events.specs.declared.event.LaneName.TheVariants as lanes
 use Rattle.fabric_events.specs.declared.event.SeenOf.TheVariants as seen

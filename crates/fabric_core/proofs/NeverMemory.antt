@@ -9,7 +9,7 @@ use Rattle.requester_core.specs.RequesterView.{RequesterView, prepared, finished
 use Rattle.fc_credit.specs.Credits.{gate_covers}
 use Rattle.fc_credit.specs.Needs.{need_of}
 use Rattle.vc_queue.specs.Queue.{is_takeable}
-use Rattle.switch_core.specs.Routing.{route}
+use Rattle.switch_ports.specs.Routing.{route}
 use Rattle.lane_ends.specs.declared.packet.LaneRefusal.TheVariants as no_room
 use Rattle.lane_ends.specs.Steps.{LaneEndsView, ReceiverEndView, SenderEndView, transmitted, delivered, dllp_seen}
 use Rattle.fabric_laws.specs.Fabric.{Fabric}

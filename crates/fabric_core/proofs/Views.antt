@@ -10,7 +10,7 @@ use Rattle.requester_core.specs.RequesterView.{RequesterView, prepared, finished
 use Rattle.fc_credit.specs.Needs.{need_of}
 use Rattle.fc_credit.specs.Credits.{gate_covers}
 use Rattle.vc_queue.specs.Queue.{Item, is_takeable}
-use Rattle.switch_core.specs.Routing.{route, port_of, is_requester}
+use Rattle.switch_ports.specs.Routing.{route, port_of, is_requester}
 use Rattle.lane_ends.specs.declared.packet.LaneRefusal.TheVariants as no_room
 use Rattle.lane_ends.specs.Steps.{LaneEndsView, ReceiverEndView, SenderEndView, entered, transmitted, delivered, dllp_of, dllp_seen, after_timer, after_retraining}
 use Rattle.lane_core.specs.Calls.{after_call}
@@ -30,7 +30,7 @@ use Rattle.fabric_core.specs.ByParts.{LinksAt, SubmitsAt, ForwardsUp, ForwardsOu
 use Rattle.fabric_events.specs.Events.{Event, Seen}
 use Rattle.fabric_events.specs.declared.event.EventOf.TheVariants as events
 use Rattle.switch_core.specs.Forwarding.{Forwards}
-use Rattle.switch_core.specs.declared.fault.RouteFault.TheVariants.{NoPort}
+use Rattle.switch_ports.specs.declared.fault.RouteFault.TheVariants.{NoPort}
 use Rattle.tlp_core.specs.Layout.{Spells, canonical}
 use Rattle.tlp_core.specs.Operation.{is_completion}
 

@@ -15,8 +15,8 @@ use Rattle.dllp_core.specs.declared.packet.Dllp.{Dllp}
 use Rattle.fc_credit.specs.Needs.{need_of}
 use Rattle.fc_credit.specs.Credits.{gate_covers}
 use Rattle.vc_queue.specs.Queue.{Item, is_takeable}
-use Rattle.switch_core.specs.declared.fault.RouteFault.TheVariants.{NoPort}
-use Rattle.switch_core.specs.Routing.{route}
+use Rattle.switch_ports.specs.declared.fault.RouteFault.TheVariants.{NoPort}
+use Rattle.switch_ports.specs.Routing.{route}
 use Rattle.link_receiver.specs.declared.receiver.Reception.TheVariants.{Accept}
 use Rattle.lane_ends.specs.declared.packet.Arrival.{Arrival}
 use Rattle.lane_ends.specs.declared.packet.Arrival.TheVariants.{Answered}

@@ -11,8 +11,8 @@ use Rattle.requester_core.specs.Answers.{Answer}
 use Rattle.requester_core.specs.RequesterView.{RequesterView, IsSound, prepared, after_opened, finished, after_finish}
 use Rattle.fc_credit.specs.Needs.{need_of}
 use Rattle.vc_queue.specs.Queue.{is_takeable}
-use Rattle.switch_core.specs.declared.fault.RouteFault.{RouteFault}
-use Rattle.switch_core.specs.Routing.{route}
+use Rattle.switch_ports.specs.declared.fault.RouteFault.{RouteFault}
+use Rattle.switch_ports.specs.Routing.{route}
 use Rattle.switch_core.specs.Forwarding.{Forwards}
 use Rattle.lane_ends.specs.Steps.{LaneEndsView, ReceiverEndView, SenderEndView, may_enter, entered, transmitted, delivered, dllp_of, dllp_seen, after_take}
 use Rattle.lane_core.specs.Calls.{Call, Transmit, Deliver, SendDllp, DeliverDllp, Timer, Retrained, after_call}

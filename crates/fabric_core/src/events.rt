@@ -22,7 +22,8 @@ use lane_core::{
 use requester_core::{Answer, Requester};
 use seq_memory::Memory;
 use seq12::Seq12;
-use switch_core::{ForwardRefusal, Port, forward_ends, route};
+use switch_core::{ForwardRefusal, forward_ends};
+use switch_ports::{Port, route};
 use tlp_core::{Op, OpRef, Tlp, op_of};
 
 /// A packet enters a lane with its mark.

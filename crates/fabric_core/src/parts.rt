@@ -10,7 +10,7 @@ use lane_core::LaneEnds;
 use requester_core::{Answer, Requester};
 use seq_memory::Memory;
 use std::marker::Model;
-use switch_core::{Port, RouteFault};
+use switch_ports::{Port, RouteFault};
 use tlp_core::OpRef;
 
 /// The parts of a fabric by name; in each list that of port 1 is the first.
@@ -36,7 +36,15 @@ impl Model for Parts {
 
     ghost Value = { Fabric };
 
-    ghost view = { λ p. record { credits = p.credits; memory = p.memory; requesters = p.requesters.items; inward = p.inward; outward = p.outward; up = p.up.items; down = p.down.items } };
+    ghost view = { λ p. record {
+      credits = p.credits;
+      memory = p.memory;
+      requesters = p.requesters.items;
+      inward = p.inward;
+      outward = p.outward;
+      up = p.up.items;
+      down = p.down.items;
+    } };
 }
 
 ghost use Rattle.requester_core.specs.RequesterView.{RequesterView};

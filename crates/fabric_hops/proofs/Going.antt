@@ -19,9 +19,9 @@ use Rattle.fc_credit.specs.Needs.{need_of}
 use Rattle.fc_credit.specs.Credits.{gate_covers}
 use Rattle.replay_sender.specs.CargoView.{CargoView}
 use Rattle.vc_queue.specs.Queue.{Item, is_takeable}
-use Rattle.switch_core.specs.declared.fault.RouteFault.{RouteFault}
-use Rattle.switch_core.specs.declared.fault.RouteFault.TheVariants.{NoPort}
-use Rattle.switch_core.specs.Routing.{route, port_of, is_requester}
+use Rattle.switch_ports.specs.declared.fault.RouteFault.{RouteFault}
+use Rattle.switch_ports.specs.declared.fault.RouteFault.TheVariants.{NoPort}
+use Rattle.switch_ports.specs.Routing.{route, port_of, is_requester}
 use Rattle.lane_ends.specs.declared.packet.LaneRefusal.TheVariants as no_room
 use Rattle.lane_ends.specs.Content.{items_of, received_of}
 use Rattle.lane_ends.specs.Steps.{LaneEndsView, ReceiverEndView, SenderEndView, may_enter, entered, after_take}

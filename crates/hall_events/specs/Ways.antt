@@ -1,7 +1,7 @@
 -- The way of a packet through the switch, and what a packet that goes on owes.
 use Rattle.std.specs.Prelude.{◌≡◌, ◌⊎◌, ◌+◌, ◌<◌, ◌≤◌, ℕ, List, [], ◌∷◌, Ok, Err}
 use Rattle.lane_ends.specs.Steps.{ReceiverEndView, SenderEndView}
-use Rattle.switch_core.specs.declared.fault.RouteFault.TheVariants.{NoPort}
+use Rattle.switch_ports.specs.declared.fault.RouteFault.TheVariants.{NoPort}
 use Rattle.fabric_events.specs.declared.event.EventOf.TheVariants.{Forward}
 use Rattle.fabric_events.specs.declared.event.LaneName.{LaneName}
 use Rattle.fabric_events.specs.declared.event.LaneName.TheVariants as lanes

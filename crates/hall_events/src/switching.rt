@@ -17,7 +17,7 @@ use hall_laws::duties::{forwarding_out, forwarding_up, serving};
 use hall_laws::part::Part;
 use lane_core::ReceiverEnd;
 use std::marker::Brand;
-use switch_core::{Port, RouteFault};
+use switch_ports::{Port, RouteFault};
 
 /// A packet that goes on, over the receiver's end of its lane and the sender's end of the next, is that event of the
 /// fabric, which shows what is seen of it; where they refuse it, so does the fabric, and so it does where the packet has

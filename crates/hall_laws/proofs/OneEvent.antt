@@ -13,8 +13,8 @@ use Rattle.vc_queue.specs.Queue.{Item}
 use Rattle.history_words.specs.Records.{Record}
 use Rattle.lane_ends.specs.declared.packet.WirePacket.{WirePacket}
 use Rattle.lane_ends.specs.Steps.{LaneEndsView, ReceiverEndView, SenderEndView}
-use Rattle.switch_core.specs.Routing.{route, port_of, is_requester}
-use Rattle.switch_core.specs.declared.fault.RouteFault.TheVariants.{NoPort}
+use Rattle.switch_ports.specs.Routing.{route, port_of, is_requester}
+use Rattle.switch_ports.specs.declared.fault.RouteFault.TheVariants.{NoPort}
 use Rattle.fabric_laws.specs.Lists.{Each}
 use Rattle.fabric_laws.specs.Fabric.{Fabric}
 use Rattle.fabric_events.specs.Events.{Event, Seen}

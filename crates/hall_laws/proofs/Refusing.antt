@@ -7,7 +7,7 @@ use lib.ListN.{get_elem?}
 use Rattle.dllp_core.specs.declared.packet.Dllp.{Dllp}
 use Rattle.seq_memory.specs.History.{MemoryView}
 use Rattle.requester_core.specs.RequesterView.{RequesterView}
-use Rattle.switch_core.specs.declared.fault.RouteFault.TheVariants.{NoPort}
+use Rattle.switch_ports.specs.declared.fault.RouteFault.TheVariants.{NoPort}
 use Rattle.lane_ends.specs.declared.packet.WirePacket.{WirePacket}
 use Rattle.lane_ends.specs.Steps.{LaneEndsView, ReceiverEndView, SenderEndView}
 use Rattle.fabric_laws.specs.Fabric.{Fabric}

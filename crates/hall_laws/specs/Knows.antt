@@ -20,7 +20,7 @@ use Rattle.hall_laws.specs.Tells.{Has, AnsweredStand}
 
 pub record IsTrueOf (f : Fabric) (w : Knowledge) : Type 0 where
   pub config : HasConfig f w.config
-  -- it has seen a beginning of the history
+  -- it has seen a prefix of the history
   pub seen : Begins w.seen f.memory.entries
   -- what it made is what its requester submitted, read off the path
   pub made : IsMade (suc w.number) (view (whole_of f) (suc w.number)) w.made

@@ -193,7 +193,7 @@ pub fn join(steps: &Steps, place: &mut Place, other: Place)
     steps.join_seat::<AllTokens>(place, other);
 }
 
-/// What a seat knows is true of the fabric: it has seen a beginning of the history; what it made is what its requester
+/// What a seat knows is true of the fabric: it has seen a prefix of the history; what it made is what its requester
 /// submitted; what is pending is what is open, of which nothing acted before its submission; and each of its requests
 /// that isn't posted and isn't pending stands in what it has seen.
 pub fn what_a_seat_knows_is_true()

@@ -1,16 +1,8 @@
--- The numbers and names under which faults and refusals are told.
+-- The numbers and names under which refusals are told.
 use Rattle.std.specs.Prelude.{ℕ, List, codes}
-use Rattle.switch_core.specs.declared.fault.RouteFault.{RouteFault}
-use Rattle.switch_core.specs.declared.fault.RouteFault.TheVariants as routes
 use Rattle.switch_core.specs.declared.fault.ForwardRefusal.{ForwardRefusal}
 use Rattle.switch_core.specs.declared.fault.ForwardRefusal.TheVariants as refusals
 use Rattle.lane_ends.specs.Refusals.{name_of}
-
-abbrev pub fault_number : RouteFault → ℕ
-fault_number routes.NoPort = 1
-
-abbrev pub fault_name : RouteFault → List ℕ
-fault_name routes.NoPort = codes "NoPort"
 
 -- the place of a refusal in the order of the tests, from 1
 abbrev pub refusal_number : ForwardRefusal → ℕ

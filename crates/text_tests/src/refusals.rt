@@ -7,7 +7,7 @@ use replay_sender::AckFault;
 use requester_core::{CompletionFault, SubmitRefusal};
 use std::alloc::Global;
 use std::fmt::Display;
-use switch_core::RouteFault;
+use switch_ports::RouteFault;
 use tlp_core::TlpFault;
 
 /// Whether the value is told so.

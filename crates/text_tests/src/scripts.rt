@@ -12,7 +12,7 @@ use script_text::{Line, read_line, write_config_fault, write_refusal, write_seen
 use seq_memory::Reply;
 use seq12::Seq12;
 use std::alloc::Global;
-use switch_core::RouteFault;
+use switch_ports::RouteFault;
 use tlp_core::{MAX_PAYLOAD, Op, TlpFault, Width};
 
 /// The least credits.

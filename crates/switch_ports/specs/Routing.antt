@@ -2,8 +2,8 @@
 use Rattle.std.specs.Prelude.{ℕ, ◌/◌, Bool, ◌&&◌, ◌==◌, not, nat_le, if◌then◌else◌, Result, Ok, Err}
 use Rattle.tlp_core.specs.TlpView.{TlpView}
 use Rattle.tlp_core.specs.Operation.{is_completion}
-use Rattle.switch_core.specs.declared.fault.RouteFault.{RouteFault}
-use Rattle.switch_core.specs.declared.fault.RouteFault.TheVariants.{NoPort}
+use Rattle.switch_ports.specs.declared.fault.RouteFault.{RouteFault}
+use Rattle.switch_ports.specs.declared.fault.RouteFault.TheVariants.{NoPort}
 
 -- the port of the packet's Requester ID
 abbrev pub port_of : TlpView → ℕ

@@ -1,6 +1,6 @@
 //! Ports, and the port that a packet goes to.
 ghost use Rattle.std.specs.Prelude.{◌≡◌, ◌<◌, ℕ};
-ghost use Rattle.switch_core.specs.Routing as spec;
+ghost use Rattle.switch_ports.specs.Routing as spec;
 
 use crate::fault::RouteFault;
 use std::marker::Model;
