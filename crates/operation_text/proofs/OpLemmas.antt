@@ -103,11 +103,11 @@ numeral-range radix most m (c ∷ cs) h = elim (cases_Bool ((c == 48) && not (le
 ]
 
 -- digits that spell a number
-record Spells (radix n m : ℕ) (ds : List ℕ) : Type 0 where
+record Continues (radix n m : ℕ) (ds : List ℕ) : Type 0 where
   digits : AllDigits radix ds
   value : digits_value_after radix n ds ≡ m
 
-after-spells : (radix most n m : ℕ) (ds : List ℕ) → numeral_after radix most n ds ≡ Some m → Spells radix n m ds
+after-spells : (radix most n m : ℕ) (ds : List ℕ) → numeral_after radix most n ds ≡ Some m → Continues radix n m ds
 after-spells radix most n m [] h = record { digits = tt; value = cc h }
 after-spells radix most n m (c ∷ cs) h = elim (cases_Bool (nat_lt (digit_value c) radix && nat_le (n * radix + digit_value c) most)) [
   | inl hit ↦

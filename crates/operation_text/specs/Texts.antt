@@ -15,12 +15,11 @@ use Rattle.seq_memory.specs.declared.reply.ReplyOf.TheVariants as replies
 abbrev pub hexadecimal : ℕ → List ℕ
 hexadecimal n = digits 16 true n
 
--- with all their digits, hexadecimal and in capitals: a byte
-
+-- a byte: both digits, hexadecimal and in capitals
 abbrev pub octet_text : ℕ → List ℕ
 octet_text n = digit_glyph true (n / 16) ∷ digit_glyph true (n % 16) ∷ []
 
--- a sequence number
+-- a sequence number: its three digits, in the same way
 abbrev pub sequence_text : ℕ → List ℕ
 sequence_text n = digit_glyph true (n / 256) ∷ octet_text (n % 256)
 

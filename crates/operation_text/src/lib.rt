@@ -12,7 +12,8 @@
 //! DW are counted in decimal; no number has leading zeros. A byte string has two digits a byte, 1 to
 //! 128 bytes in memory order, and an operand is a byte string of 4, 8 or 16 bytes, which tell its
 //! width. Letters of hexadecimal digits are read in either case. Replies are `data <bytes>`, `ur` and
-//! `ca`. What is written has capitals, and is read back.
+//! `ca`. What is written has capitals, and is read back, but for `done`, which is written of a write that
+//! was done, and read as no reply.
 #![tactic(auto)]
 
 mod digits;

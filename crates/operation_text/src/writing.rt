@@ -93,7 +93,7 @@ fn put_small(number: u8, out: &mut ArrayString<512>)
     }
 }
 
-/// Adds the number's digits, which fit.
+/// Adds the number's digits, which fit. Up to four digits take no call of itself: most numbers of a trace are as short.
 fn put_decimal(number: u64, out: &mut ArrayString<512>)
     requires { array_string_len out.old + length (decimal number) ≤ 512 }
     ensures { out.new.bytes ≡ out.old.bytes ++ decimal number }
@@ -172,7 +172,7 @@ fn put_word(bytes: &[u8], out: &mut ArrayString<512>)
 
 /// Adds a space and the bytes of an operand of that width.
 #[inline(always)]
-fn put_number(width: Width, operand: u128, out: &mut ArrayString<512>)
+fn put_operand(width: Width, operand: u128, out: &mut ArrayString<512>)
     requires { array_string_len out.old + 33 ≤ 512 }
     ensures text { out.new.bytes ≡ out.old.bytes ++ 32 ∷ operand_word width operand }
     ensures len { array_string_len out.new ≤ array_string_len out.old + 33 }
@@ -212,7 +212,7 @@ fn put_enables(first: u8, last: u8, out: &mut ArrayString<512>)
 
 /// Adds the kind of an operation, with the space behind it, and its address.
 #[inline(always)]
-fn put_place(kind: &str, address: u64, out: &mut ArrayString<512>)
+fn put_kind_and_address(kind: &str, address: u64, out: &mut ArrayString<512>)
     requires kind { length kind.now ≤ 6 }
     requires room { array_string_len out.old + 22 ≤ 512 }
     ensures text { out.new.bytes ≡ out.old.bytes ++ (kind.now ++ hexadecimal address) }
@@ -229,7 +229,7 @@ fn put_read(address: u64, dw: u16, first: u8, last: u8, out: &mut ArrayString<51
     ensures text { out.new.bytes ≡ out.old.bytes ++ op_text (ops.Read address dw first last) }
     ensures len { array_string_len out.new ≤ array_string_len out.old + 320 }
 {
-    put_place("read ", address, out);
+    put_kind_and_address("read ", address, out);
     out.push_str(" ");
     write_decimal(u64::from(dw), out);
     put_enables(first, last, out);
@@ -243,7 +243,7 @@ fn put_write(address: u64, first: u8, last: u8, bytes: &[u8], out: &mut ArrayStr
     ensures text { out.new.bytes ≡ out.old.bytes ++ op_text (ops.Write address first last (record { items = bytes.now })) }
     ensures len { array_string_len out.new ≤ array_string_len out.old + 320 }
 {
-    put_place("write ", address, out);
+    put_kind_and_address("write ", address, out);
     put_enables(first, last, out);
     put_word(bytes, out);
 }
@@ -272,16 +272,16 @@ pub fn write_op(op: &OpRef<'_>, out: &mut ArrayString<512>)
             width,
             operand,
         } => {
-            put_place("add ", *address, out);
-            put_number(*width, *operand, out);
+            put_kind_and_address("add ", *address, out);
+            put_operand(*width, *operand, out);
         }
         OpRef::Swap {
             address,
             width,
             operand,
         } => {
-            put_place("swap ", *address, out);
-            put_number(*width, *operand, out);
+            put_kind_and_address("swap ", *address, out);
+            put_operand(*width, *operand, out);
         }
         OpRef::Cas {
             address,
@@ -289,9 +289,9 @@ pub fn write_op(op: &OpRef<'_>, out: &mut ArrayString<512>)
             compare,
             swap,
         } => {
-            put_place("cas ", *address, out);
-            put_number(*width, *compare, out);
-            put_number(*width, *swap, out);
+            put_kind_and_address("cas ", *address, out);
+            put_operand(*width, *compare, out);
+            put_operand(*width, *swap, out);
         }
     }
 }

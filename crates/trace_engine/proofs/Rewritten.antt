@@ -8,7 +8,7 @@ use Rattle.line_loop.specs.Run.{Run, with_answer, new_run, run_of, IsBeginning, 
 use Rattle.line_loop.specs.Run.{after_line as run_on}
 use Rattle.record_text.specs.declared.fault.ReadFault.{ReadFault}
 use Rattle.trace_text.specs.TraceReaderView.{TraceReaderView, nothing_read, after_line, after_long_line, take_line, at_end}
-use Rattle.trace_text.specs.TraceRewriterView.{TraceRewriterView, nothing_rewritten, long_line_passed, text_at_end}
+use Rattle.trace_text.specs.TraceRewriterView.{TraceRewriterView, nothing_rewritten, after_long_line as rewritten_long_line, text_at_end}
 use Rattle.trace_text.specs.TraceRewriterView.{after_line as rewritten_line}
 use Rattle.trace_text.specs.Rewritten.{rewrite_line, text_of, RewritingIsReading}
 use Rattle.trace_engine.specs.Check.{is_read}
@@ -27,7 +27,7 @@ read_all (l ∷ ls) s =
     ap (λ (r : Run TraceReaderView). fold (run_on upgrade_responses) r ls) (read_one (nat_lt 512 (length (bare l))) s (said l))
     ∙ read_all ls (take_line s l)
 
-write_one : (t : Bool) (w : TraceRewriterView) (line : List ℕ) → with_answer (new_run w) (cond t (goes_on (long_line_passed w)) (goes_on (rewritten_line w line))) ≡ new_run (cond t (long_line_passed w) (rewritten_line w line))
+write_one : (t : Bool) (w : TraceRewriterView) (line : List ℕ) → with_answer (new_run w) (cond t (goes_on (rewritten_long_line w)) (goes_on (rewritten_line w line))) ≡ new_run (cond t (rewritten_long_line w) (rewritten_line w line))
 write_one true w line = refl
 write_one false w line = refl
 

@@ -1,7 +1,7 @@
 -- What the forms of lines tell of their values.
-use Rattle.std.proofs.Common.{◌≡◌, ℕ, Bool, true, false, List, [], ◌∷◌, refl, subst, arith, Option, Some, None, inl, inr}
-use Rattle.std.specs.Prelude.{◌==◌, ◌||◌, cond, codes, bytes_eq}
-use Rattle.std.proofs.lemmas.Bool.{cases_Bool}
+use Rattle.std.proofs.Common.{◌≡◌, ◌∙◌, ℕ, Bool, true, false, List, [], ◌∷◌, refl, sym, ap, subst, arith, Option, Some, None, inl, inr}
+use Rattle.std.specs.Prelude.{◌==◌, ◌≢◌, ◌||◌, cond, codes, bytes_eq}
+use Rattle.std.proofs.lemmas.Bool.{cases_Bool, eq-eqb}
 use Rattle.std.proofs.lemmas.Bool.Decides.{nat_tests}
 use Rattle.tlp_core.specs.Ops.{Op}
 use Rattle.seq_memory.specs.Entries.{Entry}
@@ -69,6 +69,106 @@ block-is w b h =
       | inr miss ↦ absurd (let k = rw miss at t.follows in cc k)
     ]
 
+-- the number that a requester's word spells
+pub requester-is : (w : List ℕ) (i : ℕ) → fields.requester w ≡ Some i → (numeral 10 7 w ≡ Some i) × (i ≢ 0)
+requester-is w i h =
+    let t = then-first (numeral 10 7 w) (λ n. cond (n == 0) None (Some n)) i h in
+    elim (cases_Bool (t.value == 0)) [
+      | inl hit ↦ absurd (let k = rw hit at t.follows in cc k)
+      | inr miss ↦
+          let same : t.value ≡ i = some-is t.value i (rw miss at t.follows) in
+          (t.is ∙ ap (λ (n : ℕ). Some n) same, λ e. (let zero = eq-eqb t.value 0 (same ∙ e) in cc (sym zero ∙ miss)))
+    ]
+
+-- ---- the words of records and entries
+
+-- a word, and what it spells
+pub record Word {X : Type 0} (spells : List ℕ → Option X) : Type 0 where
+  pub value : X
+  pub word : List ℕ
+  pub is : spells word ≡ Some value
+
+abbrev pub sub : ℕ → ℕ → ℕ → Op → Line
+sub i k n op = lines.Record (records.Sub i k op n)
+
+abbrev pub ans : ℕ → ℕ → ℕ → Reply → Line
+ans i k n reply = lines.Record (records.Ans i k reply n)
+
+abbrev pub ent : ℕ → ℕ → Op → Line
+ent i k op = lines.Entry (record { requester = i; number = k; op = op })
+
+-- the words of a record, of which the rest spells its operation or its reply
+pub record RecordWords {X : Type 0} (spells : List (List ℕ) → Option X) (made : ℕ → ℕ → ℕ → X → Line) (ws : List (List ℕ)) (l : Line) : Type 0 where
+  pub requester : Word fields.requester
+  pub number : Word fields.number
+  pub count : Word fields.count
+  pub rest : List (List ℕ)
+  pub said : X
+  pub front : ws ≡ requester.word ∷ number.word ∷ count.word ∷ rest
+  pub is : spells rest ≡ Some said
+  pub line : made requester.value number.value count.value said ≡ l
+
+-- what is made of the words behind each number
+abbrev behind-count : {X : Type 0} → (List (List ℕ) → Option X) → (ℕ → ℕ → ℕ → X → Line) → ℕ → ℕ → ℕ → List (List ℕ) → Option Line
+behind-count spells made i k n rest = then_with (spells rest) (λ x. Some (made i k n x))
+
+abbrev behind-number : {X : Type 0} → (List (List ℕ) → Option X) → (ℕ → ℕ → ℕ → X → Line) → ℕ → ℕ → List (List ℕ) → Option Line
+behind-number spells made i k ws = field fields.count (behind-count spells made i k) ws
+
+abbrev behind-requester : {X : Type 0} → (List (List ℕ) → Option X) → (ℕ → ℕ → ℕ → X → Line) → ℕ → List (List ℕ) → Option Line
+behind-requester spells made i ws = field fields.number (behind-number spells made i) ws
+
+front-of : (ws r s t : List (List ℕ)) (a b c : List ℕ) → ws ≡ a ∷ r → r ≡ b ∷ s → s ≡ c ∷ t → ws ≡ a ∷ b ∷ c ∷ t
+front-of ws r s t a b c p q v = p ∙ ap (λ (x : List (List ℕ)). a ∷ x) (q ∙ ap (λ (x : List (List ℕ)). b ∷ x) v)
+
+record-by : {X : Type 0} (spells : List (List ℕ) → Option X) (made : ℕ → ℕ → ℕ → X → Line) (ws : List (List ℕ)) (l : Line)
+    (i : Field fields.requester (behind-requester spells made) ws l) (k : Field fields.number (behind-number spells made i.value) i.rest l)
+    (n : Field fields.count (behind-count spells made i.value k.value) k.rest l) → Then (spells n.rest) (λ x. Some (made i.value k.value n.value x)) l
+    → RecordWords spells made ws l
+record-by spells made ws l i k n said = record {
+  requester = record { value = i.value; word = i.word; is = i.is };
+  number = record { value = k.value; word = k.word; is = k.is };
+  count = record { value = n.value; word = n.word; is = n.is };
+  rest = n.rest;
+  said = said.value;
+  front = front-of ws i.rest k.rest n.rest i.word k.word n.word i.front k.front n.front;
+  is = said.is;
+  line = some-is (made i.value k.value n.value said.value) l said.follows;
+}
+
+pub record-words : {X : Type 0} (spells : List (List ℕ) → Option X) (made : ℕ → ℕ → ℕ → X → Line) (ws : List (List ℕ)) (l : Line)
+    → field fields.requester (behind-requester spells made) ws ≡ Some l → RecordWords spells made ws l
+record-words spells made ws l h =
+    let i = field-first fields.requester (behind-requester spells made) ws l h in
+    let k = field-first fields.number (behind-number spells made i.value) i.rest l i.follows in
+    let n = field-first fields.count (behind-count spells made i.value k.value) k.rest l k.follows in
+    record-by spells made ws l i k n (then-first (spells n.rest) (λ x. Some (made i.value k.value n.value x)) l n.follows)
+
+-- the words of an entry, of which the rest spells its operation
+pub record EntryWords (ws : List (List ℕ)) (l : Line) : Type 0 where
+  pub requester : Word fields.requester
+  pub number : Word fields.number
+  pub rest : List (List ℕ)
+  pub op : Op
+  pub front : ws ≡ requester.word ∷ number.word ∷ rest
+  pub is : op_spelled rest ≡ Some op
+  pub line : ent requester.value number.value op ≡ l
+
+pub entry-words : (ws : List (List ℕ)) (l : Line) → forms.ent_of ws ≡ Some l → EntryWords ws l
+entry-words ws l h =
+    let i = field-first fields.requester (λ i. field fields.number (λ k rest. then_with (op_spelled rest) (λ op. Some (ent i k op)))) ws l h in
+    let k = field-first fields.number (λ k rest. then_with (op_spelled rest) (λ op. Some (ent i.value k op))) i.rest l i.follows in
+    let op = then-first (op_spelled k.rest) (λ op. Some (ent i.value k.value op)) l k.follows in
+    record {
+      requester = record { value = i.value; word = i.word; is = i.is };
+      number = record { value = k.value; word = k.word; is = k.is };
+      rest = k.rest;
+      op = op.value;
+      front = i.front ∙ ap (λ (t : List (List ℕ)). i.word ∷ t) k.front;
+      is = op.is;
+      line = some-is (ent i.value k.value op.value) l op.follows;
+    }
+
 -- ---- what the values of lines are
 
 -- some words spell the value
@@ -82,9 +182,12 @@ RecordIs (records.Ans i k reply n) = IsSpelled fields.requester i × IsSpelled f
 abbrev pub EntryIs : Entry → Type 0
 EntryIs e = IsSpelled fields.requester e.requester × IsSpelled fields.number e.number × IsSpelled op_spelled e.op
 
+abbrev pub ExtentIs : Extent → Type 0
+ExtentIs x = IsSpelled address x.base × IsSpelled fields.count x.size × IsBlock x.block × (is_within_limits x ≡ true)
+
 abbrev pub LineIs : Line → Type 0
 LineIs (lines.FirstLine v) = Unit {0}
-LineIs (lines.Memory x) = IsSpelled address x.base × IsSpelled fields.count x.size × IsBlock x.block × (is_within_limits x ≡ true)
+LineIs (lines.Memory x) = ExtentIs x
 LineIs (lines.Record r) = RecordIs r
 LineIs lines.History = Unit {0}
 LineIs (lines.Entry e) = EntryIs e
@@ -104,9 +207,6 @@ head-is ws l h =
 
 abbrev extent : ℕ → ℕ → ℕ → Extent
 extent base size block = record { base = base; size = size; block = block }
-
-abbrev pub ExtentIs : Extent → Type 0
-ExtentIs x = IsSpelled address x.base × IsSpelled fields.count x.size × IsBlock x.block × (is_within_limits x ≡ true)
 
 pub extent-is : (has_block : Bool) (ws : List (List ℕ)) (x : Extent) → fields.memory_of has_block ws ≡ Some x → ExtentIs x
 extent-is false ws x h =
@@ -128,29 +228,18 @@ memory-is v ws l h =
 
 sub-is : (ws : List (List ℕ)) (l : Line) → forms.sub_of ws ≡ Some l → LineIs l
 sub-is ws l h =
-    let made : ℕ → ℕ → ℕ → Op → Option Line = λ i k n op. Some (lines.Record (records.Sub i k op n)) in
-    let i = field-first fields.requester (λ i. field fields.number (λ k. field fields.count (λ n rest. then_with (op_spelled rest) (made i k n)))) ws l h in
-    let k = field-first fields.number (λ k. field fields.count (λ n rest. then_with (op_spelled rest) (made i.value k n))) i.rest l i.follows in
-    let n = field-first fields.count (λ n rest. then_with (op_spelled rest) (made i.value k.value n)) k.rest l k.follows in
-    let op = then-first (op_spelled n.rest) (made i.value k.value n.value) l n.follows in
-    subst LineIs (some-is (lines.Record (records.Sub i.value k.value op.value n.value)) l op.follows) ((i.word, i.is), (k.word, k.is), (n.word, n.is), (n.rest, op.is))
+    let s = record-words op_spelled sub ws l h in
+    subst LineIs s.line ((s.requester.word, s.requester.is), (s.number.word, s.number.is), (s.count.word, s.count.is), (s.rest, s.is))
 
 ans-is : (ws : List (List ℕ)) (l : Line) → forms.ans_of ws ≡ Some l → LineIs l
 ans-is ws l h =
-    let made : ℕ → ℕ → ℕ → Reply → Option Line = λ i k n reply. Some (lines.Record (records.Ans i k reply n)) in
-    let i = field-first fields.requester (λ i. field fields.number (λ k. field fields.count (λ n rest. then_with (reply_spelled rest) (made i k n)))) ws l h in
-    let k = field-first fields.number (λ k. field fields.count (λ n rest. then_with (reply_spelled rest) (made i.value k n))) i.rest l i.follows in
-    let n = field-first fields.count (λ n rest. then_with (reply_spelled rest) (made i.value k.value n)) k.rest l k.follows in
-    let reply = then-first (reply_spelled n.rest) (made i.value k.value n.value) l n.follows in
-    subst LineIs (some-is (lines.Record (records.Ans i.value k.value reply.value n.value)) l reply.follows) ((i.word, i.is), (k.word, k.is), (n.word, n.is), (n.rest, reply.is))
+    let s = record-words reply_spelled ans ws l h in
+    subst LineIs s.line ((s.requester.word, s.requester.is), (s.number.word, s.number.is), (s.count.word, s.count.is), (s.rest, s.is))
 
 ent-is : (ws : List (List ℕ)) (l : Line) → forms.ent_of ws ≡ Some l → LineIs l
 ent-is ws l h =
-    let made : ℕ → ℕ → Op → Option Line = λ i k op. Some (lines.Entry (record { requester = i; number = k; op = op })) in
-    let i = field-first fields.requester (λ i. field fields.number (λ k rest. then_with (op_spelled rest) (made i k))) ws l h in
-    let k = field-first fields.number (λ k rest. then_with (op_spelled rest) (made i.value k)) i.rest l i.follows in
-    let op = then-first (op_spelled k.rest) (made i.value k.value) l k.follows in
-    subst LineIs (some-is (lines.Entry (record { requester = i.value; number = k.value; op = op.value })) l op.follows) ((i.word, i.is), (k.word, k.is), (k.rest, op.is))
+    let s = entry-words ws l h in
+    subst LineIs s.line ((s.requester.word, s.requester.is), (s.number.word, s.number.is), (s.rest, s.is))
 
 pub line-is : (v : Version) (ws : List (List ℕ)) (l : Line) → line_of v ws ≡ Some l → LineIs l
 line-is v [] l h = absurd (cc h)

@@ -1,10 +1,8 @@
 -- The front of a line of records, up to its operation or its reply, is written as it is read.
-use Rattle.std.proofs.Common.{◌≡◌, ℕ, ◌-◌, ◌<◌, ◌≤◌, Bool, true, false, List, [], ◌∷◌, ◌++◌, length, take, drop, refl, sym, ap, subst, ◌∙◌, append_assoc, length-append, arith, inl, inr, Option, Some, None}
-use Rattle.std.specs.Prelude.{◌^◌, ◌+◌, ◌==◌, Decides, cond, codes, bytes_eq}
-use Rattle.std.specs.Borrow.{Bor}
+use Rattle.std.proofs.Common.{◌≡◌, ℕ, ◌-◌, ◌<◌, ◌≤◌, Bool, true, false, List, [], ◌∷◌, ◌++◌, length, take, drop, refl, sym, ap, subst, ◌∙◌, append_assoc, length-append, arith, Option, Some, None}
+use Rattle.std.specs.Prelude.{◌^◌, ◌+◌, Decides, cond, codes, bytes_eq}
 use Rattle.std.specs.List.{join_with_byte}
 use Rattle.std.specs.Fmt.{decimal}
-use Rattle.std.proofs.lemmas.Bool.{cases_Bool}
 use Rattle.std.proofs.lemmas.List.{take-append-le, take_all}
 use Rattle.std.proofs.lemmas.List.Splits.{join_with_byte-slice_split, length-slice_split}
 use Rattle.std.proofs.lemmas.Slice.Eq.{bytes_eq-Decides}
@@ -21,21 +19,21 @@ use Rattle.trace_text.specs.declared.line.Line.{Line}
 use Rattle.trace_text.specs.declared.line.Line.TheVariants as lines
 use Rattle.trace_text.specs.Forms as forms
 use Rattle.trace_text.specs.Forms.{line_of, behind_numbers}
-use Rattle.trace_text.specs.TraceRewriterView.{RewriteFormView, added, rest_of, version_after, written}
-use Rattle.trace_text.proofs.FormLemmas.{field-first, then-first, ended-is, either, some-is}
+use Rattle.trace_text.specs.TraceRewriterView.{RewriteFormView, added, behind_of, version_after, written}
+use Rattle.trace_text.proofs.FormLemmas.{RecordWords, record-words, entry-words, sub, ans, requester-is, field-first, then-first, ended-is, either, some-is}
 
 -- ---- words with a space behind each
 
-abbrev spaced : List (List ℕ) → List ℕ
-spaced [] = []
-spaced (w ∷ ws) = w ++ 32 ∷ spaced ws
+abbrev with_spaces_behind : List (List ℕ) → List ℕ
+with_spaces_behind [] = []
+with_spaces_behind (w ∷ ws) = w ++ 32 ∷ with_spaces_behind ws
 
-join-behind : (ws vs : List (List ℕ)) → 0 < length vs → join_with_byte 32 (ws ++ vs) ≡ spaced ws ++ join_with_byte 32 vs
+join-behind : (ws vs : List (List ℕ)) → 0 < length vs → join_with_byte 32 (ws ++ vs) ≡ with_spaces_behind ws ++ join_with_byte 32 vs
 join-behind ws [] some = absurd (omega arith)
 join-behind [] (v ∷ vs) some = refl
 join-behind (w ∷ []) (v ∷ vs) some = sym (append_assoc w (32 ∷ []) (join_with_byte 32 (v ∷ vs)))
 join-behind (w ∷ u ∷ ws) (v ∷ vs) some =
-    ap (λ (t : List ℕ). w ++ 32 ∷ t) (join-behind (u ∷ ws) (v ∷ vs) some) ∙ sym (append_assoc w (32 ∷ spaced (u ∷ ws)) (join_with_byte 32 (v ∷ vs)))
+    ap (λ (t : List ℕ). w ++ 32 ∷ t) (join-behind (u ∷ ws) (v ∷ vs) some) ∙ sym (append_assoc w (32 ∷ with_spaces_behind (u ∷ ws)) (join_with_byte 32 (v ∷ vs)))
 
 joined : (line : List ℕ) → join_with_byte 32 (words line) ≡ line
 joined line = join_with_byte-slice_split 32 line
@@ -44,12 +42,12 @@ some-words : (line : List ℕ) → 0 < length (words line)
 some-words line = omega (arith, length-slice_split is_space line)
 
 -- what is in front of the last words
-text-by : (text behind : List ℕ) (ws : List (List ℕ)) → words text ≡ ws ++ words behind → text ≡ spaced ws ++ behind
+text-by : (text behind : List ℕ) (ws : List (List ℕ)) → words text ≡ ws ++ words behind → text ≡ with_spaces_behind ws ++ behind
 text-by text behind ws is =
-    sym (joined text) ∙ ap (join_with_byte 32) is ∙ join-behind ws (words behind) (some-words behind) ∙ ap (λ (t : List ℕ). spaced ws ++ t) (joined behind)
+    sym (joined text) ∙ ap (join_with_byte 32) is ∙ join-behind ws (words behind) (some-words behind) ∙ ap (λ (t : List ℕ). with_spaces_behind ws ++ t) (joined behind)
 
-line-by : (ws : List (List ℕ)) (said : List ℕ) → join_with_byte 32 (ws ++ said ∷ []) ++ 10 ∷ [] ≡ spaced ws ++ (said ++ 10 ∷ [])
-line-by ws said = ap (λ (t : List ℕ). t ++ 10 ∷ []) (join-behind ws (said ∷ []) (omega arith)) ∙ append_assoc (spaced ws) said (10 ∷ [])
+line-by : (ws : List (List ℕ)) (said : List ℕ) → join_with_byte 32 (ws ++ said ∷ []) ++ 10 ∷ [] ≡ with_spaces_behind ws ++ (said ++ 10 ∷ [])
+line-by ws said = ap (λ (t : List ℕ). t ++ 10 ∷ []) (join-behind ws (said ∷ []) (omega arith)) ∙ append_assoc (with_spaces_behind ws) said (10 ∷ [])
 
 -- ---- the words behind fields
 
@@ -86,27 +84,19 @@ abbrev pub OneWord : Type 0
 OneWord = (most n : ℕ) (word : List ℕ) → most < 2 ^ 64 → numeral 10 most word ≡ Some n → word ≡ decimal n
 
 -- words with others behind them
-record Ends (front ws : List (List ℕ)) : Type 0 where
+record Begins (front ws : List (List ℕ)) : Type 0 where
   rest : List (List ℕ)
   is : ws ≡ front ++ rest
   some : 0 < length rest
 
 abbrev FrontIs : List (List ℕ) → Line → Type 0
-FrontIs ws (lines.FirstLine v) = Unit {0}
-FrontIs ws (lines.Memory x) = Unit {0}
-FrontIs ws (lines.Record (records.Sub i k op n)) = Ends (codes "sub" ∷ decimal i ∷ decimal k ∷ decimal n ∷ []) ws
-FrontIs ws (lines.Record (records.Ans i k reply n)) = Ends (codes "ans" ∷ decimal i ∷ decimal k ∷ decimal n ∷ []) ws
-FrontIs ws lines.History = Unit {0}
-FrontIs ws (lines.Entry e) = Ends (codes "ent" ∷ decimal e.requester ∷ decimal e.number ∷ []) ws
-FrontIs ws lines.End = Unit {0}
+FrontIs ws (lines.Record (records.Sub i k op n)) = Begins (codes "sub" ∷ decimal i ∷ decimal k ∷ decimal n ∷ []) ws
+FrontIs ws (lines.Record (records.Ans i k reply n)) = Begins (codes "ans" ∷ decimal i ∷ decimal k ∷ decimal n ∷ []) ws
+FrontIs ws (lines.Entry e) = Begins (codes "ent" ∷ decimal e.requester ∷ decimal e.number ∷ []) ws
+FrontIs ws _ = Unit {0}
 
 requester-digits : OneWord → (w : List ℕ) (i : ℕ) → fields.requester w ≡ Some i → w ≡ decimal i
-requester-digits own w i h =
-    let t = then-first (numeral 10 7 w) (λ i. cond (i == 0) None (Some i)) i h in
-    elim (cases_Bool (t.value == 0)) [
-      | inl hit ↦ absurd (let k = rw hit at t.follows in cc k)
-      | inr miss ↦ own 7 t.value w (omega arith) t.is ∙ ap decimal (some-is t.value i (rw miss at t.follows))
-    ]
+requester-digits own w i h = own 7 i w (omega arith) (requester-is w i h).0
 
 op-some : (ws : List (List ℕ)) (op : Op) → op_spelled ws ≡ Some op → 0 < length ws
 op-some [] op h = absurd (cc h)
@@ -116,58 +106,44 @@ reply-some : (ws : List (List ℕ)) (reply : Reply) → reply_spelled ws ≡ Som
 reply-some [] reply h = absurd (cc h)
 reply-some (w ∷ ws) reply h = omega arith
 
+-- the numbers of a record are spelled in decimal
+record-front : {X : Type 0} → OneWord → (kind : List ℕ) (spells : List (List ℕ) → Option X) (made : ℕ → ℕ → ℕ → X → Line) (ws : List (List ℕ)) (l : Line)
+    → (s : RecordWords spells made ws l) → 0 < length s.rest
+    → Begins (kind ∷ decimal s.requester.value ∷ decimal s.number.value ∷ decimal s.count.value ∷ []) (kind ∷ ws)
+record-front own kind spells made ws l s some =
+    let a = requester-digits own s.requester.word s.requester.value s.requester.is in
+    let b = own 4294967294 s.number.value s.number.word (omega arith) s.number.is in
+    let c = own 18446744073709551615 s.count.value s.count.word (omega arith) s.count.is in
+    record {
+      rest = s.rest;
+      is = ap (λ (t : List (List ℕ)). kind ∷ t) s.front
+          ∙ ap (λ (w : List ℕ). kind ∷ w ∷ s.number.word ∷ s.count.word ∷ s.rest) a
+          ∙ ap (λ (w : List ℕ). kind ∷ decimal s.requester.value ∷ w ∷ s.count.word ∷ s.rest) b
+          ∙ ap (λ (w : List ℕ). kind ∷ decimal s.requester.value ∷ decimal s.number.value ∷ w ∷ s.rest) c;
+      some = some;
+    }
+
 sub-front : OneWord → (ws : List (List ℕ)) (l : Line) → forms.sub_of ws ≡ Some l → FrontIs (codes "sub" ∷ ws) l
 sub-front own ws l h =
-    let made : ℕ → ℕ → ℕ → Op → Option Line = λ i k n op. Some (lines.Record (records.Sub i k op n)) in
-    let i = field-first fields.requester (λ i. field fields.number (λ k. field fields.count (λ n rest. then_with (op_spelled rest) (made i k n)))) ws l h in
-    let k = field-first fields.number (λ k. field fields.count (λ n rest. then_with (op_spelled rest) (made i.value k n))) i.rest l i.follows in
-    let n = field-first fields.count (λ n rest. then_with (op_spelled rest) (made i.value k.value n)) k.rest l k.follows in
-    let op = then-first (op_spelled n.rest) (made i.value k.value n.value) l n.follows in
-    let a = requester-digits own i.word i.value i.is in
-    let b = own 4294967294 k.value k.word (omega arith) k.is in
-    let c = own 18446744073709551615 n.value n.word (omega arith) n.is in
-    subst (FrontIs (codes "sub" ∷ ws)) (some-is (lines.Record (records.Sub i.value k.value op.value n.value)) l op.follows) (record {
-      rest = n.rest;
-      is = ap (λ (t : List (List ℕ)). codes "sub" ∷ t) (i.front ∙ ap (λ (t : List (List ℕ)). i.word ∷ t) (k.front ∙ ap (λ (t : List (List ℕ)). k.word ∷ t) n.front))
-          ∙ ap (λ (w : List ℕ). codes "sub" ∷ w ∷ k.word ∷ n.word ∷ n.rest) a
-          ∙ ap (λ (w : List ℕ). codes "sub" ∷ decimal i.value ∷ w ∷ n.word ∷ n.rest) b
-          ∙ ap (λ (w : List ℕ). codes "sub" ∷ decimal i.value ∷ decimal k.value ∷ w ∷ n.rest) c;
-      some = op-some n.rest op.value op.is;
-    })
+    let s = record-words op_spelled sub ws l h in
+    subst (FrontIs (codes "sub" ∷ ws)) s.line (record-front own (codes "sub") op_spelled sub ws l s (op-some s.rest s.said s.is))
 
 ans-front : OneWord → (ws : List (List ℕ)) (l : Line) → forms.ans_of ws ≡ Some l → FrontIs (codes "ans" ∷ ws) l
 ans-front own ws l h =
-    let made : ℕ → ℕ → ℕ → Reply → Option Line = λ i k n reply. Some (lines.Record (records.Ans i k reply n)) in
-    let i = field-first fields.requester (λ i. field fields.number (λ k. field fields.count (λ n rest. then_with (reply_spelled rest) (made i k n)))) ws l h in
-    let k = field-first fields.number (λ k. field fields.count (λ n rest. then_with (reply_spelled rest) (made i.value k n))) i.rest l i.follows in
-    let n = field-first fields.count (λ n rest. then_with (reply_spelled rest) (made i.value k.value n)) k.rest l k.follows in
-    let reply = then-first (reply_spelled n.rest) (made i.value k.value n.value) l n.follows in
-    let a = requester-digits own i.word i.value i.is in
-    let b = own 4294967294 k.value k.word (omega arith) k.is in
-    let c = own 18446744073709551615 n.value n.word (omega arith) n.is in
-    subst (FrontIs (codes "ans" ∷ ws)) (some-is (lines.Record (records.Ans i.value k.value reply.value n.value)) l reply.follows) (record {
-      rest = n.rest;
-      is = ap (λ (t : List (List ℕ)). codes "ans" ∷ t) (i.front ∙ ap (λ (t : List (List ℕ)). i.word ∷ t) (k.front ∙ ap (λ (t : List (List ℕ)). k.word ∷ t) n.front))
-          ∙ ap (λ (w : List ℕ). codes "ans" ∷ w ∷ k.word ∷ n.word ∷ n.rest) a
-          ∙ ap (λ (w : List ℕ). codes "ans" ∷ decimal i.value ∷ w ∷ n.word ∷ n.rest) b
-          ∙ ap (λ (w : List ℕ). codes "ans" ∷ decimal i.value ∷ decimal k.value ∷ w ∷ n.rest) c;
-      some = reply-some n.rest reply.value reply.is;
-    })
+    let s = record-words reply_spelled ans ws l h in
+    subst (FrontIs (codes "ans" ∷ ws)) s.line (record-front own (codes "ans") reply_spelled ans ws l s (reply-some s.rest s.said s.is))
 
 ent-front : OneWord → (ws : List (List ℕ)) (l : Line) → forms.ent_of ws ≡ Some l → FrontIs (codes "ent" ∷ ws) l
 ent-front own ws l h =
-    let made : ℕ → ℕ → Op → Option Line = λ i k op. Some (lines.Entry (record { requester = i; number = k; op = op })) in
-    let i = field-first fields.requester (λ i. field fields.number (λ k rest. then_with (op_spelled rest) (made i k))) ws l h in
-    let k = field-first fields.number (λ k rest. then_with (op_spelled rest) (made i.value k)) i.rest l i.follows in
-    let op = then-first (op_spelled k.rest) (made i.value k.value) l k.follows in
-    let a = requester-digits own i.word i.value i.is in
-    let b = own 4294967294 k.value k.word (omega arith) k.is in
-    subst (FrontIs (codes "ent" ∷ ws)) (some-is (lines.Entry (record { requester = i.value; number = k.value; op = op.value })) l op.follows) (record {
-      rest = k.rest;
-      is = ap (λ (t : List (List ℕ)). codes "ent" ∷ t) (i.front ∙ ap (λ (t : List (List ℕ)). i.word ∷ t) k.front)
-          ∙ ap (λ (w : List ℕ). codes "ent" ∷ w ∷ k.word ∷ k.rest) a
-          ∙ ap (λ (w : List ℕ). codes "ent" ∷ decimal i.value ∷ w ∷ k.rest) b;
-      some = op-some k.rest op.value op.is;
+    let s = entry-words ws l h in
+    let a = requester-digits own s.requester.word s.requester.value s.requester.is in
+    let b = own 4294967294 s.number.value s.number.word (omega arith) s.number.is in
+    subst (FrontIs (codes "ent" ∷ ws)) s.line (record {
+      rest = s.rest;
+      is = ap (λ (t : List (List ℕ)). codes "ent" ∷ t) s.front
+          ∙ ap (λ (w : List ℕ). codes "ent" ∷ w ∷ s.number.word ∷ s.rest) a
+          ∙ ap (λ (w : List ℕ). codes "ent" ∷ decimal s.requester.value ∷ w ∷ s.rest) b;
+      some = op-some s.rest s.op s.is;
     })
 
 -- of a line of that kind, or of another
@@ -206,19 +182,19 @@ line-front own v (kind ∷ ws) l h =
 -- ---- what is kept of a line's text, with what is written behind it
 
 abbrev Keeps : List ℕ → List ℕ → Line → Type 0
-Keeps text behind l = (length behind ≤ length text) × (added l ≡ take (length text - length behind) text ++ rest_of l)
+Keeps text behind l = (length behind ≤ length text) × (added l ≡ take (length text - length behind) text ++ behind_of l)
 
-keeps-by : (text behind : List ℕ) (front rest : List (List ℕ)) (l : Line) → words text ≡ front ++ rest → words behind ≡ rest → added l ≡ spaced front ++ rest_of l → Keeps text behind l
+keeps-by : (text behind : List ℕ) (front rest : List (List ℕ)) (l : Line) → words text ≡ front ++ rest → words behind ≡ rest → added l ≡ with_spaces_behind front ++ behind_of l → Keeps text behind l
 keeps-by text behind front rest l is same e =
     let whole = text-by text behind front (is ∙ ap (λ (ws : List (List ℕ)). front ++ ws) (sym same)) in
-    let len : length text ≡ length (spaced front) + length behind = ap length whole ∙ length-append (spaced front) behind in
-    let most : length text - length behind ≡ length (spaced front) = omega (arith, len) in
-    let kept : take (length text - length behind) text ≡ spaced front =
+    let len : length text ≡ length (with_spaces_behind front) + length behind = ap length whole ∙ length-append (with_spaces_behind front) behind in
+    let most : length text - length behind ≡ length (with_spaces_behind front) = omega (arith, len) in
+    let kept : take (length text - length behind) text ≡ with_spaces_behind front =
     ap (λ (n : ℕ). take n text) most
-    ∙ ap (take (length (spaced front))) whole
-    ∙ take-append-le (length (spaced front)) (spaced front) behind (omega arith)
-    ∙ take_all (length (spaced front)) (spaced front) (omega arith) in
-    (omega (arith, len), e ∙ ap (λ (t : List ℕ). t ++ rest_of l) (sym kept))
+    ∙ ap (take (length (with_spaces_behind front))) whole
+    ∙ take-append-le (length (with_spaces_behind front)) (with_spaces_behind front) behind (omega arith)
+    ∙ take_all (length (with_spaces_behind front)) (with_spaces_behind front) (omega arith) in
+    (omega (arith, len), e ∙ ap (λ (t : List ℕ). t ++ behind_of l) (sym kept))
 
 no-words : {P : Type 0} (line : List ℕ) → words line ≡ [] → P
 no-words line e = absurd (omega (arith, some-words line, ap length e))
@@ -241,24 +217,24 @@ keeps text behind lines.End f b = no-words behind b
 pub keeps-front : OneWord → (v : Version) (text behind : List ℕ) (l : Line) → line_of v (words text) ≡ Some l → words behind ≡ behind_numbers l (words text) → Keeps text behind l
 keeps-front own v text behind l h b = keeps text behind l (line-front own v (words text) l h) b
 
-ends-in-none : {P : Type 0} (front ws : List (List ℕ)) (f : Ends front ws) → [] ≡ f.rest → P
-ends-in-none front ws f e = absurd (omega (arith, f.some, ap length e))
+nothing-behind : {P : Type 0} (front ws : List (List ℕ)) (f : Begins front ws) → [] ≡ f.rest → P
+nothing-behind front ws f e = absurd (omega (arith, f.some, ap length e))
 
-nothing : (ws : List (List ℕ)) (l : Line) → FrontIs ws l → [] ≡ behind_numbers l ws → added l ≡ rest_of l
+nothing : (ws : List (List ℕ)) (l : Line) → FrontIs ws l → [] ≡ behind_numbers l ws → added l ≡ behind_of l
 nothing ws (lines.FirstLine v) f b = refl
 nothing ws (lines.Memory x) f b = refl
-nothing ws (lines.Record (records.Sub i k op n)) f b = ends-in-none _ ws f (b ∙ ap (drop 4) f.is)
-nothing ws (lines.Record (records.Ans i k reply n)) f b = ends-in-none _ ws f (b ∙ ap (drop 4) f.is)
+nothing ws (lines.Record (records.Sub i k op n)) f b = nothing-behind _ ws f (b ∙ ap (drop 4) f.is)
+nothing ws (lines.Record (records.Ans i k reply n)) f b = nothing-behind _ ws f (b ∙ ap (drop 4) f.is)
 nothing ws lines.History f b = refl
-nothing ws (lines.Entry e) f b = ends-in-none _ ws f (b ∙ ap (drop 3) f.is)
+nothing ws (lines.Entry e) f b = nothing-behind _ ws f (b ∙ ap (drop 3) f.is)
 nothing ws lines.End f b = refl
 
-pub keeps-nothing : OneWord → (v : Version) (text : List ℕ) (l : Line) → line_of v (words text) ≡ Some l → [] ≡ behind_numbers l (words text) → added l ≡ rest_of l
+pub keeps-nothing : OneWord → (v : Version) (text : List ℕ) (l : Line) → line_of v (words text) ≡ Some l → [] ≡ behind_numbers l (words text) → added l ≡ behind_of l
 keeps-nothing own v text l h b = nothing (words text) l (line-front own v (words text) l h) b
 
 -- what is kept after a line, by its parts
 pub line-written : (w : RewriteFormView) (version : Version) (text front rest : List ℕ) (l : Line) → version ≡ version_after w.version l → text ≡ w.text ++ (front ++ rest)
-    → rest ≡ rest_of l → added l ≡ front ++ rest_of l → record { version = version; text = text } ≡ written w l
+    → rest ≡ behind_of l → added l ≡ front ++ behind_of l → record { version = version; text = text } ≡ written w l
 line-written w version text front rest l v t r a =
     let all : text ≡ w.text ++ added l = t ∙ ap (λ (e : List ℕ). w.text ++ (front ++ e)) r ∙ ap (λ (e : List ℕ). w.text ++ e) (sym a) in
     rw (v, all) refl

@@ -3,7 +3,7 @@ use Rattle.std.proofs.Common.{◌≡◌, ℕ, ◌+◌, ◌-◌, ◌^◌, ◌<◌
 use Rattle.std.specs.Prelude.{◌==◌, if◌then◌else◌, ◌&&◌, ◌≢◌, nat_lt, nat_le, codes, min}
 use Rattle.std.specs.Io.BufRead.{strip_last}
 use Rattle.std.specs.Fmt.{decimal}
-use Rattle.std.proofs.lemmas.Bool.{cases_Bool, and_parts, ne_eqb, eq-eqb}
+use Rattle.std.proofs.lemmas.Bool.{and_parts, ne_eqb}
 use Rattle.std.proofs.lemmas.Bool.Decides.{nat_tests}
 use Rattle.std.proofs.lemmas.List.{append-nil}
 use Rattle.std.proofs.lemmas.List.Elements.{All-nil, All-cons, All-append, All-head, All-tail, All-drop, All-get_or}
@@ -33,9 +33,10 @@ use Rattle.trace_text.specs.Forms.{line_of, section_after}
 use Rattle.trace_text.specs.TraceReaderView.{TraceReaderView, trace_grammar, nothing_read, at_end, read_of}
 use Rattle.trace_text.specs.Tellable.{IsTellableRecord, IsTellableEntry, IsTellable}
 use Rattle.trace_text.specs.Texts.{memory_line, record_line, entry_line, lines_text, trace_text}
-use Rattle.trace_text.proofs.FormLemmas.{IsSpelled, RecordIs, EntryIs, then-first, some-is}
+use Rattle.trace_text.proofs.FormLemmas.{IsSpelled, RecordIs, EntryIs}
 use Rattle.trace_text.proofs.ReadSpelled.{AllRecords, AllEntries, own-lines, own-nothing, OwnClaim, own-end}
 use Rattle.trace_text.proofs.TextLemmas.{lines_text-next, lines_text-none, trace_text-is}
+use Rattle.trace_text.proofs.ToldLemmas.{requester-range}
 
 -- what is known of the texts of numbers, operations and replies
 pub record Laws : Type 0 where
@@ -121,21 +122,9 @@ printed-is (c ∷ cs) h =
 -- ---- lines by their values
 
 module _ (law : Laws) where
-  requester-range : (i : ℕ) → IsSpelled fields.requester i → (i ≤ 7) × (i ≢ 0)
-  requester-range i h =
-      let t = then-first (numeral 10 7 h.0) (λ n. if n == 0 then None else Some n) i h.1 in
-      let le = law.range 10 7 t.value h.0 t.is in
-      elim (cases_Bool (t.value == 0)) [
-        | inl hit ↦ absurd (let k = rw hit at t.follows in cc k)
-        | inr miss ↦
-            let same : t.value ≡ i = some-is t.value i (rw miss at t.follows) in
-            let some : t.value ≢ 0 = λ e. (let yes0 = eq-eqb t.value 0 e in cc (sym yes0 ∙ miss)) in
-            (omega (arith, le, same), λ e. some (same ∙ e))
-      ]
-
   requester-back : (i : ℕ) → IsSpelled fields.requester i → fields.requester (decimal i) ≡ Some i
   requester-back i h =
-      let r = requester-range i h in
+      let r = requester-range law.range i h in
       let test : (i == 0) ≡ false = ne_eqb i 0 r.1 in
       rw (law.decimal_back 7 i r.0 (omega (arith, r.0)), test) refl
 
@@ -149,7 +138,7 @@ module _ (law : Laws) where
   address-back a h = let le = law.range 16 18446744073709551615 a h.0 h.1 in law.hexadecimal_back 18446744073709551615 a le (omega arith)
 
   requester-short : (i : ℕ) → IsSpelled fields.requester i → length (decimal i) ≤ 20
-  requester-short i h = let r = requester-range i h in (law.short i (omega (arith, r.0))).0
+  requester-short i h = let r = requester-range law.range i h in (law.short i (omega (arith, r.0))).0
 
   number-short : (k : ℕ) → IsSpelled fields.number k → length (decimal k) ≤ 20
   number-short k h = let le = law.range 10 4294967294 k h.0 h.1 in (law.short k (omega arith)).0

@@ -19,7 +19,7 @@ use Rattle.trace_text.specs.Forms.{line_of, section_after}
 use Rattle.trace_text.specs.TraceReaderView.{TraceFormView, TraceReaderView, trace_grammar, kept, nothing_read, take_line, claim_in, claim_read}
 use Rattle.trace_text.specs.TraceReaderView.{after_line as read_line, after_long_line as read_long_line}
 use Rattle.trace_text.specs.Texts.{memory_line, record_line, entry_line, lines_text, records_text, trace_text}
-use Rattle.trace_text.specs.TraceRewriterView.{TraceRewriterView, rewrite_grammar, added, version_after, after_line, long_line_passed, text_in, text_at_end}
+use Rattle.trace_text.specs.TraceRewriterView.{TraceRewriterView, rewrite_grammar, added, version_after, after_line, after_long_line, text_in, text_at_end}
 use Rattle.trace_text.specs.Rewritten.{rewrite_line, text_of, RewritingIsReading}
 use Rattle.trace_text.proofs.TextLemmas.{lines_text-append, lines_text-next, lines_text-none, trace_text-by}
 
@@ -170,7 +170,7 @@ after s line h = by (is_some s.fault) (is_skipped line)
     by false true = record { is = refl; order = h }
     by false false = by-form s other h
 
-after-long : (s : TraceReaderView) → IsInOrder s.section s.form → Stands (long_line_passed (rewriter_of s)) (read_long_line s)
+after-long : (s : TraceReaderView) → IsInOrder s.section s.form → Stands (after_long_line (rewriter_of s)) (read_long_line s)
 after-long s h = by (is_some s.fault)
   where
     by : (faulty : Bool) → Stands
@@ -182,7 +182,7 @@ after-long s h = by (is_some s.fault)
 line : (s : TraceReaderView) (l : List ℕ) → IsInOrder s.section s.form → Stands (rewrite_line (rewriter_of s) l) (take_line s l)
 line s l h = by (nat_lt 512 (length (bare l)))
   where
-    by : (long : Bool) → Stands (cond long (long_line_passed (rewriter_of s)) (after_line (rewriter_of s) (said l))) (cond long (read_long_line s) (read_line s (said l)))
+    by : (long : Bool) → Stands (cond long (after_long_line (rewriter_of s)) (after_line (rewriter_of s) (said l))) (cond long (read_long_line s) (read_line s (said l)))
     by true = after-long s h
     by false = after s (said l) h
 

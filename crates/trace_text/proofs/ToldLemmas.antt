@@ -1,7 +1,6 @@
 -- What is read of a trace can be told.
 use Rattle.std.proofs.Common.{◌≡◌, ◌∙◌, ℕ, ◌≤◌, Bool, true, false, List, [], ◌∷◌, refl, sym, arith, All, Some, None, inl, inr, Ok}
 use Rattle.std.specs.Prelude.{◌==◌, ◌&&◌, ◌≢◌, if◌then◌else◌}
-use Rattle.std.proofs.lemmas.Bool.{cases_Bool, eq-eqb}
 use Rattle.std.proofs.lemmas.Bool.Decides.{nat_tests}
 use Rattle.std.proofs.lemmas.List.Elements.{All-nil, All-cons}
 use Rattle.seq_memory.specs.Entries.{Entry}
@@ -16,7 +15,7 @@ use Rattle.record_text.specs.Forms as fields
 use Rattle.record_text.specs.ReadingFacts as readings
 use Rattle.trace_text.specs.TraceReaderView.{trace_grammar, nothing_read, read_of}
 use Rattle.trace_text.specs.Tellable.{IsRequest, IsTellableRecord, IsTellableEntry, IsTellable}
-use Rattle.trace_text.proofs.FormLemmas.{IsSpelled, RecordIs, then-first, some-is, extent-is}
+use Rattle.trace_text.proofs.FormLemmas.{IsSpelled, RecordIs, requester-is, extent-is}
 use Rattle.trace_text.proofs.ReadSpelled.{AllRecords, AllEntries, OwnClaim, own-lines, own-nothing, own-end}
 
 -- a number that a word spells is no greater than it may be
@@ -24,16 +23,7 @@ abbrev pub InRange : Type 0
 InRange = (radix most n : ℕ) (word : List ℕ) → numeral radix most word ≡ Some n → n ≤ most
 
 pub requester-range : InRange → (i : ℕ) → IsSpelled fields.requester i → (i ≤ 7) × (i ≢ 0)
-requester-range range i h =
-    let t = then-first (numeral 10 7 h.0) (λ n. if n == 0 then None else Some n) i h.1 in
-    let le = range 10 7 t.value h.0 t.is in
-    elim (cases_Bool (t.value == 0)) [
-      | inl hit ↦ absurd (let k = rw hit at t.follows in cc k)
-      | inr miss ↦
-          let same : t.value ≡ i = some-is t.value i (rw miss at t.follows) in
-          let some : t.value ≢ 0 = λ e. (let yes0 = eq-eqb t.value 0 e in cc (sym yes0 ∙ miss)) in
-          (omega (arith, le, same), λ e. some (same ∙ e))
-    ]
+requester-range range i h = let r = requester-is h.0 i h.1 in (range 10 7 i h.0 r.0, r.1)
 
 -- ---- a memory
 

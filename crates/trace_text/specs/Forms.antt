@@ -1,5 +1,6 @@
 -- The forms of lines.
-use Rattle.std.specs.Prelude.{ℕ, ◌==◌, Bool, true, false, if◌then◌else◌, List, [], ◌∷◌, Option, Some, None, drop, codes, bytes_eq}
+use Rattle.std.specs.Prelude.{ℕ, ◌==◌, Bool, true, false, if◌then◌else◌, List, [], ◌∷◌, Option, Some, None, Result, drop, option_map, codes, bytes_eq}
+use Rattle.std.specs.Result.{result_ok}
 use Rattle.history_words.specs.declared.record.RecordOf.TheVariants as records
 use Rattle.operation_text.specs.Words.{then_with, field, ended}
 use Rattle.operation_text.specs.Numbers.{numeral}
@@ -9,6 +10,8 @@ use Rattle.record_text.specs.declared.form.Section.{Section}
 use Rattle.record_text.specs.declared.form.Section.TheVariants as sections
 use Rattle.trace_text.specs.declared.line.Version.{Version}
 use Rattle.trace_text.specs.declared.line.Version.TheVariants as versions
+use Rattle.operation_text.specs.declared.misfit.Misfit.{Misfit}
+use Rattle.trace_text.specs.declared.line.ReadLine.{ReadLine}
 use Rattle.trace_text.specs.declared.line.Line.{Line}
 use Rattle.trace_text.specs.declared.line.Line.TheVariants as lines
 
@@ -63,6 +66,10 @@ section_after sections.Records lines.History = Some sections.History
 section_after sections.History (lines.Entry e) = Some sections.History
 section_after sections.History lines.End = Some sections.End
 section_after _ _ = None
+
+-- the line that was read, if the text spells one
+abbrev pub line_in : Result ReadLine Misfit → Option Line
+line_in read = option_map (λ s. s.line) (result_ok read)
 
 -- the words behind the numbers of a record or an entry: those of its operation or its reply; none of other lines
 abbrev pub behind_numbers : Line → List (List ℕ) → List (List ℕ)

@@ -87,7 +87,7 @@ at_end s = claim_in (reads.at_end s)
 abbrev pub read_of : List ℕ → Result Claim ReadFault
 read_of text = claim_in (reads.read_of trace_grammar no_trace text)
 
--- a growth was refused for a record or an entry, before which no fault was read
+-- an allocation failed for a record or an entry, before which no fault was read
 abbrev pub IsRefused : List ℕ → ReadFault → Type 0
 IsRefused text f = reads.IsRefused trace_grammar no_trace text f
 

@@ -1,5 +1,5 @@
 -- A text of a trace that is written in the second version while it is read.
-use Rattle.std.specs.Prelude.{ℕ, true, List, [], ◌∷◌, ◌++◌, codes, Result, Ok, Err}
+use Rattle.std.specs.Prelude.{ℕ, Bool, true, List, [], ◌∷◌, ◌++◌, codes, Result, Ok, Err}
 use Rattle.history_words.specs.declared.record.RecordOf.TheVariants as records
 use Rattle.operation_text.specs.Words.{words}
 use Rattle.operation_text.specs.Texts.{op_text, reply_text}
@@ -28,15 +28,12 @@ added lines.History = codes "history\n"
 added (lines.Entry e) = entry_line e ++ 10 ∷ []
 added lines.End = codes "end\n"
 
--- what is written of a line from its operation or its reply on; of all of it, if it has neither
-abbrev pub rest_of : Line → List ℕ
-rest_of (lines.FirstLine v) = added (lines.FirstLine v)
-rest_of (lines.Memory x) = added (lines.Memory x)
-rest_of (lines.Record (records.Sub i k op n)) = op_text op ++ 10 ∷ []
-rest_of (lines.Record (records.Ans i k reply n)) = reply_text reply ++ 10 ∷ []
-rest_of lines.History = added lines.History
-rest_of (lines.Entry e) = op_text e.op ++ 10 ∷ []
-rest_of lines.End = added lines.End
+-- what is written of a line from its operation or its reply on; all of the line, if it has neither
+abbrev pub behind_of : Line → List ℕ
+behind_of (lines.Record (records.Sub i k op n)) = op_text op ++ 10 ∷ []
+behind_of (lines.Record (records.Ans i k reply n)) = reply_text reply ++ 10 ∷ []
+behind_of (lines.Entry e) = op_text e.op ++ 10 ∷ []
+behind_of l = added l
 
 abbrev pub version_after : Version → Line → Version
 version_after v (lines.FirstLine w) = w
@@ -57,8 +54,12 @@ nothing_rewritten = reads.nothing_read (record { version = versions.One; text = 
 abbrev pub after_line : TraceRewriterView → List ℕ → TraceRewriterView
 after_line w line = reads.after_line rewrite_grammar w line
 
-abbrev pub long_line_passed : TraceRewriterView → TraceRewriterView
-long_line_passed w = reads.after_long_line w
+-- a line may add to what is kept
+abbrev pub adds_one : TraceRewriterView → List ℕ → Bool
+adds_one w line = reads.adds_one rewrite_grammar w line
+
+abbrev pub after_long_line : TraceRewriterView → TraceRewriterView
+after_long_line w = reads.after_long_line w
 
 abbrev pub text_in : Result RewriteFormView ReadFault → Result (List ℕ) ReadFault
 text_in (Err f) = Err f

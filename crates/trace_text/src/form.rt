@@ -1,6 +1,5 @@
 //! What is kept of the text of a trace, and where its lines stand.
-ghost use Rattle.std.specs.Prelude.{◌≡◌, true, IfOk, OnErr, option_map};
-ghost use Rattle.std.specs.Result.{result_ok};
+ghost use Rattle.std.specs.Prelude.{◌≡◌, true, IfOk, OnErr};
 ghost use Rattle.record_text.specs.RecordReaderView.{adds};
 ghost use Rattle.record_text.specs.Step.{step_by, step_told};
 ghost use Rattle.trace_text.specs.TraceReaderView.{trace_grammar};
@@ -111,9 +110,9 @@ impl TraceForm {
         read: Result<ReadLine<'_, '_>, Misfit>,
         misfit: &mut Option<Misfit>,
     ) -> Result<Taken, AllocError>
-        ensures ok { IfOk result (λ t. step_told t self.new ≡ step_by trace_grammar section self.old (option_map (λ s. s.line) (result_ok read.entry))) }
+        ensures ok { IfOk result (λ t. step_told t self.new ≡ step_by trace_grammar section self.old (forms.line_in read.entry)) }
         ensures err { OnErr result (self.new ≡ self.old) }
-        ensures adds { OnErr result (adds trace_grammar section (option_map (λ s. s.line) (result_ok read.entry)) ≡ true) }
+        ensures adds { OnErr result (adds trace_grammar section (forms.line_in read.entry) ≡ true) }
     {
         let line = match read {
             Ok(ReadLine { line, .. }) => line,
@@ -127,6 +126,7 @@ impl TraceForm {
         };
         match line {
             Line::FirstLine(version) => self.version = version,
+            // (rattle has no proof of a line whose extent is taken by value)
             Line::Memory(ref extent) => self.store.set_extent(*extent),
             Line::Record(
                 RecordRef::Sub {

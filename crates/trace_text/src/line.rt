@@ -41,7 +41,7 @@ impl Version {
     }
 }
 
-/// What a line says: its record or its entry is lent.
+/// What a line says: its record or its entry is borrowed.
 #[derive(Drop)]
 pub(crate) enum Line<'r> {
     FirstLine(Version),
@@ -73,7 +73,7 @@ fn next_version(rest: Option<&[u8]>) -> Result<(Version, Option<&[u8]>), Misfit>
 
 /// The line, which has neither an operation nor a reply, if it ends here.
 fn whole<'l, 'r>(line: Line<'r>, rest: Option<&'l [u8]>) -> Result<ReadLine<'l, 'r>, Misfit>
-    ensures line { option_map (λ s. s.line) (result_ok result) ≡ ended line.entry (words_behind rest.entry) }
+    ensures line { forms.line_in result ≡ ended line.entry (words_behind rest.entry) }
     ensures behind { IfOk result (λ s. words_behind s.behind ≡ []) }
 {
     match alone(line, rest) {
@@ -83,7 +83,7 @@ fn whole<'l, 'r>(line: Line<'r>, rest: Option<&'l [u8]>) -> Result<ReadLine<'l, 
 }
 
 fn first_line<'l, 'r>(rest: Option<&'l [u8]>) -> Result<ReadLine<'l, 'r>, Misfit>
-    ensures line { option_map (λ s. s.line) (result_ok result) ≡ forms.first_line_of (words_behind rest.entry) }
+    ensures line { forms.line_in result ≡ forms.first_line_of (words_behind rest.entry) }
     ensures behind { IfOk result (λ s. words_behind s.behind ≡ []) }
 {
     let (version, rest) = next_version(rest)?;
@@ -94,7 +94,7 @@ fn memory_line<'l, 'r>(
     place: Option<&'l [u8]>,
     version: Version,
 ) -> Result<ReadLine<'l, 'r>, Misfit>
-    ensures line { option_map (λ s. s.line) (result_ok result) ≡ forms.memory_line_of version (words_behind place.entry) }
+    ensures line { forms.line_in result ≡ forms.memory_line_of version (words_behind place.entry) }
     ensures behind { IfOk result (λ s. words_behind s.behind ≡ []) }
 {
     match memory(place, version.has_block()) {
@@ -106,12 +106,13 @@ fn memory_line<'l, 'r>(
     }
 }
 
+/// The submission that the rest of a `sub` line spells: its bytes are put into the room, whose content doesn't count.
 #[inline(always)]
 pub(crate) fn sub<'l, 'r>(
     rest: Option<&'l [u8]>,
     room: &'r mut [u8; MAX_PAYLOAD],
 ) -> Result<ReadLine<'l, 'r>, Misfit>
-    ensures line { option_map (λ s. s.line) (result_ok result) ≡ forms.sub_of (words_behind rest.entry) }
+    ensures line { forms.line_in result ≡ forms.sub_of (words_behind rest.entry) }
     ensures behind { IfOk result (λ s. words_behind s.behind ≡ drop 3 (words_behind rest.entry)) }
 {
     let (requester, rest) = requester(rest)?;
@@ -130,12 +131,13 @@ pub(crate) fn sub<'l, 'r>(
     })
 }
 
+/// The answer that the rest of an `ans` line spells: its bytes are put into the room, whose content doesn't count.
 #[inline(always)]
 pub(crate) fn ans<'l, 'r>(
     rest: Option<&'l [u8]>,
     room: &'r mut [u8; MAX_PAYLOAD],
 ) -> Result<ReadLine<'l, 'r>, Misfit>
-    ensures line { option_map (λ s. s.line) (result_ok result) ≡ forms.ans_of (words_behind rest.entry) }
+    ensures line { forms.line_in result ≡ forms.ans_of (words_behind rest.entry) }
     ensures behind { IfOk result (λ s. words_behind s.behind ≡ drop 3 (words_behind rest.entry)) }
 {
     let (requester, rest) = requester(rest)?;
@@ -154,12 +156,13 @@ pub(crate) fn ans<'l, 'r>(
     })
 }
 
+/// The entry that the rest of an `ent` line spells: its bytes are put into the room, whose content doesn't count.
 #[inline(always)]
 pub(crate) fn ent<'l, 'r>(
     rest: Option<&'l [u8]>,
     room: &'r mut [u8; MAX_PAYLOAD],
 ) -> Result<ReadLine<'l, 'r>, Misfit>
-    ensures line { option_map (λ s. s.line) (result_ok result) ≡ forms.ent_of (words_behind rest.entry) }
+    ensures line { forms.line_in result ≡ forms.ent_of (words_behind rest.entry) }
     ensures behind { IfOk result (λ s. words_behind s.behind ≡ drop 2 (words_behind rest.entry)) }
 {
     let (requester, rest) = requester(rest)?;
@@ -184,7 +187,7 @@ fn line_by<'l, 'r>(
     text: &[u8],
     room: &'r mut [u8; MAX_PAYLOAD],
 ) -> Result<ReadLine<'l, 'r>, Misfit>
-    ensures line { option_map (λ s. s.line) (result_ok result) ≡ forms.line_by version kind.now (words_behind rest.entry) }
+    ensures line { forms.line_in result ≡ forms.line_by version kind.now (words_behind rest.entry) }
     ensures behind { IfOk result (λ s. words_behind s.behind ≡ forms.behind_numbers s.line (kind.now ∷ words_behind rest.entry)) }
 {
     if kind == b"sub".as_slice() {
@@ -206,15 +209,15 @@ fn line_by<'l, 'r>(
     }
 }
 
-/// The line that the text spells in a trace of that version, whatever its first word is, and its text from its operation
-/// or its reply on, if it has one. The line's bytes are put into the room, whose content doesn't count.
+/// The line that the text spells in a trace of that version, whatever its first word is. Its bytes are put into the room,
+/// whose content doesn't count.
 #[inline(never)]
 pub(crate) fn any_line<'l, 'r>(
     text: &'l [u8],
     version: Version,
     room: &'r mut [u8; MAX_PAYLOAD],
 ) -> Result<ReadLine<'l, 'r>, Misfit>
-    ensures line { option_map (λ s. s.line) (result_ok result) ≡ forms.line_of version (words text.now) }
+    ensures line { forms.line_in result ≡ forms.line_of version (words text.now) }
     ensures behind { IfOk result (λ s. words_behind s.behind ≡ forms.behind_numbers s.line (words text.now)) }
 {
     let (kind, rest) = cut(text);

@@ -53,7 +53,7 @@ impl TraceReader {
     }
 
     /// Takes a line, without the line feed and the carriage return that end it. Behind a fault
-    /// nothing is read. `Err` tells that a growth was refused, for a record or an entry behind no
+    /// nothing is read. `Err` tells that an allocation failed, for a record or an entry behind no
     /// fault; nothing was taken then.
     #[inline(always)]
     pub fn line(&mut self, line: &[u8]) -> Result<(), AllocError>

@@ -9,7 +9,7 @@ use trace_store::TraceStore;
 
 /// The trace and the history that the text spells, or its first fault: its lines end in line feeds,
 /// the last may lack it, and one carriage return before a line feed is ignored. A fault of kind
-/// `Memory` tells that a growth was refused, for a record or an entry behind no fault. Nothing is
+/// `Memory` tells that an allocation failed, for a record or an entry behind no fault. Nothing is
 /// read behind the first fault.
 pub fn read_trace(alloc: Global, text: &[u8]) -> Result<TraceStore, ReadFault>
     ensures ok { IfOk result (λ t. read_of text.now ≡ Ok t) }

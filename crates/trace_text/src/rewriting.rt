@@ -1,16 +1,15 @@
 //! Writing a trace in the second version while it is read.
-ghost use Rattle.std.specs.Prelude.{◌≡◌, ◌++◌, OnOk, OnErr, IfOk, IfErr, Some, Ok, Err, option_map, true};
-ghost use Rattle.std.specs.Result.{result_ok};
+ghost use Rattle.std.specs.Prelude.{◌≡◌, ◌++◌, OnOk, OnErr, IfOk, IfErr, Some, Ok, Err, true};
 ghost use Rattle.operation_text.specs.Words.{words, words_behind};
 ghost use Rattle.record_text.specs.RecordReaderView.{adds};
 ghost use Rattle.record_text.specs.Step.{step_by, step_told};
-ghost use Rattle.trace_text.specs.Forms.{line_of, behind_numbers};
+ghost use Rattle.trace_text.specs.Forms.{line_of, line_in, behind_numbers};
 ghost use Rattle.trace_text.specs.TraceRewriterView.{rewrite_grammar};
 ghost use Rattle.trace_text.specs.TraceRewriterView as writes;
 
 use crate::form::{begins_with, expected, section_after};
 use crate::line::{Line, ReadLine, Version, ans, any_line, ent, sub};
-use crate::writing::put_rest;
+use crate::writing::write_behind;
 use arrayvec::ArrayString;
 use operation_text::{Expected, Misfit, own_digits_spell_number};
 use record_text::{Cause, Form, ReadFault, RecordReader, Scratch, Section, Taken};
@@ -47,7 +46,7 @@ fn version_after(version: Version, line: &Line<'_>) -> Version
 
 /// Adds both to the text, or nothing.
 #[inline(always)]
-fn add(text: &mut Vec<u8>, front: &[u8], rest: &[u8]) -> Result<(), AllocError>
+fn put_both(text: &mut Vec<u8>, front: &[u8], rest: &[u8]) -> Result<(), AllocError>
     ensures ok { OnOk result (text.new.items ≡ text.old.items ++ (front.now ++ rest.now)) }
     ensures err { OnErr result (text.new.items ≡ text.old.items) }
 {
@@ -81,8 +80,8 @@ impl RewriteForm {
         };
         let version = version_after(self.version, &line);
         self.line.clear();
-        put_rest(line, &mut self.line);
-        add(&mut self.text, front, self.line.as_bytes())?;
+        write_behind(line, &mut self.line);
+        put_both(&mut self.text, front, self.line.as_bytes())?;
         self.version = version;
         Ok(())
     }
@@ -98,9 +97,9 @@ impl RewriteForm {
     ) -> Result<Taken, AllocError>
         requires spelled { IfOk read (λ s. line_of self.old.version (words text.now) ≡ Some s.line) }
         requires behind { IfOk read (λ s. words_behind s.behind ≡ behind_numbers s.line (words text.now)) }
-        ensures ok { IfOk result (λ t. step_told t self.new ≡ step_by rewrite_grammar section self.old (option_map (λ s. s.line) (result_ok read.entry))) }
+        ensures ok { IfOk result (λ t. step_told t self.new ≡ step_by rewrite_grammar section self.old (line_in read.entry)) }
         ensures err { OnErr result (self.new ≡ self.old) }
-        ensures adds { OnErr result (adds rewrite_grammar section (option_map (λ s. s.line) (result_ok read.entry)) ≡ true) }
+        ensures adds { OnErr result (adds rewrite_grammar section (line_in read.entry) ≡ true) }
     {
         let ReadLine { line, behind } = match read {
             Ok(read) => read,
@@ -199,17 +198,19 @@ impl TraceRewriter {
     }
 
     /// Takes a line, without the line feed and the carriage return that end it. Behind a fault
-    /// nothing is read. `Err` tells that a growth was refused; nothing was taken then.
+    /// nothing is read. `Err` tells that an allocation failed, for a line that is due behind no fault;
+    /// nothing was taken then.
     pub fn line(&mut self, line: &[u8]) -> Result<(), AllocError>
         ensures ok { OnOk result (self.new ≡ writes.after_line self.old line.now) }
         ensures err { OnErr result (self.new ≡ self.old) }
+        ensures adds { OnErr result (writes.adds_one self.old line.now ≡ true) }
     {
         self.reader.line(line)
     }
 
     /// Takes a line of more bytes than a line may have: 512 before its line feed.
     pub fn long_line(&mut self)
-        ensures { self.new ≡ writes.long_line_passed self.old }
+        ensures { self.new ≡ writes.after_long_line self.old }
     {
         self.reader.long_line();
     }

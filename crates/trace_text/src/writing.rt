@@ -2,7 +2,7 @@
 ghost use Rattle.std.specs.Prelude.{◌≡◌, ◌≤◌, ◌++◌, ◌∷◌, [], length, map, string_bytes, IfOk, OnOk};
 ghost use Rattle.std.specs.Fmt.{decimal};
 ghost use Rattle.arrayvec.specs.ArrayString.{array_string_len};
-ghost use Rattle.trace_text.specs.TraceRewriterView.{rest_of};
+ghost use Rattle.trace_text.specs.TraceRewriterView.{behind_of};
 ghost use Rattle.trace_text.specs.Texts.{memory_line, record_line, entry_line, lines_text, records_text, trace_text};
 
 use crate::line::Line;
@@ -37,7 +37,7 @@ fn put_count(count: u64, line: &mut ArrayString<512>)
 }
 
 /// Writes the line of the memory.
-fn put_memory(extent: Extent, line: &mut ArrayString<512>)
+fn write_memory(extent: Extent, line: &mut ArrayString<512>)
     requires { array_string_len line.old ≡ 0 }
     ensures { line.new.bytes ≡ memory_line (record { base = extent.base; size = extent.size; block = extent.block; entries = [] }) ++ 10 ∷ [] }
 {
@@ -52,7 +52,7 @@ fn put_memory(extent: Extent, line: &mut ArrayString<512>)
 
 /// Writes the line of a record.
 #[inline(always)]
-fn put_record(seen: RecordRef<'_>, line: &mut ArrayString<512>)
+fn write_record(seen: RecordRef<'_>, line: &mut ArrayString<512>)
     requires { array_string_len line.old ≡ 0 }
     ensures { line.new.bytes ≡ record_line seen.entry ++ 10 ∷ [] }
 {
@@ -83,30 +83,26 @@ fn put_record(seen: RecordRef<'_>, line: &mut ArrayString<512>)
 
 /// Writes the line of an entry.
 #[inline(always)]
-fn put_entry(entry: EntryRef<'_>, line: &mut ArrayString<512>)
+fn write_entry(entry: EntryRef<'_>, line: &mut ArrayString<512>)
     requires { array_string_len line.old ≡ 0 }
     ensures { line.new.bytes ≡ entry_line entry.entry ++ 10 ∷ [] }
 {
-    let EntryRef {
-        requester,
-        number,
-        op,
-    } = entry;
-    put_request("ent ", requester, number, line);
+    put_request("ent ", entry.requester, entry.number, line);
     line.push_str(" ");
-    write_op(&op, line);
+    write_op(&entry.op, line);
     line.push_str("\n");
 }
 
-/// Writes what is new of a line in the second version: its operation or its reply; all of it, if it has neither.
+/// Writes the end of a line in the second version, from its operation or its reply on; the whole line, if it has neither.
 #[inline(always)]
-pub(crate) fn put_rest(said: Line<'_>, line: &mut ArrayString<512>)
+pub(crate) fn write_behind(said: Line<'_>, line: &mut ArrayString<512>)
     requires { array_string_len line.old ≡ 0 }
-    ensures { line.new.bytes ≡ rest_of said.entry }
+    ensures { line.new.bytes ≡ behind_of said.entry }
 {
     match said {
         Line::FirstLine(_) => line.push_str("pciex-trace 2\n"),
-        Line::Memory(ref extent) => put_memory(*extent, line),
+        // (rattle has no proof of a line whose extent is taken by value)
+        Line::Memory(ref extent) => write_memory(*extent, line),
         Line::Record(RecordRef::Sub { op, .. }) => {
             write_op(&op, line);
             line.push_str("\n");
@@ -125,14 +121,14 @@ pub(crate) fn put_rest(said: Line<'_>, line: &mut ArrayString<512>)
 }
 
 /// Adds the lines of the records.
-fn add_records<C: AsClaim>(claim: &C, text: &mut String) -> Result<(), AllocError>
+fn put_records<C: AsClaim>(claim: &C, text: &mut String) -> Result<(), AllocError>
     ensures { OnOk result (string_bytes text.new ≡ string_bytes text.old ++ lines_text (map record_line (C.claim claim.now).records)) }
 {
     let mut line = ArrayString::new();
     for place in 0..claim.records() {
         if let Some(record) = claim.record(place) {
             line.clear();
-            put_record(record, &mut line);
+            write_record(record, &mut line);
             text.push_str(line.as_str())?;
         }
     }
@@ -140,14 +136,14 @@ fn add_records<C: AsClaim>(claim: &C, text: &mut String) -> Result<(), AllocErro
 }
 
 /// Adds the lines of the entries.
-fn add_entries<C: AsClaim>(claim: &C, text: &mut String) -> Result<(), AllocError>
+fn put_entries<C: AsClaim>(claim: &C, text: &mut String) -> Result<(), AllocError>
     ensures { OnOk result (string_bytes text.new ≡ string_bytes text.old ++ lines_text (map entry_line (C.claim claim.now).memory.entries)) }
 {
     let mut line = ArrayString::new();
     for index in 0..claim.entries() {
         if let Some(entry) = claim.entry(index) {
             line.clear();
-            put_entry(entry, &mut line);
+            write_entry(entry, &mut line);
             text.push_str(line.as_str())?;
         }
     }
@@ -161,9 +157,9 @@ fn write_records<C: AsClaim>(alloc: Global, claim: &C) -> Result<String, AllocEr
     let mut text = String::new(alloc);
     text.push_str("pciex-trace 2\n")?;
     let mut line = ArrayString::new();
-    put_memory(claim.extent(), &mut line);
+    write_memory(claim.extent(), &mut line);
     text.push_str(line.as_str())?;
-    add_records(claim, &mut text)?;
+    put_records(claim, &mut text)?;
     text.push_str("history\n")?;
     Ok(text)
 }
@@ -174,7 +170,7 @@ pub fn write_trace<C: AsClaim>(alloc: Global, claim: &C) -> Result<String, Alloc
     ensures { IfOk result (λ text. string_bytes text ≡ trace_text (C.claim claim.now)) }
 {
     let mut text = write_records(alloc, claim)?;
-    add_entries(claim, &mut text)?;
+    put_entries(claim, &mut text)?;
     text.push_str("end\n")?;
     Ok(text)
 }

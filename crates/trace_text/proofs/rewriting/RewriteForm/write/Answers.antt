@@ -1,7 +1,7 @@
 use Rattle.std.proofs.Common.{sym, ap, ◌∙◌, ◌++◌, List, ℕ}
 use Rattle.std.specs.Borrow.{Bor}
 use Rattle.operation_text.specs.Words.{words_behind}
-use Rattle.trace_text.specs.TraceRewriterView.{RewriteFormView, rest_of, version_after}
+use Rattle.trace_text.specs.TraceRewriterView.{RewriteFormView, behind_of, version_after}
 use Rattle.trace_text.proofs.FrontLemmas.{keeps-front, keeps-nothing, line-written}
 use Rattle.trace_text.proofs.rewriting.RewriteForm.write.Goals.{in-Some, in-None}
 use Rattle.trace_text.proofs.rewriting.RewriteForm.write.Goals as goal
@@ -17,15 +17,15 @@ returns-clause-ok c =
     let front = c.match-behind.front.now in
     let rest = c.as_bytes.result.now in
     let line = c.args.line in
-    line-written c.args.self.now c.version_after-version.result c.add.new.text.items front rest line
+    line-written c.args.self.now c.version_after-version.result c.put_both.new.text.items front rest line
     (c.version_after-version.ensures ∙ ap (λ (s : RewriteFormView). version_after s.version line) c.self.view_is)
-    (c.in_ok-add.ensures.ok ∙ ap (λ (s : RewriteFormView). s.text ++ (front ++ rest)) c.self.view_is)
-    (c.as_bytes.ensures.value ∙ c.deref.ensures.0 ∙ c.put_rest.ensures)
+    (c.in_ok-put_both.ensures.ok ∙ ap (λ (s : RewriteFormView). s.text ++ (front ++ rest)) c.self.view_is)
+    (c.as_bytes.ensures.value ∙ c.deref.ensures.0 ∙ c.write_behind.ensures)
     (elim c.match-behind.branch [
       | in-Some w ↦
           (keeps-front own c.args.self.now.version c.args.text.now w.in-Some.behind.now line c.requires.spelled (sym (ap words_behind w.in-Some.is) ∙ c.requires.behind)).1
-          ∙ ap (λ (b : Bor (List ℕ)). b.now ++ rest_of line) (sym w.front-is)
+          ∙ ap (λ (b : Bor (List ℕ)). b.now ++ behind_of line) (sym w.front-is)
       | in-None w ↦
           keeps-nothing own c.args.self.now.version c.args.text.now line c.requires.spelled (sym (ap words_behind w.in-None.is) ∙ c.requires.behind)
-          ∙ ap (λ (b : Bor (List ℕ)). b.now ++ rest_of line) (sym w.front-is)
+          ∙ ap (λ (b : Bor (List ℕ)). b.now ++ behind_of line) (sym w.front-is)
     ])

@@ -1,7 +1,7 @@
 use Rattle.std.proofs.Common.{◌≡◌, ◌++◌, drop, map}
 use Rattle.std.specs.Prelude.{string_bytes}
 use Rattle.trace_text.specs.Texts.{entry_line, lines_text}
-use Rattle.trace_text.proofs.writing.add_entries.Given as goal
+use Rattle.trace_text.proofs.writing.put_entries.Given as goal
 
 abbrev pub invariant-loop-index : goal.invariant-loop-index
 invariant-loop-index g l =

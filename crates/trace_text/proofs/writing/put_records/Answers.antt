@@ -2,8 +2,8 @@ use Rattle.std.proofs.Common.{◌∙◌, ap, sym}
 use Rattle.std.specs.Prelude.{string_bytes}
 use Rattle.trace_text.specs.Texts.{record_line}
 use Rattle.trace_text.proofs.TextLemmas.{text-next, text-past, text-there}
-use Rattle.trace_text.proofs.writing.add_records.Goals.{in-Some+in_ok-push_str, in_default}
-use Rattle.trace_text.proofs.writing.add_records.Goals as goal
+use Rattle.trace_text.proofs.writing.put_records.Goals.{in-Some+in_ok-push_str, in_default}
+use Rattle.trace_text.proofs.writing.put_records.Goals as goal
 
 pub loop-place-preserved : goal.loop-place-preserved
 loop-place-preserved g c =
@@ -11,7 +11,7 @@ loop-place-preserved g c =
     elim c.match-record.branch [
       | in-Some+in_ok-push_str w ↦
           text-next record_line xs c.loop-place.place w.in-Some.record (string_bytes c.loop-place.text) w.as_str.result.now (string_bytes c.match-record.text) (sym c.record.ensures ∙ w.in-Some.is)
-          (w.as_str.ensures.value ∙ w.put_record.ensures) (ap string_bytes w.text-is ∙ w.in_ok-push_str.ensures.bytes)
+          (w.as_str.ensures.value ∙ w.write_record.ensures) (ap string_bytes w.text-is ∙ w.in_ok-push_str.ensures.bytes)
           ∙ c.loop-place.invariant
       | in_default w ↦ absurd (text-there xs c.loop-place.place _ c.records-place-end.ensures c.loop-place-test.true (sym c.record.ensures ∙ w.in_default.is))
     ]

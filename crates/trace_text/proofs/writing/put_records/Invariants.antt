@@ -1,7 +1,7 @@
 use Rattle.std.proofs.Common.{◌≡◌, ◌++◌, drop, map}
 use Rattle.std.specs.Prelude.{string_bytes}
 use Rattle.trace_text.specs.Texts.{record_line, lines_text}
-use Rattle.trace_text.proofs.writing.add_records.Given as goal
+use Rattle.trace_text.proofs.writing.put_records.Given as goal
 
 abbrev pub invariant-loop-place : goal.invariant-loop-place
 invariant-loop-place g l =
