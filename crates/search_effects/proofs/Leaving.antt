@@ -13,6 +13,7 @@ use Rattle.seq_memory.specs.Step.{bytes_at, patched, place_after, read_back, ans
 use Rattle.search_effects.specs.Effects.{is_put, is_atomic}
 use Rattle.search_effects.proofs.Places.{inside, data_served, served_there, served_after, byte_there, length_place, merged_enabled, patched_same}
 use Rattle.search_effects.proofs.Apart.{Sizes, Places}
+use Rattle.search_effects.proofs.Needs.{same_items}
 
 whole : (xs : List ℕ) (c : ℕ) → length xs ≡ c → bytes_at xs 0 c ≡ xs
 whole xs c e = ap (λ n. take n xs) (sym e) ∙ take-length xs
@@ -20,11 +21,6 @@ whole xs c e = ap (λ n. take n xs) (sym e) ∙ take-length xs
 -- AtomicOps answer the bytes of their place
 abbrev pub IsWhole : Op → Type 0
 IsWhole op = (xs : List ℕ) → read_back op xs ≡ data_of xs
-
-same_items : (xs : List ℕ) (d : ArrayVec ℕ) → data_of xs ≡ replies.Data d → xs ≡ d.items
-same_items xs d e =
-    let same : (record { items = xs }) ≡ d = cc in
-    ap (λ (v : ArrayVec ℕ). v.items) same
 
 -- what an AtomicOp met, by its answer
 pub met : (base block : ℕ) (m : List ℕ) (op : Op) (d : ArrayVec ℕ) → IsWhole op → answer base block m op ≡ replies.Data d

@@ -7,7 +7,7 @@ use Rattle.tlp_core.specs.Operation.{address_of, count_of}
 use Rattle.seq_memory.specs.Entries.{Reply}
 use Rattle.seq_memory.specs.Step.{answer, is_enabled}
 
--- the reply that is lent, if there is one
+-- the reply that is borrowed, if there is one
 abbrev pub told_of : Option (Bor Reply) → Option Reply
 told_of told = option_map (λ reply. reply.now) told
 

@@ -120,16 +120,10 @@ fn atomic_data<'a>(one: &OpRef<'_>, told: Option<&'a ReplyRef<'a>>) -> Option<&'
     ensures atomic { IfSome result (λ old. effects.is_atomic one.now ≡ true) }
     ensures told { IfSome result (λ old. told_of told.entry ≡ Some (replies.Data old.now)) }
 {
-    if !is_atomic(one) {
-        return None;
+    match told {
+        Some(ReplyRef::Data(old)) if is_atomic(one) => Some(old),
+        _ => None,
     }
-    let Some(seen) = told else {
-        return None;
-    };
-    let ReplyRef::Data(old) = seen else {
-        return None;
-    };
-    Some(old)
 }
 
 /// Right after the AtomicOp, which was answered with those bytes, the memory answers `reply` to `other` only if it did
@@ -207,11 +201,7 @@ fn read_yields(
 fn is_refusal(reply: &ReplyRef<'_>) -> bool
     ensures { IsTrue result → (reply.now ≡ replies.Unsupported) ⊎ (reply.now ≡ replies.Aborted) }
 {
-    match reply {
-        ReplyRef::Unsupported => true,
-        ReplyRef::Aborted => true,
-        _ => false,
-    }
+    matches!(reply, ReplyRef::Unsupported | ReplyRef::Aborted)
 }
 
 /// The request wasn't served, as its reply tells.

@@ -15,7 +15,8 @@ use seq_memory::ReplyRef;
 use seq_memory::laws::{only_the_place_changes, refused_and_read_change_nothing};
 use tlp_core::{OpRef, Payload, PayloadRef, Width, payload_of};
 
-/// What an operation leaves of the bytes at its place.
+/// What an operation leaves of the bytes at its place. They are copied here, and not by `payload_of`, so that they aren't
+/// moved.
 #[inline(always)]
 pub(crate) fn changed(block: u16, op: &OpRef<'_>, old: &[u8]) -> Payload
     requires block { IsBlock block }

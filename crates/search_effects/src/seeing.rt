@@ -24,10 +24,7 @@ fn needs_there(one: &OpRef<'_>, other: &OpRef<'_>, at: usize) -> bool
     let Some(address) = one.address().checked_add(at as u64) else {
         return true;
     };
-    match place_of(other, address) {
-        Some(_) => true,
-        None => false,
-    }
+    place_of(other, address).is_some()
 }
 
 /// The first operation needs no byte of the second.

@@ -155,8 +155,7 @@ pub(crate) fn core_text(
             pieces,
         } if demand.has_core => {
             let text = few_of(alloc, case_of(seen, *prefix, pieces), demand.options.limit)?;
-            let found = confirmed(alloc, text, demand)?;
-            Ok(found)
+            confirmed(alloc, text, demand)
         }
         _ => Ok(None),
     }

@@ -1,4 +1,4 @@
-//! By which bound a search was ended.
+//! The end of a search that was given up.
 use search_history::Bound;
 
 /// By which bound a search was ended, and after how many choices: as many as it may look at, or fewer, where the work ended

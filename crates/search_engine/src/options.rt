@@ -1,4 +1,4 @@
-//! What a search is asked for.
+//! The options of a search.
 ghost use Rattle.std.specs.Prelude.{◌≡◌, false};
 ghost use Rattle.log_pieces.specs.declared.Granularity.TheVariants.{Whole};
 ghost use Rattle.search_engine.specs.Bounded.{bounds_of};

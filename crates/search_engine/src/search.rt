@@ -159,7 +159,8 @@ pub fn run_search_with_reasons<R: Read, W: Write, E: Write>(
 /// that explains what was seen; or one line: `none` with the place of a record up to which no history
 /// explains it, `limit` with the limit, where it looked at that many choices, `flaw` with the first bookkeeping mistake
 /// and its place, or `fault` with the line that can't be read and why. It looks at no more choices, and its work has no
-/// bound. `Ok` is the exit status: 0 for a trace, 3 for `limit`, else 1. After an `Err` at most a beginning was written.
+/// bound. `Ok` is the exit status: 0 for a trace, 3 for `limit`, else 1. After an `Err` what was written is a prefix of an
+/// answer.
 pub fn run_search<R: Read, W: Write>(
     alloc: Global,
     limit: u64,

@@ -63,5 +63,5 @@ all_at_words log p k q first end from who place least start own words w names b 
         | inl passed ↦
             let (i, op, told, at, touches) = named in
             least b (who b place passed (ap submits at) left)
-      ]) (omega (arith, slice_get_within p.state.acted b false left, place.len)) named left
+      ]) (omega (arith, slice_get_within p.state.acted b false left, place.table.len)) named left
 ]

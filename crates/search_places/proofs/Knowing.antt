@@ -15,7 +15,7 @@ use Rattle.search_places.specs.PlaceView.{PlaceView}
 use Rattle.search_places.specs.Pending.{IsTable}
 use Rattle.search_places.specs.Places.{IsPlace}
 use Rattle.search_places.specs.Known.{laid, whole, IsDeadKey, IsDeadEntry}
-use Rattle.search_places.proofs.Tables.{table_unique, table_of}
+use Rattle.search_places.proofs.Tables.{table_unique}
 
 pub pushed : (log : LogView) (es ns : List Entry) (k : Key) (next : ℕ) → ns ≡ es ++ (record { key = k; next = next }) ∷ [] → All (IsDeadEntry log) es → IsDeadKey log k → All (IsDeadEntry log) ns
 pushed log es ns k next e all dead = subst (All (IsDeadEntry log)) (sym e) (All-push (IsDeadEntry log) es (record { key = k; next = next }) all dead)
@@ -83,7 +83,7 @@ block_behind xs ys rest all e is =
 pub known_dead : (log : LogView) (p : PlaceView) (k : Key) → k.event ≡ p.state.event → k.pending.items ≡ p.pending → whole k ≡ p.state.bytes → IsPlace log p → IsDeadKey log k → Dead log p.state
 known_dead log p k event pending bytes place dead =
     let table : IsTable log k.event k.pending.items p.state.acted =
-    subst (λ n. IsTable log n k.pending.items p.state.acted) (sym event) (subst (λ ps. IsTable log p.state.event ps p.state.acted) (sym pending) (table_of log p place)) in
+    subst (λ n. IsTable log n k.pending.items p.state.acted) (sym event) (subst (λ ps. IsTable log p.state.event ps p.state.acted) (sym pending) place.table) in
     rw (← event, ← bytes) (dead p.state.acted table)
 
 -- the key of a dead place
@@ -92,5 +92,5 @@ pub key_of_dead : (log : LogView) (p : PlaceView) (k : Key) → k.event ≡ p.st
 key_of_dead log p k event pending bytes place dead acted t =
     let table : IsTable log p.state.event p.pending acted =
     subst (λ ps. IsTable log p.state.event ps acted) pending (subst (λ n. IsTable log n k.pending.items acted) event t) in
-    let same : acted ≡ p.state.acted = table_unique log p.state.event p.pending acted p.state.acted table (table_of log p place) in
+    let same : acted ≡ p.state.acted = table_unique log p.state.event p.pending acted p.state.acted table place.table in
     rw (event, bytes, same) dead

@@ -15,12 +15,12 @@ use Rattle.log_runs.specs.EventView.{EventView}
 use Rattle.log_runs.specs.EventView as events
 use Rattle.log_runs.specs.LogView.{LogView}
 use Rattle.log_runs.specs.Runs.{State, has_acted, MayAct, reply_of}
-use Rattle.search_places.specs.Pending.{has, submits, is_done, IsTable, is_post, ArePosts, is_write, blocks}
+use Rattle.search_places.specs.Pending.{has, submits, is_done, IsTable, is_post, ArePosts, is_post_of, blocks}
 use Rattle.search_places.specs.PlaceView.{PlaceView}
 use Rattle.search_places.specs.Places.{IsPlace}
 use Rattle.search_places.specs.Ready.{is_told, is_set, is_ready}
 use Rattle.search_places.proofs.Lists.{clash}
-use Rattle.search_places.proofs.Tables.{done_is, done_from, table_of}
+use Rattle.search_places.proofs.Tables.{done_is, done_from}
 
 -- ---- replies
 
@@ -85,7 +85,7 @@ has_any test (x ∷ xs) h = elim (or_cases (test x) (list_any test xs) h) [
   | inr there ↦ let (c, member, t) = has_any test xs there in (c, or_right (x == c) (has xs c) member, t)
 ]
 
-write_is : (i : ℕ) (o : Option EventView) → is_write i o ≡ true → (w : Op) × (r : Option Reply) × (o ≡ Some (events.Sub i w r)) × (is_posted w ≡ true)
+write_is : (i : ℕ) (o : Option EventView) → is_post_of i o ≡ true → (w : Op) × (r : Option Reply) × (o ≡ Some (events.Sub i w r)) × (is_posted w ≡ true)
 write_is i (Some (events.Sub j op told)) h =
     let (same, posted) = and_parts (i == j) (is_posted op) h in
     (op, told, ap (λ (k : ℕ). Some (events.Sub k op told)) (sym (eqb-true i j same)), posted)
@@ -93,8 +93,8 @@ write_is i (Some (events.Due b)) h = cc
 write_is i (Some events.Free) h = cc
 write_is i None h = cc
 
-write_from : (i : ℕ) (o : Option EventView) (w : Op) (r : Option Reply) → o ≡ Some (events.Sub i w r) → is_posted w ≡ true → is_write i o ≡ true
-write_from i o w r e p = subst (λ x. is_write i x ≡ true) (sym e) (and_from (i == i) (is_posted w) (eq-eqb i i refl) p)
+write_from : (i : ℕ) (o : Option EventView) (w : Op) (r : Option Reply) → o ≡ Some (events.Sub i w r) → is_posted w ≡ true → is_post_of i o ≡ true
+write_from i o w r e p = subst (λ x. is_post_of i x ≡ true) (sym e) (and_from (i == i) (is_posted w) (eq-eqb i i refl) p)
 
 unset : (xs : List Bool) (b : ℕ) (y : Bool) → slice_get xs b ≡ Some y → is_set (slice_get xs b) ≡ false → slice_get xs b ≡ Some false
 unset xs b y at e = at ∙ ap (λ (z : Bool). Some z) (sym (ap is_set at) ∙ e)
@@ -104,7 +104,7 @@ module _ (log : LogView) (s : State) (p ps : List ℕ) (t : IsTable log s.event 
   acted_before : (b i c : ℕ) (w : Op) (r : Option Reply) → b < s.event → list_any (blocks log i b) ps ≡ false → c < b → slice_get log.events c ≡ Some (events.Sub i w r) → is_posted w ≡ true → has_acted s c
   acted_before b i c w r late free l at posted =
       let inside = slice_get_within log.events c (events.Sub i w r) at in
-      let blocked : blocks log i b c ≡ true = and_from (nat_lt c b) (is_write i (slice_get log.events c)) (lt-ltb c b l) (write_from i (slice_get log.events c) w r at posted) in
+      let blocked : blocks log i b c ≡ true = and_from (nat_lt c b) (is_post_of i (slice_get log.events c)) (lt-ltb c b l) (write_from i (slice_get log.events c) w r at posted) in
       let gone : has p c ≡ false = elim (cases_Bool (has p c)) as (λ z. has p c ≡ false) [
         | inl there ↦
             let post : is_post (slice_get log.events c) ≡ true = ap is_post at ∙ posted in
@@ -119,7 +119,7 @@ module _ (log : LogView) (s : State) (p ps : List ℕ) (t : IsTable log s.event 
     | inl blocked ↦
         let (c, member, test) = has_any (blocks log i b) ps blocked in
         let (waits, post) = and_parts (has p c) (is_post (slice_get log.events c)) (sym (a c) ∙ member) in
-        let (l, is) = and_parts (nat_lt c b) (is_write i (slice_get log.events c)) test in
+        let (l, is) = and_parts (nat_lt c b) (is_post_of i (slice_get log.events c)) test in
         let (w, r, at, posted) = write_is i (slice_get log.events c) is in
         let acted = ordered c w r (ltb-true c b l) at posted in
         let inside = slice_get_within log.events c (events.Sub i w r) at in
@@ -165,4 +165,4 @@ module _ (log : LogView) (s : State) (p ps : List ℕ) (t : IsTable log s.event 
 
 pub may_act_is : (log : LogView) (p : PlaceView) → IsPlace log p → (b : ℕ) (r : Bool) → r ≡ is_ready log p.state p.posts b (slice_get log.events b)
     → (r ≡ true → MayAct log p.state b) × (MayAct log p.state b → r ≡ true)
-may_act_is log p place = ready_iff log p.state p.pending p.posts (table_of log p place) place.posts
+may_act_is log p place = ready_iff log p.state p.pending p.posts place.table place.posts

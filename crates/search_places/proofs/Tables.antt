@@ -33,14 +33,10 @@ module _ (log : LogView) where
     at = λ b l. get_replicate n b false (omega (arith, e, l)) ∙ ap (λ (x : Bool). Some x) (sym (undone_later 0 [] b (omega arith)));
   }
 
-  -- the part that says who has acted
-  pub table_of : (p : PlaceView) → IsPlace log p → IsTable log p.state.event p.pending p.state.acted
-  table_of p place = record { len = place.len; at = place.at }
-
   pub place_start : (r : PlaceView) (n : ℕ) → n ≡ length log.events → r.state.event ≡ 0 → r.state.acted ≡ replicate n false → r.pending ≡ [] → r.posts ≡ [] → IsPlace log r
   place_start r n e event acted pending posts =
       let t : IsTable log r.state.event r.pending r.state.acted = rw (event, acted, pending) (table_start n e) in
-      record { len = t.len; at = t.at; posts = rw (pending, posts) (λ c. refl) }
+      record { table = t; posts = rw (pending, posts) (λ c. refl) }
 
   -- the list says all
   pub table_unique : (e : ℕ) (p : List ℕ) (xs ys : List Bool) → IsTable log e p xs → IsTable log e p ys → xs ≡ ys
@@ -58,6 +54,6 @@ module _ (log : LogView) where
   left_pending p b place early sub left = elim (cases_Bool (has p.pending b)) as (λ w. has p.pending b ≡ true) [
     | inl there ↦ there
     | inr gone ↦
-        let inside : b < length log.events = omega (arith, slice_get_within p.state.acted b false left, place.len) in
-        absurd (clash (done_from p.state.event p.pending b early sub gone) (same_Some (is_done log p.state.event p.pending b) false (sym (place.at b inside) ∙ left)))
+        let inside : b < length log.events = omega (arith, slice_get_within p.state.acted b false left, place.table.len) in
+        absurd (clash (done_from p.state.event p.pending b early sub gone) (same_Some (is_done log p.state.event p.pending b) false (sym (place.table.at b inside) ∙ left)))
   ]

@@ -1,5 +1,5 @@
 -- A step that is taken back leaves what was there before it.
-use Rattle.std.proofs.Common.{◌≡◌, ◌∙◌, ℕ, ◌+◌, ◌-◌, ◌≤◌, true, false, List, Some, refl, sym, ap, subst, arith}
+use Rattle.std.proofs.Common.{◌≡◌, ◌∙◌, ℕ, true, false, List, refl, ap, subst}
 use Rattle.std.specs.Prelude.{slice_get, slice_set}
 use Rattle.log_runs.specs.LogView.{LogView}
 use Rattle.log_runs.specs.declared.Step.TheVariants as steps
@@ -19,21 +19,3 @@ act_undone log m t u d b c e same marked restored =
     let acted : u.acted ≡ m.acted = marked ∙ ap (λ (s : State). slice_set s.acted b false) led ∙ set_back m.acted b true false a.once in
     let bytes : u.bytes ≡ m.bytes = restored m.bytes (ap (λ (s : State). s.bytes) led) old in
     rw (← event, ← acted, ← bytes) refl
-
--- an event that was passed, taken back
-pub pass_undone : (log : LogView) (m t u : State) (d : Done) → CameBy log m t d → d.step ≡ steps.Pass → u.event + 1 ≡ t.event → u.acted ≡ t.acted → u.bytes ≡ t.bytes → u ≡ m
-pass_undone log m t u d c e less marked kept =
-    let led : t ≡ next log m steps.Pass = c.led ∙ ap (next log m) e in
-    let more : t.event ≡ m.event + 1 = ap (λ (s : State). s.event) led in
-    let event : u.event ≡ m.event = omega (arith, less, more) in
-    let acted : u.acted ≡ m.acted = marked ∙ ap (λ (s : State). s.acted) led in
-    let bytes : u.bytes ≡ m.bytes = kept ∙ ap (λ (s : State). s.bytes) led in
-    rw (← event, ← acted, ← bytes) refl
-
--- the event that was passed hadn't acted, and still hasn't
-pub pass_fresh : (log : LogView) (m t : State) (d : Done) → CameBy log m t d → d.step ≡ steps.Pass → (1 ≤ t.event) × (slice_get t.acted (t.event - 1) ≡ Some true → ⊥)
-pass_fresh log m t d c e =
-    let led : t ≡ next log m steps.Pass = c.led ∙ ap (next log m) e in
-    let more : t.event ≡ m.event + 1 = ap (λ (s : State). s.event) led in
-    let less : m.event ≤ t.event - 1 = omega (arith, more) in
-    (omega (arith, more), λ at. c.may.fresh (t.event - 1) less (sym (ap (λ (s : State). slice_get s.acted (t.event - 1)) led) ∙ at))

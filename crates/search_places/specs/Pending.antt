@@ -20,7 +20,7 @@ submits None = false
 abbrev pub is_done : LogView → ℕ → List ℕ → ℕ → Bool
 is_done log event pending b = nat_lt b event && submits (slice_get log.events b) && not (has pending b)
 
--- which requests have acted, by place
+-- which requests have acted, by their index in the log
 pub record IsTable (log : LogView) (event : ℕ) (pending : List ℕ) (acted : List Bool) : Type 0 where
   pub len : length acted ≡ length log.events
   pub at : (b : ℕ) → b < length log.events → slice_get acted b ≡ Some (is_done log event pending b)
@@ -37,12 +37,12 @@ abbrev pub ArePosts : LogView → List ℕ → List ℕ → Type 0
 ArePosts log pending posts = (c : ℕ) → has posts c ≡ (has pending c && is_post (slice_get log.events c))
 
 -- the event is a posted write of the requester
-abbrev pub is_write : ℕ → Option EventView → Bool
-is_write i (Some (events.Sub j op told)) = (i == j) && is_posted op
-is_write i (Some (events.Due b)) = false
-is_write i (Some events.Free) = false
-is_write i None = false
+abbrev pub is_post_of : ℕ → Option EventView → Bool
+is_post_of i (Some (events.Sub j op told)) = (i == j) && is_posted op
+is_post_of i (Some (events.Due b)) = false
+is_post_of i (Some events.Free) = false
+is_post_of i None = false
 
 -- request c is a posted write that the requester submitted before request b
 abbrev pub blocks : LogView → ℕ → ℕ → ℕ → Bool
-blocks log i b c = nat_lt c b && is_write i (slice_get log.events c)
+blocks log i b c = nat_lt c b && is_post_of i (slice_get log.events c)

@@ -18,8 +18,8 @@ use seq_memory::{ReplyData, ReplyRef};
 use tlp_core::OpRef;
 
 /// The event is a posted write of the requester.
-fn is_write(log: &Log, requester: u8, c: usize) -> bool
-    ensures { result ≡ pending.is_write requester (slice_get log.now.events c) }
+fn is_post_of(log: &Log, requester: u8, c: usize) -> bool
+    ensures { result ≡ pending.is_post_of requester (slice_get log.now.events c) }
 {
     match log.header(c) {
         Some(
@@ -37,7 +37,7 @@ fn is_write(log: &Log, requester: u8, c: usize) -> bool
 fn does_block(log: &Log, requester: u8, b: usize, c: usize) -> bool
     ensures { result ≡ blocks log.now requester b c }
 {
-    c < b && is_write(log, requester, c)
+    c < b && is_post_of(log, requester, c)
 }
 
 /// None of the posted writes that are pending was submitted by the requester before request `b`.
@@ -74,7 +74,7 @@ fn agrees(log: &Log, bytes: &[u8], op: &OpRef<'_>, told: Option<&ReplyRef<'_>>) 
 }
 
 impl Place {
-    /// The event at that place submits a request that may act.
+    /// The event at that index submits a request that may act.
     fn is_ready(&self, log: &Log, b: usize) -> bool
         ensures { result ≡ ready.is_ready log.now self.now.state self.now.posts b (slice_get log.now.events b) }
     {

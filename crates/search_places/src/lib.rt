@@ -7,8 +7,9 @@
 //! for them.
 //!
 //! A place is remembered by all that decides what may follow: the events passed, who is pending, and the
-//! bytes without the zeros at both ends. So equal places are equal states. They stand in one list, and a
-//! table has the newest of each mark: a table of keys would hash hundreds of requests at each look.
+//! memory's blocks that aren't zeros, with the number of zeros before each. So equal places are equal
+//! states. They stand in one list, and a table has the newest of each mark: a table of keys would hash
+//! hundreds of requests at each look.
 #![tactic(auto)]
 
 mod allowed;

@@ -41,7 +41,7 @@ impl Requests {
         self.items.as_slice()
     }
 
-    /// None of them is before that place, and neither is `or`.
+    /// The lowest of them and `or`.
     pub(crate) fn first(&self, or: usize) -> usize
         ensures least { (c : ℕ) → has self.now c ≡ true → result ≤ c }
         ensures bound { result ≤ or }
@@ -91,7 +91,7 @@ impl Requests {
     }
 }
 
-/// The event at that place is a posted write.
+/// The event at that index is a posted write.
 fn is_post(log: &Log, b: usize) -> bool
     ensures { result ≡ spec.is_post (slice_get log.now.events b) }
 {

@@ -23,7 +23,7 @@ pub struct Place {
     pub(crate) posts: Requests,
     /// The bytes of the memory.
     pub(crate) bytes: Vec<u8>,
-    /// Which requests have acted, by place.
+    /// Which requests have acted, by their index in the log.
     pub(crate) acted: Vec<bool>,
 }
 
@@ -78,7 +78,7 @@ impl Place {
         self.posts.as_slice()
     }
 
-    /// No request that is pending or still to be passed is before that place.
+    /// No request that is pending or still to be passed has a lower index.
     pub fn earliest(&self) -> usize
         ensures pending { (b : ℕ) → has self.now.pending b ≡ true → result ≤ b }
         ensures passed { result ≤ self.now.state.event }
@@ -104,7 +104,7 @@ impl Place {
         }
     }
 
-    /// The event at that place is one of the log, and no request that has acted.
+    /// The event at that index is one of the log, and no request that has acted.
     pub fn is_left(&self, b: usize) -> bool
         ensures { IsTrue result → slice_get self.now.state.acted b ≡ Some false }
     {

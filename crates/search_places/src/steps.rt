@@ -20,7 +20,7 @@ pub struct Done {
     pub old: Payload,
 }
 
-/// The event at that place is a submission.
+/// The event at that index is a submission.
 fn submits(log: &Log, b: usize) -> bool
     ensures { result ≡ pending.submits (slice_get log.now.events b) }
 {
@@ -55,13 +55,10 @@ impl Place {
         ensures state { OnOk result (self.new.state ≡ next log.now self.old.state kinds.Pass) }
         ensures place { OnOk result (IsPlace log.now self.new) }
     {
-        let event = self.event;
-        if !submits(log, event) {
-            self.event = event + 1;
-            return Ok(());
+        if submits(log, self.event) {
+            self.enter(log, self.event)?;
         }
-        self.enter(log, event)?;
-        self.event = event + 1;
+        self.event += 1;
         Ok(())
     }
 
