@@ -9,9 +9,7 @@
 # largest resident set. Growth is the factor of both when the input is doubled. `rt ci` or `rt run` has to have built
 # crates/pciex, and c/check.sh or `rt lib` crates/pciex_c. What is left out is said below the table.
 #
-# Tried, and not kept: in `check` each form of a line in a function of its own, or placed where it is read, takes 80 to 180
-# instructions a line more than all forms in one function. In `run` workers that spin before they yield take 1.4 times the
-# processor seconds.
+# Tried, and not kept: in `run` workers that spin before they yield take 1.4 times the processor seconds.
 # shellcheck disable=SC2016 # backquotes of Markdown, and words of an inner shell
 set -eu
 unset CDPATH

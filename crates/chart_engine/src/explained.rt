@@ -77,7 +77,7 @@ impl<E: Write + Drop> Responder for Explained<E> {
 /// Reads a script as `step` does, and writes a chart of what happened on the links of its fabric in SVG: the events of
 /// the window, 1,000 at most, with step lines if it has levels. Above it stands the line of the fault or the refusal
 /// that ended the run, in red, or that the script ran to its end. `Ok` is the exit status, 1 where a fault or a refusal
-/// ended the run. After an `Err` what was written is a beginning of the whole output. Why a line of the script ended the
+/// ended the run. After an `Err` what was written is a prefix of the whole output. Why a line of the script ended the
 /// run is told on `errors`, in a line; a stream that fails there changes nothing.
 pub fn run_chart_with_reasons<R: Read, W: Write, E: Write>(
     alloc: Global,

@@ -33,7 +33,17 @@ impl Model for Course {
 
     ghost Value = { CourseView };
 
-    ghost view = { λ c. record { acked = c.acked; kept = c.kept.items; place = c.place; replays = c.replays; wire = c.wire.items; back = c.back.items; queue = c.queue.items; has_taken = c.has_taken; limits = c.limits } };
+    ghost view = { λ c. record {
+      acked = c.acked;
+      kept = c.kept.items;
+      place = c.place;
+      replays = c.replays;
+      wire = c.wire.items;
+      back = c.back.items;
+      queue = c.queue.items;
+      has_taken = c.has_taken;
+      limits = c.limits;
+    } };
 
     ghost invariant = { λ c. c.replays ≤ 3 };
 }

@@ -30,7 +30,7 @@ use Rattle.step_engine.specs.Step.{out_step_with}
 use Rattle.parameters.specs.declared.storm.Storm.{Storm}
 use Rattle.parameters.specs.Ranges.{IsStorm}
 
--- the script of a storm was written, or a beginning of one
+-- the script of a storm was written, or a prefix of one
 abbrev pub IsGenerated : Storm → Option (List ℕ) → Option (List ℕ) → ℕ → Type 0
 IsGenerated storm out out' exit = ((exit ≡ 0) × IsWhole storm out out') ⊎ ((exit ≡ 1) × IsPart storm out out')
 

@@ -36,9 +36,29 @@ impl Model for Registers {
 
     ghost Value = { RegistersView };
 
-    ghost view = { λ r. record { setup = r.setup; command = r.command; cache_line = r.cache_line; bar_low = r.bar_low; bar_high = r.bar_high; interrupt = r.interrupt; power = r.power; device = r.device; link = r.link } };
+    ghost view = { λ r. record {
+      setup = r.setup;
+      command = r.command;
+      cache_line = r.cache_line;
+      bar_low = r.bar_low;
+      bar_high = r.bar_high;
+      interrupt = r.interrupt;
+      power = r.power;
+      device = r.device;
+      link = r.link;
+    } };
 
-    ghost inverse = { λ r. record { setup = r.setup; command = r.command; cache_line = r.cache_line; bar_low = r.bar_low; bar_high = r.bar_high; interrupt = r.interrupt; power = r.power; device = r.device; link = r.link } };
+    ghost inverse = { λ r. record {
+      setup = r.setup;
+      command = r.command;
+      cache_line = r.cache_line;
+      bar_low = r.bar_low;
+      bar_high = r.bar_high;
+      interrupt = r.interrupt;
+      power = r.power;
+      device = r.device;
+      link = r.link;
+    } };
 }
 
 /// What a write offers: a PowerState of D1 or D2 isn't taken.

@@ -22,7 +22,7 @@ abbrev pub IsReasonTold : Option ℕ → Option (List ℕ) → Option (List ℕ)
 IsReasonTold None old new = Keeps old new
 IsReasonTold (Some n) old new = IsReasonToldAt n old new
 
--- where a stream failed: a beginning of a reason that lies on that line was written, all of it or nothing perhaps
+-- where a stream failed: a prefix of a reason that lies on that line was written, all of it or nothing perhaps
 abbrev pub IsReasonBegunAt : ℕ → Option (List ℕ) → Option (List ℕ) → Type 0
 IsReasonBegunAt n old new = (why : List ℕ) × IsReason why × (done : List ℕ) × IsBeginning done (reason_line n why) × Appends old new done
 

@@ -115,7 +115,7 @@ fn refusal_reason(line: &[u8], name: &[u8]) -> Reason {
 }
 
 /// Tells that the line is refused for what this name says, where it is told as a fault: this is its
-/// number then. After an `Err` a beginning of the reason was written.
+/// number then. After an `Err` a prefix of the reason was written.
 pub fn tell_refusal<E: Write>(
     line: &[u8],
     name: &str,
@@ -133,7 +133,7 @@ pub fn tell_refusal<E: Write>(
 }
 
 /// Tells what doesn't fit in the line, where it is told as a fault: this is its number then. Without a
-/// misfit the line is refused as it stands. After an `Err` a beginning of the reason was written.
+/// misfit the line is refused as it stands. After an `Err` a prefix of the reason was written.
 pub fn tell_misfit<E: Write>(
     line: &[u8],
     misfit: Option<Misfit>,
@@ -161,7 +161,7 @@ fn long_line() -> Reason {
 }
 
 /// Tells that a line is too long, where that is told as a fault: this is its number then. After an `Err`
-/// a beginning of the reason was written.
+/// a prefix of the reason was written.
 pub fn tell_long_line<E: Write>(fault: Option<u64>, errors: &mut E) -> Result<(), EngineFault>
     ensures ok { OnOk result (IsReasonTold fault (E.contents errors.old) (E.contents errors.new)) }
     ensures fault { IfErr result (λ f. f ≡ EngineFault.Write) }

@@ -178,7 +178,7 @@ impl Reason {
         }
     }
 
-    /// Writes the line of a reason that lies on the line of this number. After an `Err` a beginning of it
+    /// Writes the line of a reason that lies on the line of this number. After an `Err` a prefix of it
     /// was written.
     pub fn tell_at<E: io::Write>(&self, number: u64, errors: &mut E) -> Result<(), EngineFault>
         ensures ok { OnOk result (IsReasonToldAt number (E.contents errors.old) (E.contents errors.new)) }

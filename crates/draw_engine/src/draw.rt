@@ -135,7 +135,7 @@ impl<E: Write + Drop> Responder for Drawer<E> {
 /// Reads the text of a trace and writes a picture of its history in SVG: the points of the window,
 /// and the first flaw that `check` finds, or `ok`. Where the text can't be read, the picture has the
 /// line of the fault. `Ok` is the exit status, 0 for `ok` and else 1. After an `Err` what was written
-/// is a beginning of the whole output. The reason of a flaw or a fault is told on `errors`, in a line; a stream that
+/// is a prefix of the whole output. The reason of a flaw or a fault is told on `errors`, in a line; a stream that
 /// fails there changes nothing.
 pub fn run_draw_with_reasons<R: Read, W: Write, E: Write>(
     alloc: Global,

@@ -24,9 +24,27 @@ impl Model for MemoryRequest {
 
     ghost Value = { TlpView };
 
-    ghost view = { λ r. record { kind = r.header.kind; tc = r.header.tc; attr = r.header.attr; length = r.header.length; requester = r.header.requester; tag = r.header.tag; body = r.header.body; payload = r.operands.items } };
+    ghost view = { λ r. record {
+      kind = r.header.kind;
+      tc = r.header.tc;
+      attr = r.header.attr;
+      length = r.header.length;
+      requester = r.header.requester;
+      tag = r.header.tag;
+      body = r.header.body;
+      payload = r.operands.items;
+    } };
 
-    ghost invariant = { λ r. IsPacket (record { kind = r.header.kind; tc = r.header.tc; attr = r.header.attr; length = r.header.length; requester = r.header.requester; tag = r.header.tag; body = r.header.body; payload = r.operands.items }) };
+    ghost invariant = { λ r. IsPacket (record {
+      kind = r.header.kind;
+      tc = r.header.tc;
+      attr = r.header.attr;
+      length = r.header.length;
+      requester = r.header.requester;
+      tag = r.header.tag;
+      body = r.header.body;
+      payload = r.operands.items;
+    }) };
 }
 
 /// A non-posted request that waits until its completion can be sent.

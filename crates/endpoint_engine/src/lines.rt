@@ -272,7 +272,8 @@ pub fn run_endpoint_with_reasons<R: Read, W: Write, E: Write>(
     ensures err { OnErr result (IsPart (spec.out_endpoint options.setup options.is_traced) (R.remaining reader.old) (R.remaining reader.new)
         (W.contents writer.old) (W.contents writer.new)) }
     ensures read { IfErr result (λ f. f ≡ EngineFault.Read →
-        IsCaughtUp spec.endpoint_responses (spec.new_device options.setup options.is_traced) (R.remaining reader.old) (R.remaining reader.new) (W.contents writer.old) (W.contents writer.new)) }
+        IsCaughtUp spec.endpoint_responses (spec.new_device options.setup options.is_traced)
+        (R.remaining reader.old) (R.remaining reader.new) (W.contents writer.old) (W.contents writer.new)) }
 {
     let device = Asked::new(alloc, options)?;
     let explained = Explained {
@@ -297,7 +298,8 @@ pub fn run_endpoint<R: Read, W: Write>(
     ensures err { OnErr result (IsPart (spec.out_endpoint options.setup options.is_traced) (R.remaining reader.old) (R.remaining reader.new)
         (W.contents writer.old) (W.contents writer.new)) }
     ensures read { IfErr result (λ f. f ≡ EngineFault.Read →
-        IsCaughtUp spec.endpoint_responses (spec.new_device options.setup options.is_traced) (R.remaining reader.old) (R.remaining reader.new) (W.contents writer.old) (W.contents writer.new)) }
+        IsCaughtUp spec.endpoint_responses (spec.new_device options.setup options.is_traced)
+        (R.remaining reader.old) (R.remaining reader.new) (W.contents writer.old) (W.contents writer.new)) }
 {
     run_endpoint_with_reasons(alloc, options, reader, writer, &mut sink())
 }

@@ -35,7 +35,8 @@ pub fn each_event_keeps_the_account()
         HasCredit credits (new_direction credits).gate (new_direction credits).ledger (first_numbers credits) [] [] [] }
     ensures kept { (credits : LaneCredits) (d : Direction) (numbers : Accounts) (event : Event) →
         HasCredit credits d.gate d.ledger numbers d.queue d.on_the_way d.wire →
-        HasCredit credits (after_event d event).gate (after_event d event).ledger (numbers_after d numbers event) (after_event d event).queue (after_event d event).on_the_way (after_event d event).wire }
+        HasCredit credits (after_event d event).gate (after_event d event).ledger (numbers_after d numbers event) (after_event d event).queue
+        (after_event d event).on_the_way (after_event d event).wire }
 {}
 
 /// Where whole numbers stand behind the counters: for each finite counter what was used is at most what is known, that
@@ -60,9 +61,11 @@ pub fn counters_stand_for_whole_numbers()
     ensures account { (credits : LaneCredits) (events : List Event) → IsInLimits credits →
         HasCredit credits (after_events (new_direction credits) events).gate (after_events (new_direction credits) events).ledger
         (numbers_in (new_direction credits) (first_numbers credits) events)
-        (after_events (new_direction credits) events).queue (after_events (new_direction credits) events).on_the_way (after_events (new_direction credits) events).wire }
+        (after_events (new_direction credits) events).queue (after_events (new_direction credits) events).on_the_way
+        (after_events (new_direction credits) events).wire }
     ensures right { (credits : LaneCredits) (events : List Event) (c : Class) (p : Part) → IsInLimits credits → 0 < first_of c p credits →
-        IsRight p (first_of c p credits) (allowance c p (after_events (new_direction credits) events).gate) (grant c p (after_events (new_direction credits) events).ledger)
+        IsRight p (first_of c p credits) (allowance c p (after_events (new_direction credits) events).gate)
+        (grant c p (after_events (new_direction credits) events).ledger)
         (numbers_in (new_direction credits) (first_numbers credits) events c p)
         (demand c p (after_events (new_direction credits) events).queue) (demand c p (after_events (new_direction credits) events).on_the_way) }
     ensures room { (credits : LaneCredits) (events : List Event) (need : Need) → IsInLimits credits → need.header ≤ 127 → need.units ≤ 2047 →

@@ -61,7 +61,7 @@ pub record IsWhole (s : Storm) (out out' : Option (List ℕ)) : Type 0 where
   pub fated : AreFated s.lose s.corrupt script.events
   pub written : Appends out out' text
 
--- nothing was written, or a beginning of a script of the storm's fabric and of no more events than it has
+-- nothing was written, or a prefix of a script of the storm's fabric and of no more events than it has
 pub record IsPart (s : Storm) (out out' : Option (List ℕ)) : Type 0 where
   pub done : List ℕ
   pub begins : (done ≡ []) ⊎ BeginsScript s s.events done

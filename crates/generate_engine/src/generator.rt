@@ -178,7 +178,7 @@ impl Generator {
 
 /// Writes the script of a storm: a line for its fabric, and one for each of its events, which happened to that fabric
 /// in turn. Each packet and DLLP has the fate that the storm's plan gives to its count on its lane. `Ok` is the exit
-/// status, 0. After an `Err`, which is out of memory or the writer's, what was written is nothing or a beginning of
+/// status, 0. After an `Err`, which is out of memory or the writer's, what was written is nothing or a prefix of
 /// such a script.
 pub fn run_generate<W: Write>(
     alloc: Global,

@@ -50,7 +50,12 @@ impl Model for Hall {
 
     ghost use Rattle.hall_laws.specs.Calls.{IsSized};
 
-    ghost view = { λ h. record { table_id = h.board.shared.table_id; config = h.config; opened = h.board.shared.key.opened.value; seats = h.board.shared.key.seats } };
+    ghost view = { λ h. record {
+      table_id = h.board.shared.table_id;
+      config = h.config;
+      opened = h.board.shared.key.opened.value;
+      seats = h.board.shared.key.seats;
+    } };
 
     ghost invariant = { λ h. IsSized h.board.shared.table_id h.config.requesters × (vec_len h.shelves.requesters ≡ 0) × (vec_len h.shelves.up ≡ 0) ×
         (vec_len h.shelves.down ≡ 0) × (h.config.requesters ≤ vec_capacity h.shelves.requesters) × (h.config.requesters ≤ vec_capacity h.shelves.up) ×

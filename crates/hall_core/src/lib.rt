@@ -5,7 +5,7 @@
 //! event on them, and gives them back one at a time. No call waits, and none tries again: a part that another seat has
 //! is answered as [`HallRefusal::Busy`].
 //!
-//! Whatever the threads do, there is one history of requests that acted, it only grows, and each seat knows a beginning
+//! Whatever the threads do, there is one history of requests that acted, it only grows, and each seat knows a prefix
 //! of it.
 //!
 //! A [`Hall`] is `Sync`, so that threads share it by `&`; seats are `Send`, and each moves to the thread that uses it.

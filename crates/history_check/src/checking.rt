@@ -43,7 +43,7 @@ fn first_flaw_of<C: AsClaim>(alloc: Global, claim: &C) -> Result<Points, Flaw>
     Ok(points)
 }
 
-/// Whether the history explains the trace, and else the first flaw. Where a growth was refused, a
+/// Whether the history explains the trace, and else the first flaw. Where an allocation failed, a
 /// flaw of kind `Memory` tells it, and nothing is known; so with more than 4,294,967,295 records or
 /// entries. Takes as many bytes as the trace's memory has, and tables of the records and entries.
 pub fn check_claim<C: AsClaim>(alloc: Global, claim: &C) -> Result<(), Flaw>
@@ -93,7 +93,7 @@ pub fn check_claim_clocked<C: AsClaim>(alloc: Global, claim: &C) -> Result<(), F
     }
 }
 
-/// Whether the history explains the trace, and else the first flaw. Where a growth was refused, a
+/// Whether the history explains the trace, and else the first flaw. Where an allocation failed, a
 /// flaw of kind `Memory` tells it, and nothing is known; so with more than 4,294,967,295 records or
 /// entries. Takes as many bytes as the trace's memory has, and tables of the records and entries.
 pub fn check(alloc: Global, trace: &Trace, history: &[Entry]) -> Result<(), Flaw>

@@ -30,7 +30,7 @@ pub use checking::{
 };
 use history_words::{Flaw, FlawKind};
 
-/// Where a growth was refused.
+/// Where an allocation failed.
 pub(crate) const NO_MEMORY: Flaw = Flaw {
     kind: FlawKind::Memory,
     place: 0,

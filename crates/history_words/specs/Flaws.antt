@@ -185,7 +185,7 @@ first_clock_flaw x = first_at (clock_at x.records x.memory.entries) (length x.re
 abbrev pub first_flaw_clocked : Claim → Option (FlawKind × ℕ)
 first_flaw_clocked x = option_or (first_flaw x) (first_clock_flaw x)
 
--- the flaw is the first one; where a growth was refused, the place is 0
+-- the flaw is the first one; where an allocation failed, the place is 0
 pub record Tells (first : Option (FlawKind × ℕ)) (f : Flaw) : Type 0 where
   pub told : (f.kind ≡ flaws.Memory → ⊥) → first ≡ Some (f.kind, f.place)
   pub refused : f.kind ≡ flaws.Memory → f.place ≡ 0

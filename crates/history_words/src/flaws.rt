@@ -34,7 +34,7 @@ pub enum FlawKind {
     /// Its index is not above the index of every answer that the requester had before it submitted
     /// the request.
     Stale,
-    /// A growth was refused, or there are more than 4,294,967,295 records or entries: nothing is known of the trace.
+    /// An allocation failed, or there are more than 4,294,967,295 records or entries: nothing is known of the trace.
     Memory,
     /// The record's `n` is below that of a record before, above the history's length, or above the
     /// index of the request that the record submits.

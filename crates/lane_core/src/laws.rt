@@ -38,7 +38,7 @@ pub fn each_call_keeps_it_right()
     reading_is_spelling();
 }
 
-/// Whatever calls come, what was accepted is a beginning of what was entered, packets with their marks; the rest is on
+/// Whatever calls come, what was accepted is a prefix of what was entered, packets with their marks; the rest is on
 /// the way.
 pub fn accepted_begins_entered()
     ensures begins { (credits : LaneCredits) (calls : List Call) → AreCalls calls →
@@ -102,8 +102,10 @@ pub fn credits_are_whole_numbers()
     ensures given { (credits : LaneCredits) (calls : List Call) (c : Class) (p : _) → AreCalls calls →
         (numbers_of credits calls c p).given ≡ first_of c p credits + demand c p (needs_of (taken_in (new_lane credits) calls)) }
     ensures whole { (credits : LaneCredits) (calls : List Call) (c : Class) (p : _) → IsInLimits credits → AreCalls calls → 0 < first_of c p credits →
-        IsBalanced p (first_of c p credits) (allowance c p (after_calls (new_lane credits) calls).sender.gate) (grant c p (after_calls (new_lane credits) calls).receiver.ledger)
-        (numbers_of credits calls c p) (demand c p (needs_of (after_calls (new_lane credits) calls).receiver.queue)) (demand c p (needs_of (on_the_way (after_calls (new_lane credits) calls)))) }
+        IsBalanced p (first_of c p credits) (allowance c p (after_calls (new_lane credits) calls).sender.gate)
+        (grant c p (after_calls (new_lane credits) calls).receiver.ledger)
+        (numbers_of credits calls c p) (demand c p (needs_of (after_calls (new_lane credits) calls).receiver.queue))
+        (demand c p (needs_of (on_the_way (after_calls (new_lane credits) calls)))) }
     ensures unused { (credits : LaneCredits) (calls : List Call) (c : Class) (p : _) → IsInLimits credits → AreCalls calls → 0 < first_of c p credits →
         (numbers_of credits calls c p).known ≤ (numbers_of credits calls c p).used + most p }
 {

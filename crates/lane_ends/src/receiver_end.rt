@@ -51,7 +51,11 @@ impl ReceiverEnd {
     /// The packet that the bytes spell goes into the queue as the last.
     fn take_in(&mut self, cargo: &Cargo) -> Result<(), LaneRefusal>
         ensures ok { OnOk result (self.new ≡
-            record { receiving = self.old.receiving; ledger = ledger_with self.old.ledger (item_spelled cargo.now); queue = queue_with self.old.queue (item_spelled cargo.now) }) }
+            record {
+              receiving = self.old.receiving;
+              ledger = ledger_with self.old.ledger (item_spelled cargo.now);
+              queue = queue_with self.old.queue (item_spelled cargo.now);
+            }) }
         ensures memory { IfErr result (λ refusal. refusal ≡ LaneRefusal.Memory) }
         ensures err { OnErr result (self.new ≡ self.old) }
     {

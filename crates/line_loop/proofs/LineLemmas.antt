@@ -247,7 +247,7 @@ answered-begins {S} r start state pending status written read h =
 
 -- ---- beginnings
 
--- a beginning of what is pending
+-- a prefix of what is pending
 pub begins-part : (written done pending all : List ℕ) → IsBeginning done pending → IsBeginning (written ++ pending) all → IsBeginning (written ++ done) all
 begins-part written done pending all a b =
     (a.0 ++ b.0, b.1 ∙ ap (λ (t : List ℕ). (written ++ t) ++ b.0) a.1 ∙ regroup written done a.0 b.0)

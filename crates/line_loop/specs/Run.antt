@@ -84,6 +84,6 @@ pub record IsCaughtUp {S : Type 0} (r : Responses S) (start : S) (input rest out
   pub consumed : Consumes input rest read
   pub written : Appends out out' (fold (after_line r) (new_run start) (ended_lines read)).text
 
--- the whole output was written, and the exit status is the run's; or a beginning of it, and the exit status is 1
+-- the whole output was written, and the exit status is the run's; or a prefix of it, and the exit status is 1
 abbrev pub IsRun : {S : Type 0} → (List ℕ → Run S) → Option (List ℕ) → Option (List ℕ) → Option (List ℕ) → Option (List ℕ) → ℕ → Type 0
 IsRun run input rest out out' exit = IsWhole run input rest out out' exit ⊎ ((exit ≡ 1) × IsPart run input rest out out')

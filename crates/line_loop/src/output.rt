@@ -1,4 +1,4 @@
-//! Writing bytes, all of them or a beginning.
+//! Writing bytes, all of them or a prefix.
 ghost use Rattle.std.specs.Prelude.{◌≡◌, List, ℕ, IfErr, OnErr, OnOk};
 ghost use Rattle.std.specs.Io.KnownBytes.{Appends};
 ghost use Rattle.line_loop.specs.Run.{IsBeginning};
@@ -6,7 +6,7 @@ ghost use Rattle.line_loop.specs.Run.{IsBeginning};
 use crate::fault::EngineFault;
 use std::io::Write;
 
-/// Writes all of the bytes, and flushes the writer. After an `Err` a beginning of them was written.
+/// Writes all of the bytes, and flushes the writer. After an `Err` a prefix of them was written.
 /// A `write` that takes nothing is a failure.
 pub fn write_out<W: Write>(writer: &mut W, bytes: &[u8]) -> Result<(), EngineFault>
     ensures ok { OnOk result (Appends (W.contents writer.old) (W.contents writer.new) bytes.now) }

@@ -26,10 +26,12 @@ pub fn each_accepted_request_acts_once()
         (run_in setup ours calls).linked.endpoint ≡ devices.after_calls (run_in setup ours calls).start (run_in setup ours calls).device_calls }
     ensures requests { (setup : SetupView) (ours : LaneCredits) (calls : List Call) → AreCalls calls →
         devices.all_coming (run_in setup ours calls).device_calls ≡
-        devices.all_leaving (run_in setup ours calls).start (run_in setup ours calls).device_calls ++ devices.blocks_waiting (run_in setup ours calls).linked.endpoint }
+        devices.all_leaving (run_in setup ours calls).start (run_in setup ours calls).device_calls
+        ++ devices.blocks_waiting (run_in setup ours calls).linked.endpoint }
     ensures bytes { (setup : SetupView) (ours : LaneCredits) (calls : List Call) → AreCalls calls →
         (run_in setup ours calls).linked.endpoint.device.bytes ≡
-        devices.bytes_by (run_in setup ours calls).start.device.bytes (devices.all_effects (run_in setup ours calls).start (run_in setup ours calls).device_calls) }
+        devices.bytes_by (run_in setup ours calls).start.device.bytes
+        (devices.all_effects (run_in setup ours calls).start (run_in setup ours calls).device_calls) }
     ensures entered { (setup : SetupView) (ours : LaneCredits) (calls : List Call) → AreCalls calls →
         cargos_of (run_in setup ours calls).completed ≡ (story ours (run_in setup ours calls)).entered ++
         cargos_of (list_of (run_in setup ours calls).linked.held) }

@@ -88,7 +88,8 @@ pub fn run_linked_with_reasons<R: Read, W: Write, E: Write>(
     ensures err { OnErr result (IsPart (spec.out_linked options.device.setup options.credits options.has_crc options.device.is_traced)
         (R.remaining reader.old) (R.remaining reader.new) (W.contents writer.old) (W.contents writer.new)) }
     ensures read { IfErr result (λ f. f ≡ EngineFault.Read →
-        IsCaughtUp spec.link_responses (spec.new_lines options.device.setup options.credits options.has_crc options.device.is_traced) (R.remaining reader.old) (R.remaining reader.new) (W.contents writer.old) (W.contents writer.new)) }
+        IsCaughtUp spec.link_responses (spec.new_lines options.device.setup options.credits options.has_crc options.device.is_traced)
+        (R.remaining reader.old) (R.remaining reader.new) (W.contents writer.old) (W.contents writer.new)) }
 {
     let device = Asked::new(alloc, options)?;
     let explained = Explained {
@@ -114,7 +115,8 @@ pub fn run_linked<R: Read, W: Write>(
     ensures err { OnErr result (IsPart (spec.out_linked options.device.setup options.credits options.has_crc options.device.is_traced)
         (R.remaining reader.old) (R.remaining reader.new) (W.contents writer.old) (W.contents writer.new)) }
     ensures read { IfErr result (λ f. f ≡ EngineFault.Read →
-        IsCaughtUp spec.link_responses (spec.new_lines options.device.setup options.credits options.has_crc options.device.is_traced) (R.remaining reader.old) (R.remaining reader.new) (W.contents writer.old) (W.contents writer.new)) }
+        IsCaughtUp spec.link_responses (spec.new_lines options.device.setup options.credits options.has_crc options.device.is_traced)
+        (R.remaining reader.old) (R.remaining reader.new) (W.contents writer.old) (W.contents writer.new)) }
 {
     run_linked_with_reasons(alloc, options, reader, writer, &mut sink())
 }

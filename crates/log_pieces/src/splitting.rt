@@ -104,7 +104,8 @@ fn answer(
     requires some { 4 ≤ cut.now.bytes }
     requires few { cut.now.bytes ≤ 64 }
     ensures { OnOk result (records.new ≡ spec.with_more records.old
-        (spec.answers_by (pieces cut.now.bytes cut.now.extent) (slice_get row.now.requests answered.entry.of.number) answered.entry.of.requester row.now.next answered.entry.of.n answered.entry.reply)) }
+        (spec.answers_by (pieces cut.now.bytes cut.now.extent) (slice_get row.now.requests answered.entry.of.number)
+        answered.entry.of.requester row.now.next answered.entry.of.n answered.entry.reply)) }
 {
     let Answered { of, reply } = answered;
     match row.request(of.number) {

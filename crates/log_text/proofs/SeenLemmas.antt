@@ -11,7 +11,7 @@ pub seen-log : (text : List ℕ) (t : TraceView) → log_of text ≡ Ok t → se
 unfolding seen_of
 seen-log text t e = ap (λ (r : Result TraceView ReadFault). or_trace r text) e
 
--- no growth was refused for a fault of the head
+-- no allocation failed for a fault of the head
 pub fault-is : (text : List ℕ) (f : ReadFault) → is_head f.kind ≡ true → Tells text f → log_of text ≡ Err f
 fault-is text f e told = elim told [
   | inl is ↦ is

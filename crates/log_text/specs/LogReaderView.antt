@@ -53,7 +53,7 @@ log_in (Ok l) = Ok (log_read l)
 abbrev pub log_of : List ℕ → Result TraceView ReadFault
 log_of text = log_in (reads.read_of log_grammar no_log text)
 
--- a growth was refused for a record, before which no fault was read
+-- an allocation failed for a record, before which no fault was read
 abbrev pub IsRefused : List ℕ → ReadFault → Type 0
 IsRefused text f = reads.IsRefused log_grammar no_log text f
 

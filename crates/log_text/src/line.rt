@@ -25,7 +25,7 @@ pub(crate) enum Version {
     Two,
 }
 
-/// What a line of a log says: its record is lent, and `n` of it is 0.
+/// What a line of a log says: its record is borrowed, and `n` of it is 0.
 #[derive(Drop)]
 pub(crate) enum LogLine<'r> {
     FirstLine(Version),

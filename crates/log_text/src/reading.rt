@@ -22,7 +22,7 @@ fn read_log_with_cause(alloc: Global, text: &[u8]) -> Result<RecordStore, Misrea
 
 /// The log that the text spells, or its first fault: its lines end in line feeds, the last may lack it,
 /// and one carriage return before a line feed is ignored. Each n of its records is 0. A fault of kind
-/// `Memory` tells that a growth was refused, for a record behind no fault. Nothing is read behind the
+/// `Memory` tells that an allocation failed, for a record behind no fault. Nothing is read behind the
 /// first fault.
 pub fn read_log(alloc: Global, text: &[u8]) -> Result<RecordStore, ReadFault>
     ensures ok { IfOk result (λ t. log_of text.now ≡ Ok t) }
@@ -77,8 +77,8 @@ pub fn read_seen_with_cause(alloc: Global, text: &[u8]) -> Result<RecordStore, M
 }
 
 /// What was seen: the log that the text spells, or else the trace, of version 1 or 2, without its history;
-/// or the first fault, of a trace if the head is none of a log. A fault of kind `Memory` tells that a growth
-/// was refused.
+/// or the first fault, of a trace if the head is none of a log. A fault of kind `Memory` tells that an
+/// allocation failed.
 pub fn read_seen(alloc: Global, text: &[u8]) -> Result<RecordStore, ReadFault>
     ensures ok { IfOk result (λ t. seen_of text.now ≡ Ok t) }
     ensures err { IfErr result (SeenTells text.now) }

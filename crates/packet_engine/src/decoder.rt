@@ -75,7 +75,7 @@ pub fn run_decode_with_reasons<R: Read, W: Write, E: Write>(
 
 /// Answers each line of the reader's input with a line: it holds the bytes of a DLLP, where they are
 /// four, or else of a TLP. The answer is the packet's text, or a fault. `Ok` is the exit status, 1
-/// where a fault was told. After an `Err` what was written is a beginning of the whole output.
+/// where a fault was told. After an `Err` what was written is a prefix of the whole output.
 pub fn run_decode<R: Read, W: Write>(
     alloc: Global,
     reader: &mut R,

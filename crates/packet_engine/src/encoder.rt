@@ -75,7 +75,7 @@ pub fn run_encode_with_reasons<R: Read, W: Write, E: Write>(
 
 /// Answers each line of the reader's input with a line: it has the text of a packet. The answer is
 /// the packet's canonical bytes, in capitals in groups of four, or a fault. `Ok` is the exit status,
-/// 1 where a fault was told. After an `Err` what was written is a beginning of the whole output.
+/// 1 where a fault was told. After an `Err` what was written is a prefix of the whole output.
 pub fn run_encode<R: Read, W: Write>(
     alloc: Global,
     reader: &mut R,

@@ -39,7 +39,7 @@ fn explain_words<E: Write>(
 }
 
 /// Tells why a packet's line is refused, where that is told as a fault: this is the line's number then.
-/// After an `Err` a beginning of the reason was written.
+/// After an `Err` a prefix of the reason was written.
 #[inline(never)]
 fn explain<E: Write>(
     lines: PacketLines,

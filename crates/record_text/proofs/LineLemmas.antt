@@ -56,7 +56,7 @@ module _ {F L : Type 0} (g : Grammar F L) where
       ap (fold (take_line g) (nothing_read form)) h.1 ∙ fold-append (take_line g) (nothing_read form) h.0 (lines_of rest)
       ∙ ap (λ (r : RecordReaderView F). fold (take_line g) r (lines_of rest)) h.2
 
-  -- a growth was refused for the line that comes next
+  -- an allocation failed for the line that comes next
   pub refused : (form : F) (text rest line : List ℕ) (later : List (List ℕ)) (s t : RecordReaderView F) (f : ReadFault) → Stands form text s rest → lines_of rest ≡ line ∷ later
       → adds_by g s line ≡ true → t ≡ s → f ≡ fault_at_next t faults.Memory → Tells g form text f
   refused form text rest line later s t f h next adds same is = inr (record {

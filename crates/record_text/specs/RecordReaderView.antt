@@ -111,7 +111,7 @@ at_end s = fault_or_end s.fault s
 abbrev pub read_of : {F L : Type 0} → Grammar F L → F → List ℕ → Result F ReadFault
 read_of g form text = at_end (reading_of g form text)
 
--- a growth was refused for a line, before which no fault was read
+-- an allocation failed for a line, before which no fault was read
 pub record IsRefused {F L : Type 0} (g : Grammar F L) (form : F) (text : List ℕ) (f : ReadFault) : Type 0 where
   pub read : List (List ℕ)
   pub line : List ℕ

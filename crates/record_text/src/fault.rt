@@ -19,7 +19,7 @@ pub enum ReadFaultKind {
     /// A line of a known form isn't due: another than the memory's after the head, or one of another
     /// section, or any after `end`; or the text ends before `history` or before `end`.
     Section,
-    /// A growth was refused: nothing is known of the text from that line on.
+    /// An allocation failed: nothing is known of the text from that line on.
     Memory,
 }
 

@@ -52,7 +52,7 @@ pub trait Form: Drop {
     ghost grammar: { Grammar Self Line };
 
     /// Takes the line that the text spells, if it is due in the section. What doesn't fit in a text that spells none is
-    /// noted in the scratch. `Err` tells that a growth was refused, for a line that is due; nothing was taken then.
+    /// noted in the scratch. `Err` tells that an allocation failed, for a line that is due; nothing was taken then.
     fn take(
         &mut self,
         section: Section,

@@ -165,7 +165,7 @@ impl<F: Form> RecordReader<F> {
 
 impl<F: Form> RecordReader<F> {
     /// Takes a line, without the line feed and the carriage return that end it. Behind a fault
-    /// nothing is read. `Err` tells that a growth was refused, for a line behind no fault; nothing was
+    /// nothing is read. `Err` tells that an allocation failed, for a line behind no fault; nothing was
     /// taken then.
     #[inline(always)]
     pub fn line(&mut self, line: &[u8]) -> Result<(), AllocError>

@@ -54,8 +54,8 @@ fn ended<F: Form>(reader: RecordReader<F>) -> Result<F, Misread>
 }
 
 /// What is kept of the text, from this on, or its first fault: its lines end in line feeds, the last may
-/// lack it, and one carriage return before a line feed is ignored. A fault of kind `Memory` tells that a
-/// growth was refused, for a line behind no fault. Nothing is read behind the first fault.
+/// lack it, and one carriage return before a line feed is ignored. A fault of kind `Memory` tells that an
+/// allocation failed, for a line behind no fault. Nothing is read behind the first fault.
 pub fn read_records<F: Form>(form: F, text: &[u8]) -> Result<F, Misread>
     ensures ok { IfOk result (λ kept. read_of F.grammar form text.now ≡ Ok kept) }
     ensures err { IfErr result (λ e. Tells F.grammar form text.now e.fault) }

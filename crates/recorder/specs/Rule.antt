@@ -115,6 +115,6 @@ both v w = knows.Taker (record { known = (taken_of v).known ++ pushed_of w ∷ [
 abbrev pub IsWhole : Taken → Type 0
 IsWhole t = Each (λ p. records_by p.requester t.records ≡ p.records) t.known × AreOfRequesters t.records
 
--- what was taken of them is a beginning of what they pushed, each once, and nothing that no requester pushed
+-- what was taken of them is a prefix of what they pushed, each once, and nothing that no requester pushed
 abbrev pub IsBegun : Taken → Type 0
 IsBegun t = Each (λ p. (rest : List Record) × (p.records ≡ records_by p.requester t.records ++ rest)) t.known × AreOfRequesters t.records

@@ -230,7 +230,7 @@ impl Recorder {
         self.queue.absorb::<LastKnown>(&mut taker.pass, pass);
     }
 
-    /// What was taken of each requester whose pass the checker has is a beginning of what it pushed.
+    /// What was taken of each requester whose pass the checker has is a prefix of what it pushed.
     pub fn compare(&self, taker: &mut Taker)
         requires same { taker.old.queue ≡ self.now }
         ensures same { taker.new ≡ taker.old }

@@ -80,7 +80,7 @@ pub record IsWhole (c : Counting) (out out' : Option (List ℕ)) (status : ℕ) 
   pub output : IsOutput c text status
   pub written : Appends out out' text
 
--- a beginning of it was written
+-- a prefix of it was written
 pub record IsPart (c : Counting) (out out' : Option (List ℕ)) : Type 0 where
   pub text : List ℕ
   pub status : ℕ
@@ -89,6 +89,6 @@ pub record IsPart (c : Counting) (out out' : Option (List ℕ)) : Type 0 where
   pub begins : IsBeginning done text
   pub written : Appends out out' done
 
--- the whole output was written, and the exit status is the run's; or a beginning of it, and the exit status is 1
+-- the whole output was written, and the exit status is the run's; or a prefix of it, and the exit status is 1
 abbrev pub IsRan : Counting → Option (List ℕ) → Option (List ℕ) → ℕ → Type 0
 IsRan c out out' exit = IsWhole c out out' exit ⊎ ((exit ≡ 1) × IsPart c out out')

@@ -142,7 +142,7 @@ pub(crate) fn output<R: Threads + Wait + Sync>(
 
 /// Runs the counting and writes what came of it: the answers, the history's length, the first word and
 /// `check ok`, or the halt. `Ok` is the exit status, 0 for a report, 3 for the halt `Turns` and 1 for any
-/// other. After an `Err` what was written is a beginning of the output. If `progress` isn't hidden, it is told on
+/// other. After an `Err` what was written is a prefix of the output. If `progress` isn't hidden, it is told on
 /// `errors` after two seconds, and then more rarely, how many answers of how many were given.
 pub fn run_counting<R: Threads + Wait + Sync, W: Write, E: Write + Send>(
     rt: &R,

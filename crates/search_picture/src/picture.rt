@@ -109,7 +109,8 @@ fn put_shapes(scene: &Scene, what: &Shown<'_>, out: &mut Vec<u8>) -> Result<(), 
     requires few { length what.now.requests.now ≤ 20 }
     requires short { length what.now.lines.now ≤ 40 }
     ensures { OnOk result (out.new.items ≡ out.old.items
-        ++ shapes_text (spec.shapes_of scene.now.title.items scene.now.note.items what.now.columns.now what.now.requests.now what.now.arrows.now what.now.lines.now)) }
+        ++ shapes_text (spec.shapes_of scene.now.title.items scene.now.note.items what.now.columns.now what.now.requests.now
+        what.now.arrows.now what.now.lines.now)) }
 {
     put_titles(scene.title.as_slice(), scene.note.as_slice(), out)?;
     put_signs(out)?;

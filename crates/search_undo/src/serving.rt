@@ -35,7 +35,8 @@ fn refusal_at(base: u64, block: u16, size: usize, place: (u64, u32)) -> Option<R
     requires block { IsBlock block }
     requires some { 1 ≤ place.1 }
     ensures value { result ≡
-        (if not (step.is_in_block block place.0 place.1) then Some Refusal.Aborted else (if step.is_inside base size place.0 place.1 then None else Some Refusal.Unsupported)) }
+        (if not (step.is_in_block block place.0 place.1) then Some Refusal.Aborted
+        else (if step.is_inside base size place.0 place.1 then None else Some Refusal.Unsupported)) }
     ensures few { IfNone result (place.1 ≤ 128) }
     ensures low { IfNone result (base ≤ place.0) }
     ensures high { IfNone result (place.0 + place.1 ≤ base + size) }

@@ -55,7 +55,15 @@ impl Model for Words {
 
     ghost Value = { WordsView };
 
-    ghost view = { λ t. record { needed = t.needed; careless = t.careless; blind = t.blind; left = t.left; loose = t.loose; named = t.named; wide = t.wide.items } };
+    ghost view = { λ t. record {
+      needed = t.needed;
+      careless = t.careless;
+      blind = t.blind;
+      left = t.left;
+      loose = t.loose;
+      named = t.named;
+      wide = t.wide.items;
+    } };
 }
 
 /// Where in a range the word begins, if all of it is there. The range is given by its first address and its number of

@@ -45,7 +45,8 @@ pub(crate) fn refusal_at(
     requires block { IsBlock block }
     requires some { 1 ≤ count }
     ensures value { result ≡
-        (if not (is_in_block block address count) then Some Refusal.Aborted else (if is_inside base size address count then None else Some Refusal.Unsupported)) }
+        (if not (is_in_block block address count) then Some Refusal.Aborted
+        else (if is_inside base size address count then None else Some Refusal.Unsupported)) }
     ensures few { IfNone result (count ≤ 128) }
     ensures low { IfNone result (base ≤ address) }
     ensures high { IfNone result (address + count ≤ base + size) }

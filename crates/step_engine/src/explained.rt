@@ -143,7 +143,8 @@ pub fn run_step_with_reasons<R: Read, W: Write, E: Write>(
     ensures err { OnErr result (IsPart (spec.out_step_with options) (R.remaining reader.old) (R.remaining reader.new) (W.contents writer.old)
         (W.contents writer.new)) }
     ensures read { IfErr result (λ f. f ≡ EngineFault.Read →
-        IsCaughtUp spec.step_responses (spec.new_script options) (R.remaining reader.old) (R.remaining reader.new) (W.contents writer.old) (W.contents writer.new)) }
+        IsCaughtUp spec.step_responses (spec.new_script options)
+        (R.remaining reader.old) (R.remaining reader.new) (W.contents writer.old) (W.contents writer.new)) }
 {
     let explained = Explained {
         stepper: Stepper::new(alloc, options),

@@ -450,7 +450,7 @@ impl Stepper {
 /// or `settle`, which is answered by a line for each answer that it collects and the line `settled`. The first line that is none, the first fault of the configuration and the first refusal end the run with one
 /// line; with `keeps_going` a refusal doesn't end it. With `echoes` what answers an event or `settle` follows its line.
 /// With `is_traced` the trace of a run that ends well is written in place of the results. `Ok` is the exit status, 1
-/// where a fault or a refusal was told. After an `Err` what was written is a beginning of the whole output.
+/// where a fault or a refusal was told. After an `Err` what was written is a prefix of the whole output.
 pub fn run_step_with<R: Read, W: Write>(
     alloc: Global,
     options: StepOptions,
@@ -462,7 +462,8 @@ pub fn run_step_with<R: Read, W: Write>(
     ensures err { OnErr result (IsPart (spec.out_step_with options) (R.remaining reader.old) (R.remaining reader.new) (W.contents writer.old)
         (W.contents writer.new)) }
     ensures read { IfErr result (λ f. f ≡ EngineFault.Read →
-        IsCaughtUp spec.step_responses (spec.new_script options) (R.remaining reader.old) (R.remaining reader.new) (W.contents writer.old) (W.contents writer.new)) }
+        IsCaughtUp spec.step_responses (spec.new_script options)
+        (R.remaining reader.old) (R.remaining reader.new) (W.contents writer.old) (W.contents writer.new)) }
 {
     run_step_with_reasons(alloc, options, reader, writer, &mut sink())
 }
@@ -479,7 +480,8 @@ pub fn run_step<R: Read, W: Write>(
     ensures err { OnErr result (IsPart (spec.out_step is_traced) (R.remaining reader.old) (R.remaining reader.new) (W.contents writer.old)
         (W.contents writer.new)) }
     ensures read { IfErr result (λ f. f ≡ EngineFault.Read →
-        IsCaughtUp spec.step_responses (spec.new_script (plain is_traced)) (R.remaining reader.old) (R.remaining reader.new) (W.contents writer.old) (W.contents writer.new)) }
+        IsCaughtUp spec.step_responses (spec.new_script (plain is_traced))
+        (R.remaining reader.old) (R.remaining reader.new) (W.contents writer.old) (W.contents writer.new)) }
 {
     run_step_with(alloc, StepOptions::plain(is_traced), reader, writer)
 }

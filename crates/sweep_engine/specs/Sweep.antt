@@ -82,7 +82,7 @@ pub record IsWhole (o : Sweep) (out out' : Option (List ℕ)) (exit : ℕ) : Typ
   pub written : Appends out out' (whole_text (swept o saids))
   pub exit_status : exit ≡ (swept o saids).status
 
--- a beginning of the output for some of the first seeds was written
+-- a prefix of the output for some of the first seeds was written
 pub record IsPart (o : Sweep) (out out' : Option (List ℕ)) : Type 0 where
   pub saids : List Said
   pub said : AreSaid o o.storm.seed saids
@@ -91,7 +91,7 @@ pub record IsPart (o : Sweep) (out out' : Option (List ℕ)) : Type 0 where
   pub begins : IsBeginning done (whole_text (swept o saids))
   pub written : Appends out out' done
 
--- the whole output was written, and the exit status is the sweep's; or a beginning of it, and the exit status is 1
+-- the whole output was written, and the exit status is the sweep's; or a prefix of it, and the exit status is 1
 abbrev pub IsSwept : Sweep → Option (List ℕ) → Option (List ℕ) → ℕ → Type 0
 IsSwept o out out' exit = IsWhole o out out' exit ⊎ ((exit ≡ 1) × IsPart o out out')
 
@@ -109,7 +109,7 @@ pub record Stands (o : Sweep) (n : ℕ) (written : List ℕ) (w : Swept) : Type 
   pub all : (length saids ≡ n) ⊎ (w.has_ended ≡ true)
   pub told : swept o saids ≡ prefixed written w
 
--- a beginning of what so many seeds or fewer make
+-- a prefix of what so many seeds or fewer make
 pub record Begins (o : Sweep) (n : ℕ) (done : List ℕ) : Type 0 where
   pub saids : List Said
   pub said : AreSaid o o.storm.seed saids

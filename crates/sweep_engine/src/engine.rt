@@ -44,7 +44,7 @@ fn seeds_of(events: u64) -> u64
 /// Does the storms of the seeds, each as the pipe `generate | step --trace | check` does it, and writes two lines for each
 /// that fails, in the order of seeds: its seed with what `check` says, and the pipe. If it does not keep going, nothing is
 /// told of seeds after the first that fails. The last line is `ok` and how many seeds were. `Ok` is the exit status, 1 if
-/// a seed failed and else 0. After an `Err`, which is out of memory or the writer's, what was written is a beginning of
+/// a seed failed and else 0. After an `Err`, which is out of memory or the writer's, what was written is a prefix of
 /// the output for some of the first seeds.
 pub fn run_sweep<R: Threads + Sync, W: Write>(
     rt: &R,

@@ -95,11 +95,38 @@ impl Model for Tlp {
 
     ghost Value = { TlpView };
 
-    ghost view = { λ t. record { kind = t.kind; tc = t.tc; attr = t.attr; length = t.length; requester = t.requester; tag = t.tag; body = t.body; payload = t.payload.items } };
+    ghost view = { λ t. record {
+      kind = t.kind;
+      tc = t.tc;
+      attr = t.attr;
+      length = t.length;
+      requester = t.requester;
+      tag = t.tag;
+      body = t.body;
+      payload = t.payload.items;
+    } };
 
-    ghost invariant = { λ t. IsPacket (record { kind = t.kind; tc = t.tc; attr = t.attr; length = t.length; requester = t.requester; tag = t.tag; body = t.body; payload = t.payload.items }) };
+    ghost invariant = { λ t. IsPacket (record {
+      kind = t.kind;
+      tc = t.tc;
+      attr = t.attr;
+      length = t.length;
+      requester = t.requester;
+      tag = t.tag;
+      body = t.body;
+      payload = t.payload.items;
+    }) };
 
-    ghost inverse = { λ p. record { kind = p.kind; tc = p.tc; attr = p.attr; length = p.length; requester = p.requester; tag = p.tag; body = p.body; payload = record { items = p.payload } } };
+    ghost inverse = { λ p. record {
+      kind = p.kind;
+      tc = p.tc;
+      attr = p.attr;
+      length = p.length;
+      requester = p.requester;
+      tag = p.tag;
+      body = p.body;
+      payload = record { items = p.payload };
+    } };
 }
 
 /// All of a packet but its payload.
@@ -132,9 +159,27 @@ impl<'a> Model for TlpRef<'a> {
 
     ghost Value = { TlpView };
 
-    ghost view = { λ t. record { kind = t.header.kind; tc = t.header.tc; attr = t.header.attr; length = t.header.length; requester = t.header.requester; tag = t.header.tag; body = t.header.body; payload = t.payload.now } };
+    ghost view = { λ t. record {
+      kind = t.header.kind;
+      tc = t.header.tc;
+      attr = t.header.attr;
+      length = t.header.length;
+      requester = t.header.requester;
+      tag = t.header.tag;
+      body = t.header.body;
+      payload = t.payload.now;
+    } };
 
-    ghost invariant = { λ t. IsPacket (record { kind = t.header.kind; tc = t.header.tc; attr = t.header.attr; length = t.header.length; requester = t.header.requester; tag = t.header.tag; body = t.header.body; payload = t.payload.now }) };
+    ghost invariant = { λ t. IsPacket (record {
+      kind = t.header.kind;
+      tc = t.header.tc;
+      attr = t.header.attr;
+      length = t.header.length;
+      requester = t.header.requester;
+      tag = t.header.tag;
+      body = t.header.body;
+      payload = t.payload.now;
+    }) };
 }
 
 impl Tlp {

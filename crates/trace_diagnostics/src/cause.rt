@@ -29,7 +29,7 @@ fn tell_end<E: Write>(due: Expected, fault: Option<u64>, errors: &mut E) -> Resu
 }
 
 /// Tells what is wrong in the line, or at the text's end, where it is told as a fault: this is its line's
-/// number then. After an `Err` a beginning of the reason was written.
+/// number then. After an `Err` a prefix of the reason was written.
 pub fn tell_misread<E: Write>(
     line: &[u8],
     cause: Cause,

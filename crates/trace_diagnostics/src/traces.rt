@@ -16,7 +16,7 @@ use std::marker::Model;
 
 /// Tells why the text of a trace can't be read, or the trace isn't explained: one line at most. The
 /// calls tell the number of the first line that can't be read, once one was found. After an `Err` a
-/// beginning of the reason was written.
+/// prefix of the reason was written.
 #[derive(Drop)]
 pub struct TraceReasons<E: Write> {
     /// The line whose reason was told.

@@ -235,7 +235,7 @@ pub fn run_check_with_reasons<R: Read, W: Write, E: Write>(
 /// Reads the text of a trace and writes one line: `ok` where its history explains its records, else
 /// `flaw` with the number, the name and the place of the first flaw; or `fault` with the line that
 /// can't be read and why. `Ok` is the exit status, 0 for `ok` and else 1. After an `Err` what was
-/// written is a beginning of the whole output.
+/// written is a prefix of the whole output.
 pub fn run_check<R: Read, W: Write>(
     alloc: Global,
     reader: &mut R,

@@ -126,7 +126,7 @@ pub fn run_upgrade_with_reasons<R: Read, W: Write, E: Write>(
 
 /// Reads the text of a trace, of version 1 or 2, and writes it in version 2, unchecked; or `fault`
 /// with the line that can't be read and why. `Ok` is the exit status, 1 where a fault was told. After
-/// an `Err` what was written is a beginning of the whole output. It keeps the text that it is to write,
+/// an `Err` what was written is a prefix of the whole output. It keeps the text that it is to write,
 /// and neither records nor entries.
 pub fn run_upgrade<R: Read, W: Write>(
     alloc: Global,

@@ -19,7 +19,7 @@ pub enum RunHalt {
     Gated,
     /// The check found this flaw. No run ends so.
     Flaw(Flaw),
-    /// A growth was refused, or a thread.
+    /// An allocation failed, or a thread could not be started.
     Memory,
     /// A part's word wasn't 0 when the hall was closed.
     Held(StillHeld),

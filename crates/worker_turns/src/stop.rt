@@ -9,7 +9,7 @@ pub enum Stop {
     Turns,
     /// The gate let it not pass.
     Gated,
-    /// A growth was refused, or a thread.
+    /// An allocation failed, or a thread could not be started.
     Memory,
     /// The core's answer to a worker that can't try again.
     Core(Refusal),

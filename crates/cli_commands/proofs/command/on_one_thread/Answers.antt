@@ -54,7 +54,7 @@ nothing-done run u w = record {
     all None = tt
     all (Some input) = ((run input).text, refl)
 
--- nothing written is a beginning of what being out of memory writes
+-- nothing written is a prefix of what being out of memory writes
 nothing-counted : (counting : Counting) (w : Option (List ℕ)) → IsPart counting w w
 nothing-counted counting w = record {
   text = halt_text halts.Memory;
@@ -65,7 +65,7 @@ nothing-counted counting w = record {
   written = appends w;
 }
 
--- nothing written is a beginning of what is told of no seed
+-- nothing written is a prefix of what is told of no seed
 nothing-swept : (o : SweepAsked) (w : Option (List ℕ)) → IsPartOfSweep o w w
 nothing-swept o w = record { saids = []; said = tt; few = omega arith; done = []; begins = (whole_text none_said, refl); written = appends w }
 
