@@ -148,6 +148,25 @@ fn end<R: Print>(rt: &R, hall: Hall, seat: ReqSeat) -> io::Result<()>
     }
 }
 
+/// Submits a write and a read of it, and takes the answer.
+fn ask_write_and_read<R: Print>(
+    rt: &R,
+    hall: &Hall,
+    seat: &mut ReqSeat,
+    worker: &mut WorkSeat,
+) -> io::Result<()>
+    requires seat { IsSeatOf hall.now seat.old }
+    requires worker { IsSeatOf hall.now worker.old }
+    ensures { IsSeatOf hall.now seat.new }
+{
+    ask(rt, hall, seat, Asked::Write)?;
+    all_happen(rt, hall, worker, &out_and_served(1))?;
+    ask(rt, hall, seat, Asked::Read)?;
+    all_happen(rt, hall, worker, &out_and_served(1))?;
+    all_happen(rt, hall, worker, &back(1))?;
+    take_answer(rt, hall, seat)
+}
+
 /// A write, and a read of it, by one requester.
 pub fn write_then_read<R: Print>(rt: &R, alloc: Global) -> io::Result<()> {
     let Some((hall, mut seats, mut workers)) = open(rt, 1, alloc)? else {
@@ -159,13 +178,65 @@ pub fn write_then_read<R: Print>(rt: &R, alloc: Global) -> io::Result<()> {
     ) else {
         return print!(rt; "no seat\n");
     };
-    ask(rt, &hall, &mut seat, Asked::Write)?;
-    all_happen(rt, &hall, &mut worker, &out_and_served(1))?;
-    ask(rt, &hall, &mut seat, Asked::Read)?;
-    all_happen(rt, &hall, &mut worker, &out_and_served(1))?;
-    all_happen(rt, &hall, &mut worker, &back(1))?;
-    take_answer(rt, &hall, &mut seat)?;
+    ask_write_and_read(rt, &hall, &mut seat, &mut worker)?;
     end(rt, hall, seat)
+}
+
+/// The addition of the first acts, and the second submits one.
+fn ask_both<R: Print>(
+    rt: &R,
+    hall: &Hall,
+    one: &mut ReqSeat,
+    two: &mut ReqSeat,
+    worker: &mut WorkSeat,
+) -> io::Result<()>
+    requires one { IsSeatOf hall.now one.old }
+    requires two { IsSeatOf hall.now two.old }
+    requires worker { IsSeatOf hall.now worker.old }
+    ensures one { IsSeatOf hall.now one.new }
+    ensures two { IsSeatOf hall.now two.new }
+    ensures worker { IsSeatOf hall.now worker.new }
+{
+    ask(rt, hall, one, Asked::Add)?;
+    all_happen(rt, hall, worker, &out_and_served(1))?;
+    ask(rt, hall, two, Asked::Add)
+}
+
+/// Both completions come back, and are taken.
+fn take_both<R: Print>(
+    rt: &R,
+    hall: &Hall,
+    one: &mut ReqSeat,
+    two: &mut ReqSeat,
+    worker: &mut WorkSeat,
+) -> io::Result<()>
+    requires one { IsSeatOf hall.now one.old }
+    requires two { IsSeatOf hall.now two.old }
+    requires worker { IsSeatOf hall.now worker.old }
+    ensures { IsSeatOf hall.now one.new }
+{
+    all_happen(rt, hall, worker, &back(1))?;
+    all_happen(rt, hall, worker, &back(2))?;
+    take_answer(rt, hall, one)?;
+    take_answer(rt, hall, two)
+}
+
+/// Both seats meet, and what they know is told; `None` if they can't.
+fn met<R: Print>(
+    rt: &R,
+    hall: &Hall,
+    one: ReqSeat,
+    two: ReqSeat,
+) -> io::Result<Option<(ReqSeat, ReqSeat)>>
+    requires { IsSeatOf hall.now one × IsSeatOf hall.now two }
+    ensures { IfOk result (λ o. IfSome o (λ t. IsSeatOf hall.now t.0 × IsSeatOf hall.now t.1)) }
+{
+    let Ok((one, two, n)) = hall.meet(one, two) else {
+        print!(rt; "no meeting\n")?;
+        return Ok(None);
+    };
+    print!(rt; "met {n}\n")?;
+    Ok(Some((one, two)))
 }
 
 /// Two requesters add, meet, and are answered.
@@ -173,30 +244,21 @@ pub fn add_and_meet<R: Print>(rt: &R, alloc: Global) -> io::Result<()> {
     let Some((hall, mut seats, mut workers)) = open(rt, 2, alloc)? else {
         return print!(rt; "no hall\n");
     };
-    let Some(mut two) = last_seat(&hall, &mut seats) else {
+    let (Some(mut two), Some(mut one), Some(mut worker)) = (
+        last_seat(&hall, &mut seats),
+        last_seat(&hall, &mut seats),
+        last_worker(&hall, &mut workers),
+    ) else {
         return print!(rt; "no seat\n");
     };
-    let Some(mut one) = last_seat(&hall, &mut seats) else {
-        return print!(rt; "no seat\n");
+    ask_both(rt, &hall, &mut one, &mut two, &mut worker)?;
+    let Some((one, two)) = met(rt, &hall, one, two)? else {
+        return Ok(());
     };
-    let Some(mut worker) = last_worker(&hall, &mut workers) else {
-        return print!(rt; "no seat\n");
-    };
-    ask(rt, &hall, &mut one, Asked::Add)?;
-    all_happen(rt, &hall, &mut worker, &out_and_served(1))?;
-    ask(rt, &hall, &mut two, Asked::Add)?;
-    let Ok((one, two, n)) = hall.meet(one, two) else {
-        return print!(rt; "no meeting\n");
-    };
-    print!(rt; "met {n}\n")?;
     all_happen(rt, &hall, &mut worker, &out_and_served(2))?;
-    let Ok((mut one, mut two, n)) = hall.meet(one, two) else {
-        return print!(rt; "no meeting\n");
+    let Some((mut one, mut two)) = met(rt, &hall, one, two)? else {
+        return Ok(());
     };
-    print!(rt; "met {n}\n")?;
-    all_happen(rt, &hall, &mut worker, &back(1))?;
-    all_happen(rt, &hall, &mut worker, &back(2))?;
-    take_answer(rt, &hall, &mut one)?;
-    take_answer(rt, &hall, &mut two)?;
+    take_both(rt, &hall, &mut one, &mut two, &mut worker)?;
     end(rt, hall, one)
 }
