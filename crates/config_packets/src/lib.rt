@@ -9,8 +9,6 @@ mod encoding;
 mod fault;
 pub mod laws;
 mod request;
-#[cfg(test)]
-mod tests;
 
 pub use decoding::decode;
 pub use encoding::{MAX_CFG, encode};

@@ -8,8 +8,6 @@ pub mod laws;
 mod register;
 mod registers;
 mod setup;
-#[cfg(test)]
-mod tests;
 
 pub use register::{Register, register_at};
 pub use registers::{Noted, Registers};

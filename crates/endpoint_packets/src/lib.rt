@@ -7,8 +7,6 @@
 
 mod classes;
 mod received;
-#[cfg(test)]
-mod tests;
 
 pub use classes::receive;
 pub use received::{Descriptor, Malformed, Received, Room};

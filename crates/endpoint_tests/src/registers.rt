@@ -1,5 +1,5 @@
 //! Registers after a reset and after writes.
-use crate::{Noted, Registers, Setup};
+use config_space::{Noted, Registers, Setup};
 
 /// What is written with which byte enables, and what is read then.
 #[derive(Drop)]

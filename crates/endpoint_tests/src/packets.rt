@@ -1,6 +1,6 @@
 //! TLPs as a root complex sends them.
-use crate::{Malformed, Received, Room, receive};
 use config_space::Noted;
+use endpoint_packets::{Malformed, Received, Room, receive};
 use tlp_core::TlpFault;
 
 /// A name for what becomes of the bytes.
