@@ -30,13 +30,18 @@ fn put_digit(value: u8, out: &mut ArrayString<512>)
     out.push(char::from(digit));
 }
 
-/// Adds the number's digits, which fit.
+/// Adds the number's digits, which fit. Up to four digits take no call of itself: most addresses of a trace are as short.
 fn put_hexadecimal(number: u64, out: &mut ArrayString<512>)
     requires { array_string_len out.old + length (hexadecimal number) ≤ 512 }
     ensures { out.new.bytes ≡ out.old.bytes ++ hexadecimal number }
 {
     if number >= 256 {
-        put_hexadecimal(number / 256, out);
+        let front = number / 256;
+        if front < 256 {
+            put_byte(front as u8, out);
+        } else {
+            put_hexadecimal(front, out);
+        }
         write_octet((number % 256) as u8, out);
     } else if number >= 16 {
         write_octet(number as u8, out);
