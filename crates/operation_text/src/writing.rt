@@ -254,6 +254,7 @@ fn put_write(address: u64, first: u8, last: u8, bytes: &[u8], out: &mut ArrayStr
 }
 
 /// Adds the operation's text.
+#[inline(always)]
 pub fn write_op(op: &OpRef<'_>, out: &mut ArrayString<512>)
     requires { array_string_len out.old + 320 ≤ 512 }
     ensures text { out.new.bytes ≡ out.old.bytes ++ op_text op.now }

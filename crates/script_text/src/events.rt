@@ -21,6 +21,7 @@ const REQUESTER: Expected = Expected::Between("a requester", 1, REQUESTERS as u6
 
 const POSITION: Expected = Expected::Of("a position", "0 or more");
 
+#[inline(always)]
 pub(crate) fn submit<'r>(
     rest: Option<&[u8]>,
     room: &'r mut [u8; MAX_PAYLOAD],
@@ -32,6 +33,7 @@ pub(crate) fn submit<'r>(
     Ok(EventRef::Submit(port, op))
 }
 
+#[inline(always)]
 pub(crate) fn transmit(rest: Option<&[u8]>) -> Result<EventRef<'static>, Misfit>
     ensures { result_ok result ≡ forms.transmit_of (words_behind rest.entry) }
 {
@@ -39,6 +41,7 @@ pub(crate) fn transmit(rest: Option<&[u8]>) -> Result<EventRef<'static>, Misfit>
     alone(EventRef::Transmit(lane), rest)
 }
 
+#[inline(always)]
 pub(crate) fn deliver(rest: Option<&[u8]>) -> Result<EventRef<'static>, Misfit>
     ensures { result_ok result ≡ forms.deliver_of (words_behind rest.entry) }
 {
@@ -47,6 +50,7 @@ pub(crate) fn deliver(rest: Option<&[u8]>) -> Result<EventRef<'static>, Misfit>
     alone(EventRef::Deliver(lane, fate), rest)
 }
 
+#[inline(always)]
 pub(crate) fn dllp(rest: Option<&[u8]>) -> Result<EventRef<'static>, Misfit>
     ensures { result_ok result ≡ forms.dllp_of (words_behind rest.entry) }
 {
@@ -55,6 +59,7 @@ pub(crate) fn dllp(rest: Option<&[u8]>) -> Result<EventRef<'static>, Misfit>
     alone(EventRef::SendDllp(lane, kind), rest)
 }
 
+#[inline(always)]
 pub(crate) fn deliver_dllp(rest: Option<&[u8]>) -> Result<EventRef<'static>, Misfit>
     ensures { result_ok result ≡ forms.deliver_dllp_of (words_behind rest.entry) }
 {
@@ -77,6 +82,7 @@ fn retrained(rest: Option<&[u8]>) -> Result<EventRef<'static>, Misfit>
     alone(EventRef::Retrained(lane), rest)
 }
 
+#[inline(always)]
 pub(crate) fn forward(rest: Option<&[u8]>) -> Result<EventRef<'static>, Misfit>
     ensures { result_ok result ≡ forms.forward_of (words_behind rest.entry) }
 {
@@ -85,6 +91,7 @@ pub(crate) fn forward(rest: Option<&[u8]>) -> Result<EventRef<'static>, Misfit>
     alone(EventRef::Forward(lane, place), rest)
 }
 
+#[inline(always)]
 pub(crate) fn serve(rest: Option<&[u8]>) -> Result<EventRef<'static>, Misfit>
     ensures { result_ok result ≡ forms.serve_of (words_behind rest.entry) }
 {
@@ -92,6 +99,7 @@ pub(crate) fn serve(rest: Option<&[u8]>) -> Result<EventRef<'static>, Misfit>
     alone(EventRef::Serve(place), rest)
 }
 
+#[inline(always)]
 pub(crate) fn collect(rest: Option<&[u8]>) -> Result<EventRef<'static>, Misfit>
     ensures { result_ok result ≡ forms.collect_of (words_behind rest.entry) }
 {

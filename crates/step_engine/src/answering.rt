@@ -47,6 +47,7 @@ fn put_after(line: &[u8], text: &[u8], out: &mut Vec<u8>) -> Result<(), AllocErr
 }
 
 /// Adds what answers a line of the script as a line of its own, after the other where that is asked for.
+#[inline(always)]
 pub(crate) fn put_shown(
     echoes: bool,
     line: &[u8],

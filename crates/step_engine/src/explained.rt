@@ -56,6 +56,7 @@ fn explain_answers<E: Write>(text: &[u8], number: u64, errors: &mut E) -> Result
 }
 
 /// Whether the text may have an answer of a request that isn't served: it says so at its end, or `settle` wrote it.
+#[inline(always)]
 fn may_be_unserved(text: &[u8]) -> bool {
     matches!(
         text,
