@@ -4,7 +4,7 @@ ghost use Rattle.diagnostics.specs.Told.{IsReasonTold, IsReasonBegun};
 
 use crate::telling::{Reason, Shown};
 use line_loop::EngineFault;
-use operation_text::{Misfit, cut, next_word};
+use operation_text::{Misfit, next_word, split_word};
 use std::io::Write;
 
 /// What refusals and faults mean, by their names.
@@ -65,7 +65,7 @@ const LAST_OF_ONE: &str = "Last DW BE must be 0 for 1 DW";
 
 /// Whether the line is of a read or a write of one DW, none if it is of neither.
 fn is_of_one_dw(line: &[u8]) -> Option<bool> {
-    let (mut word, mut rest) = cut(line);
+    let (mut word, mut rest) = split_word(line);
     if word == b"submit".as_slice() {
         let (_requester, operation) = next_word(rest)?;
         (word, rest) = next_word(operation)?;

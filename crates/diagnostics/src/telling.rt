@@ -8,7 +8,7 @@ ghost use Rattle.diagnostics.specs.Told.{IsReason, IsReasonToldAt, IsReasonBegun
 use crate::shown::shown_byte;
 use arrayvec::{ArrayString, ArrayVec};
 use line_loop::{EngineFault, write_out};
-use operation_text::{Expected, Misfit, cut, write_decimal};
+use operation_text::{Expected, Misfit, split_word, write_decimal};
 use std::fmt::Write;
 use std::{fmt, io};
 
@@ -121,11 +121,11 @@ impl Reason {
         if rest.is_empty() {
             reason.put("the line ends");
         } else {
-            reason.put_word(cut(rest).0);
+            reason.put_word(split_word(rest).0);
         }
         reason.put_expected(misfit.expected);
         if column == 1
-            && let Some(text) = text_begun(cut(rest).0, misfit.expected)
+            && let Some(text) = text_begun(split_word(rest).0, misfit.expected)
         {
             reason.put(format_args!("; so begins {text}"));
         }

@@ -5,7 +5,7 @@ ghost use Rattle.operation_text.specs.Words.{words, words_behind};
 ghost use Rattle.log_text.specs.Forms as forms;
 
 use history_words::RecordRef;
-use operation_text::{Expected, Misfit, alone, cut, op_behind, read_reply, reply_behind};
+use operation_text::{Expected, Misfit, alone, op_behind, read_reply, reply_behind, split_word};
 use record_text::{memory, request, requester};
 use seq_memory::{Extent, ReplyRef};
 use tlp_core::MAX_PAYLOAD;
@@ -75,7 +75,7 @@ fn of_version_2(misfit: Misfit, text: &[u8]) -> Misfit {
 fn done_or<'r>(text: &[u8], room: &'r mut [u8; MAX_PAYLOAD]) -> Result<ReplyRef<'r>, Misfit>
     ensures { result_ok result ≡ forms.done_or_reply (words text.now) }
 {
-    let (kind, rest) = cut(text);
+    let (kind, rest) = split_word(text);
     if kind == b"done".as_slice() {
         return alone(ReplyRef::Done, rest);
     }
@@ -151,7 +151,7 @@ fn line_in_words<'r>(
 ) -> Result<LogLine<'r>, Misfit>
     ensures { result_ok result ≡ forms.line_in_words version (words text.now) }
 {
-    let (kind, rest) = cut(text);
+    let (kind, rest) = split_word(text);
     line_by(kind, rest, text, version, room)
 }
 

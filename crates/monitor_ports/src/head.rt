@@ -7,7 +7,7 @@ ghost use Rattle.monitor_ports.specs.Texts.{head_lines};
 
 use arrayvec::ArrayString;
 use operation_text::{
-    BASE, BLOCK, SIZE, alone, cut, next_word, number, write_decimal, write_hexadecimal,
+    BASE, BLOCK, SIZE, alone, next_word, number, split_word, write_decimal, write_hexadecimal,
 };
 
 /// What a monitor is asked to write, a trace or a log, and the memory whose ports it watches.
@@ -55,7 +55,7 @@ fn head_behind(is_trace: bool, rest: Option<&[u8]>) -> Option<Head>
 pub fn read_head(line: &[u8]) -> Option<Head>
     ensures { result ≡ heads.head_of (words line.now) }
 {
-    let (kind, rest) = cut(line);
+    let (kind, rest) = split_word(line);
     if kind == b"log".as_slice() {
         head_behind(false, rest)
     } else if kind == b"trace".as_slice() {

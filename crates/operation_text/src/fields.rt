@@ -15,7 +15,7 @@ use tlp_core::{MAX_PAYLOAD, Width, operand_of};
 /// The first word of a line, and what is behind the space that ends it, none where the line ends with
 /// the word.
 #[inline(always)]
-pub fn cut(line: &[u8]) -> (&[u8], Option<&[u8]>)
+pub fn split_word(line: &[u8]) -> (&[u8], Option<&[u8]>)
     ensures { words line.now ≡ result.0.now ∷ words_behind result.1 }
 {
     let mut at = 0;
@@ -34,10 +34,10 @@ pub fn cut(line: &[u8]) -> (&[u8], Option<&[u8]>)
 pub fn next_word(rest: Option<&[u8]>) -> Option<(&[u8], Option<&[u8]>)>
     ensures { MatchOption result (words_behind rest.entry ≡ []) (λ s. words_behind rest.entry ≡ s.0.now ∷ words_behind s.1) }
 {
-    Some(cut(rest?))
+    Some(split_word(rest?))
 }
 
-/// Whether the line ends here, `rest` being what [`cut`] left.
+/// Whether the line ends here, `rest` being what [`split_word`] left.
 #[inline(always)]
 pub fn is_ended(rest: Option<&[u8]>) -> bool
     ensures { result ≡ has_ended (words_behind rest.entry) }
@@ -139,7 +139,7 @@ fn operand_in(word: &[u8]) -> Option<(Width, u128)>
     Some(operand_of(bytes))
 }
 
-/// The next word, and what is behind it. `rest` is what [`cut`] left.
+/// The next word, and what is behind it. `rest` is what [`split_word`] left.
 #[inline(always)]
 pub fn word(rest: Option<&[u8]>, expected: Expected) -> Result<(&[u8], Option<&[u8]>), Misfit>
     ensures { MatchOption (result_ok result) (words_behind rest.entry ≡ []) (λ s. words_behind rest.entry ≡ s.0.now ∷ words_behind s.1) }
@@ -148,7 +148,7 @@ pub fn word(rest: Option<&[u8]>, expected: Expected) -> Result<(&[u8], Option<&[
 }
 
 /// The number that the next word spells in that radix, of at most `most` and without leading zeros,
-/// and what is behind it. `rest` is what [`cut`] left.
+/// and what is behind it. `rest` is what [`split_word`] left.
 #[inline(always)]
 pub fn number(
     rest: Option<&[u8]>,

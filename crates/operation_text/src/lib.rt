@@ -24,7 +24,7 @@ mod operations;
 mod replies;
 mod writing;
 
-pub use fields::{alone, bytes_in, cut, is_ended, next_word, number, word};
+pub use fields::{alone, bytes_in, is_ended, next_word, number, split_word, word};
 pub use laws::{own_digits_spell_number, own_text_spells_operation, own_text_spells_reply};
 pub use misfit::{BASE, BLOCK, BYTES, Expected, LINE_END, Misfit, SIZE};
 pub use operations::{OPERATION, op_behind, read_op};

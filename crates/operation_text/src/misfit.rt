@@ -49,7 +49,7 @@ pub struct Misfit {
 }
 
 impl Expected {
-    /// That it doesn't come next. `rest` is what [`cut`](crate::cut) left.
+    /// That it doesn't come next. `rest` is what [`split_word`](crate::split_word) left.
     #[inline(always)]
     pub fn at(self, rest: Option<&[u8]>) -> Misfit {
         let left = match rest {

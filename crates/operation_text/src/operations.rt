@@ -4,7 +4,7 @@ ghost use Rattle.std.specs.Result.{result_ok};
 ghost use Rattle.operation_text.specs.Words.{words, words_behind, first_field};
 ghost use Rattle.operation_text.specs.Operations as spelled;
 
-use crate::fields::{alone, bytes, cut, number, operand};
+use crate::fields::{alone, bytes, number, operand, split_word};
 use crate::misfit::{BYTES, Expected, Misfit};
 use tlp_core::{MAX_PAYLOAD, OpRef, PayloadRef};
 
@@ -164,7 +164,7 @@ fn op_by<'r>(
 fn any_op<'r>(text: &[u8], room: &'r mut [u8; MAX_PAYLOAD]) -> Result<OpRef<'r>, Misfit>
     ensures { result_ok result ≡ spelled.op_spelled (words text.now) }
 {
-    let (kind, rest) = cut(text);
+    let (kind, rest) = split_word(text);
     op_by(kind, rest, text, room)
 }
 
@@ -183,7 +183,7 @@ pub fn read_op<'r>(text: &[u8], room: &'r mut [u8; MAX_PAYLOAD]) -> Result<OpRef
     }
 }
 
-/// As [`read_op`], of the rest of a line; none where there is no rest. `rest` is what [`cut`]
+/// As [`read_op`], of the rest of a line; none where there is no rest. `rest` is what [`split_word`]
 /// left.
 #[inline(always)]
 pub fn op_behind<'r>(

@@ -4,7 +4,7 @@ ghost use Rattle.std.specs.Result.{result_ok};
 ghost use Rattle.operation_text.specs.Words.{words, words_behind};
 ghost use Rattle.operation_text.specs.Operations as spelled;
 
-use crate::fields::{alone, bytes, cut};
+use crate::fields::{alone, bytes, split_word};
 use crate::misfit::{BYTES, Expected, Misfit};
 use seq_memory::ReplyRef;
 use tlp_core::{MAX_PAYLOAD, PayloadRef};
@@ -46,7 +46,7 @@ fn reply_by<'r>(
 fn any_reply<'r>(text: &[u8], room: &'r mut [u8; MAX_PAYLOAD]) -> Result<ReplyRef<'r>, Misfit>
     ensures { result_ok result ≡ spelled.reply_spelled (words text.now) }
 {
-    let (kind, rest) = cut(text);
+    let (kind, rest) = split_word(text);
     reply_by(kind, rest, text, room)
 }
 
@@ -62,7 +62,7 @@ pub fn read_reply<'r>(text: &[u8], room: &'r mut [u8; MAX_PAYLOAD]) -> Result<Re
 }
 
 /// As [`read_reply`], of the rest of a line; none where there is no rest. `rest` is what
-/// [`cut`] left.
+/// [`split_word`] left.
 #[inline(always)]
 pub fn reply_behind<'r>(
     rest: Option<&[u8]>,

@@ -2,8 +2,8 @@
 use crate::rows::{Row, all_right};
 use arrayvec::ArrayString;
 use operation_text::{
-    LINE_END, cut, is_ended, number, op_behind, own_digits_spell_number, own_text_spells_operation,
-    own_text_spells_reply, read_op, read_reply, reply_behind, write_op, write_reply,
+    LINE_END, is_ended, number, op_behind, own_digits_spell_number, own_text_spells_operation,
+    own_text_spells_reply, read_op, read_reply, reply_behind, split_word, write_op, write_reply,
 };
 use seq_memory::ReplyRef;
 use tlp_core::{MAX_PAYLOAD, Op, OpRef, Width};
@@ -234,7 +234,7 @@ fn written_replies(rt: HostRuntime) {
 
 /// Whether a line is cut into its first word and a last number.
 fn is_cut() -> bool {
-    let (word, rest) = cut(b"sub 7");
+    let (word, rest) = split_word(b"sub 7");
     match number(rest, 10, 255, LINE_END) {
         Ok((requester, rest)) => word == b"sub".as_slice() && requester == 7 && is_ended(rest),
         Err(_) => false,

@@ -13,7 +13,7 @@ use crate::fields::{credits, sequence};
 use crate::origin::{id_and_tag, origin_with};
 use crate::packet::Packet;
 use dllp_core::Dllp;
-use operation_text::{Expected, LINE_END, Misfit, OPERATION, alone, cut, number, read_op};
+use operation_text::{Expected, LINE_END, Misfit, OPERATION, alone, number, read_op, split_word};
 use requester_core::{Origin, request_with};
 use seq12::Seq12;
 use tlp_core::{MAX_PAYLOAD, Tlp, TlpFault};
@@ -157,7 +157,7 @@ pub fn read_words(line: &[u8]) -> Result<Packet, Unread>
     ensures err { IfErr result (λ e. forms.text_reading line.now ≡ Err (fault_of e)) }
     ensures in_range { IfOk result packets.FitsDataFC }
 {
-    let (kind, rest) = cut(line);
+    let (kind, rest) = split_word(line);
     if kind == b"completion".as_slice() {
         told_tlp(completion(rest))
     } else if kind == b"ack".as_slice() {

@@ -4,7 +4,7 @@ ghost use Rattle.std.specs.Result.{result_ok};
 ghost use Rattle.operation_text.specs.Words.{words, words_behind, first_field};
 ghost use Rattle.record_text.specs.Forms as forms;
 
-use operation_text::{BASE, BLOCK, Expected, Misfit, SIZE, alone, cut, number};
+use operation_text::{BASE, BLOCK, Expected, Misfit, SIZE, alone, number, split_word};
 use seq_memory::{Extent, is_size};
 
 /// The greatest number of a request.
@@ -86,7 +86,7 @@ fn no_memory(size: usize, rest: Option<&[u8]>) -> Misfit {
         return BASE.at(rest);
     }
     match rest {
-        Some(line) => SIZE.at(cut(line).1),
+        Some(line) => SIZE.at(split_word(line).1),
         None => SIZE.at(None),
     }
 }

@@ -4,7 +4,7 @@ ghost use Rattle.record_text.specs.RecordReaderView as reads;
 
 use crate::fault::{Cause, Misread, ReadFault, ReadFaultKind};
 use crate::form::{Form, Scratch, Section, Taken};
-use operation_text::{Expected, Misfit, cut};
+use operation_text::{Expected, Misfit, split_word};
 use std::alloc::AllocError;
 use std::marker::Model;
 use text_lines::is_skipped;
@@ -155,7 +155,7 @@ impl<F: Form> RecordReader<F> {
 
     /// What doesn't fit in a line of no form: its first word, if no line that is due begins with it.
     fn misfit_of(&self, text: &[u8]) -> Option<Misfit> {
-        if F::begins_with(self.section, cut(text).0) {
+        if F::begins_with(self.section, split_word(text).0) {
             self.scratch.misfit
         } else {
             Some(self.due().at(Some(text)))

@@ -9,7 +9,7 @@ ghost use Rattle.script_text.specs.declared.line.Line.TheVariants as lines;
 use crate::fields::{count, octet, short};
 use fabric_core::Config;
 use fc_credit::{LaneCredits, MAX_DATA, MAX_HEADERS, MIN_ATOMIC_DATA, MIN_DATA};
-use operation_text::{BASE, BLOCK, Expected, Misfit, SIZE, alone, cut, next_word, number};
+use operation_text::{BASE, BLOCK, Expected, Misfit, SIZE, alone, next_word, number, split_word};
 use seq_memory::{is_base, is_block, is_size};
 use switch_ports::REQUESTERS;
 
@@ -170,7 +170,7 @@ fn unfit_field(config: &Config, last: usize) -> Option<(usize, Expected)>
 fn from_word(line: &[u8], place: usize) -> Option<&[u8]> {
     let mut rest = Some(line);
     for _place in 0..place {
-        rest = cut(rest?).1;
+        rest = split_word(rest?).1;
     }
     rest
 }

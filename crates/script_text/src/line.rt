@@ -10,7 +10,7 @@ use crate::events::{
 };
 use crate::fabric::{FABRIC, fabric, misfit_of};
 use fabric_core::{Config, EventRef};
-use operation_text::{Misfit, alone, cut};
+use operation_text::{Misfit, alone, split_word};
 use tlp_core::MAX_PAYLOAD;
 
 /// What a line of a script asks for: the operation of its event is lent.
@@ -29,7 +29,7 @@ pub enum Line<'a> {
 fn any_line<'r>(text: &[u8], room: &'r mut [u8; MAX_PAYLOAD]) -> Result<Line<'r>, Misfit>
     ensures { result_ok result ≡ forms.line_of (words text.now) }
 {
-    let (kind, rest) = cut(text);
+    let (kind, rest) = split_word(text);
     if kind == b"fabric".as_slice() {
         return Ok(Line::Fabric(fabric(rest)?));
     }
@@ -135,7 +135,7 @@ pub fn read_line<'r>(text: &[u8], room: &'r mut [u8; MAX_PAYLOAD]) -> Result<Lin
 /// Why a script's line says nothing that can be done: the first line makes a fabric, no later one does,
 /// and of the configuration that it tells there is a fabric. None if none of that is broken.
 pub fn script_misfit(text: &[u8], has_fabric: bool) -> Option<Misfit> {
-    match (cut(text).0 == b"fabric".as_slice(), has_fabric) {
+    match (split_word(text).0 == b"fabric".as_slice(), has_fabric) {
         (false, false) => return Some(FABRIC.at(Some(text))),
         (true, true) => return Some(EVENT.at(Some(text))),
         _ => {}

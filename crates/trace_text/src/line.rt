@@ -5,7 +5,7 @@ ghost use Rattle.operation_text.specs.Words.{words, words_behind, first_field, e
 ghost use Rattle.trace_text.specs.Forms as forms;
 
 use history_words::RecordRef;
-use operation_text::{Expected, Misfit, alone, cut, number, op_behind, reply_behind};
+use operation_text::{Expected, Misfit, alone, number, op_behind, reply_behind, split_word};
 use record_text::{count, memory, request, requester};
 use seq_memory::{EntryRef, Extent};
 use tlp_core::MAX_PAYLOAD;
@@ -220,6 +220,6 @@ pub(crate) fn any_line<'l, 'r>(
     ensures line { forms.line_in result ≡ forms.line_of version (words text.now) }
     ensures behind { IfOk result (λ s. words_behind s.behind ≡ forms.behind_numbers s.line (words text.now)) }
 {
-    let (kind, rest) = cut(text);
+    let (kind, rest) = split_word(text);
     line_by(kind, rest, version, text, room)
 }

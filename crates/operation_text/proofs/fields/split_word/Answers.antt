@@ -3,8 +3,8 @@ use Rattle.std.proofs.lemmas.List.{take_all, length-drop}
 use Rattle.std.proofs.lemmas.Bool.{eq-eqb}
 use Rattle.operation_text.specs.Words.{words, is_space}
 use Rattle.operation_text.proofs.WordLemmas.{cut_at, one_word}
-use Rattle.operation_text.proofs.fields.cut.Goals.{then-loop-at-test+else-line-at-ne32, else-loop-at-test}
-use Rattle.operation_text.proofs.fields.cut.Goals as goal
+use Rattle.operation_text.proofs.fields.split_word.Goals.{then-loop-at-test+else-line-at-ne32, else-loop-at-test}
+use Rattle.operation_text.proofs.fields.split_word.Goals as goal
 
 pub returns-then-at-line : goal.returns-then-at-line
 returns-then-at-line c =

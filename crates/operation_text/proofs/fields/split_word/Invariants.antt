@@ -1,6 +1,6 @@
 use Rattle.std.proofs.Common.{◌≡◌, ℕ, ◌-◌, ◌<◌, ◌≤◌, length, get_or, false}
 use Rattle.operation_text.specs.Words.{is_space}
-use Rattle.operation_text.proofs.fields.cut.Given as goal
+use Rattle.operation_text.proofs.fields.split_word.Given as goal
 
 abbrev pub invariant-loop-at : goal.invariant-loop-at
 invariant-loop-at l = record {
