@@ -1,5 +1,5 @@
 -- What the words of a command line ask for.
-use Rattle.std.specs.Prelude.{◌≡◌, ◌≤◌, ◌<◌, ◌^◌, ℕ, Bool, true, false, List, Option, Some, None, IfSome, codes}
+use Rattle.std.specs.Prelude.{◌≡◌, ◌≤◌, ◌<◌, ◌^◌, ℕ, Bool, true, false, List, Option, Some, None, IfSome, codes, map, [], ◌∷◌}
 use Rattle.clap.specs.declared.builder.action.ArgAction.TheVariants.{SetTrue}
 use Rattle.clap.specs.Words.{App, Row, Rule, Text, first_of, new_app, new_rule, with_rule, with_subcommand}
 use Rattle.parameters.specs.declared.counting.Counting.{Counting}
@@ -20,6 +20,8 @@ use Rattle.cli_values.specs.Seeds.{WritesSeeds}
 use Rattle.cli_words.specs.declared.outputs.SearchOutput.{SearchOutput}
 use Rattle.cli_words.specs.declared.outputs.SearchOutput.TheVariants as outputs
 use Rattle.cli_words.specs.declared.words.Request.{Request}
+use Rattle.cli_words.specs.declared.subcommands.CommandOption.{CommandOption}
+use Rattle.cli_words.specs.declared.subcommands.CommandOption.TheVariants as takes
 use Rattle.cli_words.specs.declared.subcommands.Subcommand.{Subcommand}
 use Rattle.cli_words.specs.declared.subcommands.Subcommand.TheVariants as kinds
 use Rattle.cli_words.specs.declared.words.Request.TheVariants.{Tlp, Endpoint, Linked, Decode, Encode, Check, Search, Draw, Upgrade, Step, Chart, Generate, Sweep, Run}
@@ -41,83 +43,75 @@ text_of kinds.Generate = codes "generate"
 text_of kinds.Sweep = codes "sweep"
 text_of kinds.Run = codes "run"
 
--- an option with a value
-abbrev pub option : Text → Rule
-option name = record (new_rule name) { long = Some name; value_names = 1 }
-
-abbrev pub tlp_app : App
-tlp_app = with_rule (with_rule (with_rule (new_app (codes "tlp")) (option (codes "base"))) (option (codes "size"))) (option (codes "block"))
-
 -- a flag, whose value is `true` where it is given
 abbrev pub flag : Text → Rule
 flag name = record (new_rule name) { long = Some name; action = Some SetTrue }
 
--- with a link, and what goes with it
-abbrev pub with_link : App → App
-with_link app = with_rule (with_rule (with_rule app (flag (codes "link"))) (flag (codes "crc"))) (option (codes "credits"))
-
-abbrev pub endpoint_app : App
-endpoint_app =
-    with_link (with_rule (with_rule (with_rule (new_app (codes "endpoint")) (option (codes "size"))) (option (codes "id"))) (flag (codes "trace")))
-
-abbrev pub check_app : App
-check_app = with_rule (new_app (codes "check")) (flag (codes "clocked"))
-
-abbrev pub search_app : App
-search_app =
-    with_rule (with_rule (with_rule (with_rule (with_rule (with_rule (new_app (codes "search")) (option (codes "limit"))) (option (codes "work"))) (option (codes "granularity"))) (flag (codes "core")))
-    (flag (codes "draw"))) (flag (codes "progress"))
-
-abbrev pub draw_app : App
-draw_app = with_rule (with_rule (new_app (codes "draw")) (option (codes "from"))) (option (codes "to"))
-
-abbrev pub step_app : App
-step_app = with_rule (with_rule (with_rule (new_app (codes "step")) (flag (codes "trace"))) (flag (codes "keep-going"))) (flag (codes "echo"))
-
-abbrev pub chart_app : App
-chart_app =
-    with_rule (with_rule (with_rule (with_rule (with_rule (new_app (codes "chart")) (option (codes "lane"))) (option (codes "from"))) (option (codes "to"))) (flag (codes "brief"))) (flag (codes "levels"))
+-- an option with a value
+abbrev pub option : Text → Rule
+option name = record (new_rule name) { long = Some name; value_names = 1 }
 
 -- an option with a value, which has to be given
 abbrev pub required : Text → Rule
 required name = record (option name) { required = true }
 
--- with the faults of links
-abbrev pub with_links : App → App
-with_links app = with_rule (with_rule app (option (codes "lose"))) (option (codes "corrupt"))
+-- with these options behind those that it has
+abbrev pub with_rules : App → List Rule → App
+with_rules app [] = app
+with_rules app (rule ∷ rules) = with_rules (with_rule app rule) rules
 
-abbrev pub generate_app : App
-generate_app =
-    with_rule (with_links (with_rule (with_rule (with_rule (new_app (codes "generate")) (required (codes "seed"))) (required (codes "events"))) (option (codes "requesters"))))
-    (option (codes "block"))
+-- the options of the subcommands, in the order of their help
+abbrev pub rules_of : Subcommand → List Rule
+rules_of kinds.Tlp = option (codes "base") ∷ option (codes "size") ∷ option (codes "block") ∷ []
+rules_of kinds.Endpoint =
+    option (codes "size") ∷ option (codes "id") ∷ flag (codes "trace") ∷ flag (codes "link") ∷ flag (codes "crc") ∷ option (codes "credits") ∷ []
+rules_of kinds.Decode = []
+rules_of kinds.Encode = []
+rules_of kinds.Check = flag (codes "clocked") ∷ []
+rules_of kinds.Search =
+    option (codes "limit") ∷ option (codes "work") ∷ option (codes "granularity") ∷ flag (codes "core") ∷ flag (codes "draw") ∷ flag (codes "progress") ∷ []
+rules_of kinds.Draw = option (codes "from") ∷ option (codes "to") ∷ []
+rules_of kinds.Upgrade = []
+rules_of kinds.Step = flag (codes "trace") ∷ flag (codes "keep-going") ∷ flag (codes "echo") ∷ []
+rules_of kinds.Chart = option (codes "lane") ∷ option (codes "from") ∷ option (codes "to") ∷ flag (codes "brief") ∷ flag (codes "levels") ∷ []
+rules_of kinds.Generate =
+    required (codes "seed") ∷ required (codes "events") ∷ option (codes "requesters") ∷ option (codes "lose") ∷ option (codes "corrupt")
+    ∷ option (codes "block") ∷ []
+rules_of kinds.Sweep =
+    required (codes "seeds") ∷ required (codes "events") ∷ option (codes "requesters") ∷ option (codes "lose") ∷ option (codes "corrupt")
+    ∷ option (codes "block") ∷ flag (codes "clocked") ∷ flag (codes "keep-going") ∷ option (codes "workers") ∷ []
+rules_of kinds.Run =
+    required (codes "requesters") ∷ required (codes "each") ∷ option (codes "lose") ∷ option (codes "corrupt") ∷ option (codes "turns")
+    ∷ option (codes "workers") ∷ flag (codes "progress") ∷ []
 
-abbrev pub sweep_app : App
-sweep_app =
-    with_rule (with_rule (with_rule (with_rule (with_links (with_rule (with_rule (with_rule (new_app (codes "sweep")) (required (codes "seeds"))) (required (codes "events"))) (option (codes "requesters"))))
-    (option (codes "block"))) (flag (codes "clocked"))) (flag (codes "keep-going"))) (option (codes "workers"))
-
-abbrev pub run_app : App
-run_app =
-    with_rule (with_rule (with_rule (with_links (with_rule (with_rule (new_app (codes "run")) (required (codes "requesters"))) (required (codes "each")))) (option (codes "turns"))) (option (codes "workers")))
-    (flag (codes "progress"))
+-- a subcommand with its options
+abbrev pub subcommand_app : Subcommand → App
+subcommand_app s = with_rules (new_app (text_of s)) (rules_of s)
 
 -- the program, with `help` among its subcommands, which the parser answers
 abbrev pub top_app : App
 top_app = record (new_app (codes "pciex")) { top = record ((new_app (codes "pciex")).top) { has_version = true; subcommand_required = true } }
 
--- with the subcommands for packets, and with those for traces
-abbrev pub with_packets : App → App
-with_packets app =
-    with_subcommand (with_subcommand (with_subcommand (with_subcommand app tlp_app.top) endpoint_app.top) (new_app (codes "decode")).top) (new_app (codes "encode")).top
+-- with these subcommands behind those that it has
+abbrev pub with_subcommands : App → List Subcommand → App
+with_subcommands app [] = app
+with_subcommands app (s ∷ ss) = with_subcommands (with_subcommand app (subcommand_app s).top) ss
 
-abbrev pub with_traces : App → App
-with_traces app =
-    with_subcommand (with_subcommand (with_subcommand (with_subcommand app check_app.top) search_app.top) draw_app.top) (new_app (codes "upgrade")).top
+-- the subcommands, in the order of the program's help
+abbrev pub subcommands : List Subcommand
+subcommands =
+    kinds.Tlp ∷ kinds.Endpoint ∷ kinds.Decode ∷ kinds.Encode ∷ kinds.Check ∷ kinds.Search ∷ kinds.Draw ∷ kinds.Upgrade ∷ kinds.Step
+    ∷ kinds.Chart ∷ kinds.Generate ∷ kinds.Sweep ∷ kinds.Run ∷ []
 
 -- the grammar of the command line
 unfoldable pub the_app : App
-the_app =
-    with_subcommand (with_subcommand (with_subcommand (with_subcommand (with_subcommand (with_traces (with_packets top_app)) step_app.top) chart_app.top) generate_app.top) sweep_app.top) run_app.top
+the_app = with_subcommands top_app subcommands
+
+-- the rule of an option
+abbrev pub option_rule : CommandOption → Rule
+option_rule (takes.Flag name _) = flag name.now
+option_rule (takes.Value name _ _) = option name.now
+option_rule (takes.Required name _ _) = required name.now
 
 -- the values of `tlp` ask for this memory
 pub record AsksTlp (rows : List Row) (x : Extent) : Type 0 where

@@ -1,10 +1,10 @@
 //! The subcommands, and the command line's grammar.
-ghost use Rattle.std.specs.Prelude.{◌≡◌, IfOk, IfSome, IfNone, false};
+ghost use Rattle.std.specs.Prelude.{◌≡◌, IfOk, IfSome, IfNone, false, map};
 ghost use Rattle.clap.specs.Words.{App, app_of, new_app, with_rule, with_subcommand};
 ghost use Rattle.clap.specs.Walk.{rule_of};
 ghost use Rattle.clap.specs.declared.builder.Command.TheViews.{out-Command};
 ghost use Rattle.cli_words.specs.declared.subcommands.Subcommand.{Subcommand};
-ghost use Rattle.cli_words.specs.Options.{the_app, text_of, top_app, tlp_app, endpoint_app, check_app, search_app, draw_app, step_app, chart_app, generate_app, sweep_app, run_app, with_link, with_links, with_packets, with_traces, option, required, flag};
+ghost use Rattle.cli_words.specs.Options.{the_app, text_of, top_app, rules_of, subcommand_app, with_rules, with_subcommands, option_rule};
 
 use crate::texts;
 use crate::texts::Help;
@@ -65,34 +65,42 @@ pub(crate) fn subcommand_named(name: &str) -> Option<Subcommand>
     }
 }
 
-/// An option with a value.
-fn option_of<'a>(alloc: Global, name: &'a str, value: &'a str, help: &'a str) -> Arg<'a>
-    ensures rule { rule_of result ≡ option name.entry.now }
-    ensures local { result.global ≡ false }
-{
-    Arg::new(alloc, name)
-        .long(name)
-        .value_name(value)
-        .help(help)
+/// An option of a subcommand: its name, then the name of its value if it takes one, then its help.
+#[derive(Clone, Copy)]
+pub(crate) enum CommandOption {
+    /// It takes no value.
+    Flag(&'static str, &'static str),
+    /// It takes a value.
+    Value(&'static str, &'static str, &'static str),
+    /// It takes a value, and has to be given.
+    Required(&'static str, &'static str, &'static str),
 }
 
-/// A flag.
-fn flag_of<'a>(alloc: Global, name: &'a str, help: &'a str) -> Arg<'a>
-    ensures rule { rule_of result ≡ flag name.entry.now }
-    ensures local { result.global ≡ false }
-{
-    Arg::new(alloc, name)
-        .long(name)
-        .action(ArgAction::SetTrue)
-        .help(help)
-}
+/// The faults of links, which `generate`, `sweep` and `run` have.
+const LOSE: CommandOption = CommandOption::Value("lose", "COUNT", texts::LOSE);
 
-/// An option with a value, which has to be given.
-fn required_of<'a>(alloc: Global, name: &'a str, value: &'a str, help: &'a str) -> Arg<'a>
-    ensures rule { rule_of result ≡ required name.entry.now }
+const CORRUPT: CommandOption = CommandOption::Value("corrupt", "COUNT", texts::CORRUPT);
+
+/// An option as clap takes it.
+fn arg_of<'a>(alloc: Global, option: &CommandOption) -> Arg<'a>
+    ensures rule { rule_of result ≡ option_rule option.now }
     ensures local { result.global ≡ false }
 {
-    option_of(alloc, name, value, help).required(true)
+    match *option {
+        CommandOption::Flag(name, help) => Arg::new(alloc, name)
+            .long(name)
+            .action(ArgAction::SetTrue)
+            .help(help),
+        CommandOption::Value(name, value, help) => Arg::new(alloc, name)
+            .long(name)
+            .value_name(value)
+            .help(help),
+        CommandOption::Required(name, value, help) => Arg::new(alloc, name)
+            .long(name)
+            .value_name(value)
+            .help(help)
+            .required(true),
+    }
 }
 
 /// The command with an argument more.
@@ -105,6 +113,25 @@ fn with_arg<'a>(command: Command<'a>, arg: Arg<'a>) -> Result<Command<'a>, Alloc
     command.arg(arg)
 }
 
+/// The command with these options behind those that it has.
+fn with_options<'a>(
+    alloc: Global,
+    command: Command<'a>,
+    options: &[CommandOption],
+) -> Result<Command<'a>, AllocError>
+    requires globals { (out-Command command).has_globals ≡ false }
+    ensures app { IfOk result (λ c. app_of c ≡ with_rules (app_of command.entry) (map option_rule options.now)) }
+    ensures globals { IfOk result (λ c. (out-Command c).has_globals ≡ false) }
+{
+    match options {
+        [] => Ok(command),
+        [first, rest @ ..] => {
+            let more = with_arg(command, arg_of(alloc, first))?;
+            with_options(alloc, more, rest)
+        }
+    }
+}
+
 /// The command with a subcommand more.
 fn with_command<'a>(top: Command<'a>, command: Command<'a>) -> Result<Command<'a>, AllocError>
     requires top { (out-Command top).has_globals ≡ false }
@@ -113,20 +140,6 @@ fn with_command<'a>(top: Command<'a>, command: Command<'a>) -> Result<Command<'a
     ensures globals { IfOk result (λ c. (out-Command c).has_globals ≡ false) }
 {
     top.subcommand(command)
-}
-
-/// The command with a subcommand more, if memory sufficed for it.
-fn with_made<'a>(
-    top: Command<'a>,
-    made: Result<Command<'a>, AllocError>,
-) -> Result<Command<'a>, AllocError>
-    requires top { (out-Command top).has_globals ≡ false }
-    requires globals { IfOk made (λ c. (out-Command c).has_globals ≡ false) }
-    ensures app { (sub : App) → IfOk made.entry (λ c. app_of c ≡ sub) → IfOk result (λ c. app_of c ≡ with_subcommand (app_of top.entry) sub.top) }
-    ensures globals { IfOk result (λ c. (out-Command c).has_globals ≡ false) }
-{
-    let command = made?;
-    with_command(top, command)
 }
 
 /// A subcommand without options.
@@ -142,161 +155,160 @@ fn plain_command<'a>(alloc: Global, name: &'a str, help: Help) -> Command<'a>
 
 /// The subcommand `tlp`.
 fn tlp_command<'a>(alloc: Global) -> Result<Command<'a>, AllocError>
-    ensures app { IfOk result (λ c. app_of c ≡ tlp_app) }
+    ensures app { IfOk result (λ c. app_of c ≡ subcommand_app Subcommand.Tlp) }
     ensures globals { IfOk result (λ c. (out-Command c).has_globals ≡ false) }
 {
-    let tlp = plain_command(alloc, "tlp", texts::TLP);
-    let base = with_arg(tlp, option_of(alloc, "base", "ADDRESS", texts::BASE))?;
-    let size = with_arg(base, option_of(alloc, "size", "BYTES", texts::SIZE))?;
-    with_arg(size, option_of(alloc, "block", "BYTES", texts::BLOCK))
-}
-
-/// The command with the options of a link.
-fn with_link<'a>(alloc: Global, command: Command<'a>) -> Result<Command<'a>, AllocError>
-    requires globals { (out-Command command).has_globals ≡ false }
-    ensures app { IfOk result (λ c. app_of c ≡ with_link (app_of command.entry)) }
-    ensures globals { IfOk result (λ c. (out-Command c).has_globals ≡ false) }
-{
-    let link = with_arg(command, flag_of(alloc, "link", texts::LINK))?;
-    let crc = with_arg(link, flag_of(alloc, "crc", texts::CRC))?;
-    with_arg(crc, option_of(alloc, "credits", "CREDITS", texts::CREDITS))
+    let options = [
+        CommandOption::Value("base", "ADDRESS", texts::BASE),
+        CommandOption::Value("size", "BYTES", texts::SIZE),
+        CommandOption::Value("block", "BYTES", texts::BLOCK),
+    ];
+    with_options(alloc, plain_command(alloc, "tlp", texts::TLP), &options)
 }
 
 /// The subcommand `endpoint`.
 fn endpoint_command<'a>(alloc: Global) -> Result<Command<'a>, AllocError>
-    ensures app { IfOk result (λ c. app_of c ≡ endpoint_app) }
+    ensures app { IfOk result (λ c. app_of c ≡ subcommand_app Subcommand.Endpoint) }
     ensures globals { IfOk result (λ c. (out-Command c).has_globals ≡ false) }
 {
-    let endpoint = plain_command(alloc, "endpoint", texts::ENDPOINT);
-    let size = with_arg(endpoint, option_of(alloc, "size", "BYTES", texts::MEMORY))?;
-    let id = with_arg(size, option_of(alloc, "id", "IDS", texts::ID))?;
-    let trace = with_arg(id, flag_of(alloc, "trace", texts::RECORD))?;
-    with_link(alloc, trace)
+    let options = [
+        CommandOption::Value("size", "BYTES", texts::MEMORY),
+        CommandOption::Value("id", "IDS", texts::ID),
+        CommandOption::Flag("trace", texts::RECORD),
+        CommandOption::Flag("link", texts::LINK),
+        CommandOption::Flag("crc", texts::CRC),
+        CommandOption::Value("credits", "CREDITS", texts::CREDITS),
+    ];
+    with_options(
+        alloc,
+        plain_command(alloc, "endpoint", texts::ENDPOINT),
+        &options,
+    )
 }
 
 /// The subcommand `step`.
 fn step_command<'a>(alloc: Global) -> Result<Command<'a>, AllocError>
-    ensures app { IfOk result (λ c. app_of c ≡ step_app) }
+    ensures app { IfOk result (λ c. app_of c ≡ subcommand_app Subcommand.Step) }
     ensures globals { IfOk result (λ c. (out-Command c).has_globals ≡ false) }
 {
-    let step = plain_command(alloc, "step", texts::STEP);
-    let trace = with_arg(step, flag_of(alloc, "trace", texts::TRACE))?;
-    let keep_going = with_arg(trace, flag_of(alloc, "keep-going", texts::KEEP_GOING))?;
-    with_arg(keep_going, flag_of(alloc, "echo", texts::ECHO))
+    let options = [
+        CommandOption::Flag("trace", texts::TRACE),
+        CommandOption::Flag("keep-going", texts::KEEP_GOING),
+        CommandOption::Flag("echo", texts::ECHO),
+    ];
+    with_options(alloc, plain_command(alloc, "step", texts::STEP), &options)
 }
 
 /// The subcommand `check`.
 fn check_command<'a>(alloc: Global) -> Result<Command<'a>, AllocError>
-    ensures app { IfOk result (λ c. app_of c ≡ check_app) }
+    ensures app { IfOk result (λ c. app_of c ≡ subcommand_app Subcommand.Check) }
     ensures globals { IfOk result (λ c. (out-Command c).has_globals ≡ false) }
 {
-    let check = plain_command(alloc, "check", texts::CHECK);
-    with_arg(check, flag_of(alloc, "clocked", texts::CLOCKED))
+    let options = [CommandOption::Flag("clocked", texts::CLOCKED)];
+    with_options(alloc, plain_command(alloc, "check", texts::CHECK), &options)
 }
 
 /// The subcommand `search`.
 fn search_command<'a>(alloc: Global) -> Result<Command<'a>, AllocError>
-    ensures app { IfOk result (λ c. app_of c ≡ search_app) }
+    ensures app { IfOk result (λ c. app_of c ≡ subcommand_app Subcommand.Search) }
     ensures globals { IfOk result (λ c. (out-Command c).has_globals ≡ false) }
 {
-    let search = plain_command(alloc, "search", texts::SEARCH);
-    let limit = with_arg(search, option_of(alloc, "limit", "CHOICES", texts::LIMIT))?;
-    let work = with_arg(limit, option_of(alloc, "work", "WORK", texts::WORK))?;
-    let granularity = with_arg(
-        work,
-        option_of(alloc, "granularity", "BYTES", texts::GRANULARITY),
-    )?;
-    let core = with_arg(granularity, flag_of(alloc, "core", texts::CORE))?;
-    let drawn = with_arg(core, flag_of(alloc, "draw", texts::PICTURE))?;
-    with_arg(drawn, flag_of(alloc, "progress", texts::STAGES))
+    let options = [
+        CommandOption::Value("limit", "CHOICES", texts::LIMIT),
+        CommandOption::Value("work", "WORK", texts::WORK),
+        CommandOption::Value("granularity", "BYTES", texts::GRANULARITY),
+        CommandOption::Flag("core", texts::CORE),
+        CommandOption::Flag("draw", texts::PICTURE),
+        CommandOption::Flag("progress", texts::STAGES),
+    ];
+    with_options(
+        alloc,
+        plain_command(alloc, "search", texts::SEARCH),
+        &options,
+    )
 }
 
 /// The subcommand `draw`.
 fn draw_command<'a>(alloc: Global) -> Result<Command<'a>, AllocError>
-    ensures app { IfOk result (λ c. app_of c ≡ draw_app) }
+    ensures app { IfOk result (λ c. app_of c ≡ subcommand_app Subcommand.Draw) }
     ensures globals { IfOk result (λ c. (out-Command c).has_globals ≡ false) }
 {
-    let draw = plain_command(alloc, "draw", texts::DRAW);
-    let from = with_arg(draw, option_of(alloc, "from", "POINT", texts::FROM))?;
-    with_arg(from, option_of(alloc, "to", "POINT", texts::TO))
+    let options = [
+        CommandOption::Value("from", "POINT", texts::FROM),
+        CommandOption::Value("to", "POINT", texts::TO),
+    ];
+    with_options(alloc, plain_command(alloc, "draw", texts::DRAW), &options)
 }
 
 /// The subcommand `chart`.
 fn chart_command<'a>(alloc: Global) -> Result<Command<'a>, AllocError>
-    ensures app { IfOk result (λ c. app_of c ≡ chart_app) }
+    ensures app { IfOk result (λ c. app_of c ≡ subcommand_app Subcommand.Chart) }
     ensures globals { IfOk result (λ c. (out-Command c).has_globals ≡ false) }
 {
-    let chart = plain_command(alloc, "chart", texts::CHART);
-    let lane = with_arg(chart, option_of(alloc, "lane", "NAME", texts::LANE))?;
-    let from = with_arg(lane, option_of(alloc, "from", "LINE", texts::FIRST_LINE))?;
-    let to = with_arg(from, option_of(alloc, "to", "LINE", texts::LAST_LINE))?;
-    let brief = with_arg(to, flag_of(alloc, "brief", texts::BRIEF))?;
-    with_arg(brief, flag_of(alloc, "levels", texts::LEVELS))
-}
-
-/// The command with the links' faults, which `generate`, `sweep` and `run` have.
-fn with_links<'a>(alloc: Global, command: Command<'a>) -> Result<Command<'a>, AllocError>
-    requires globals { (out-Command command).has_globals ≡ false }
-    ensures app { IfOk result (λ c. app_of c ≡ with_links (app_of command.entry)) }
-    ensures globals { IfOk result (λ c. (out-Command c).has_globals ≡ false) }
-{
-    let lose = with_arg(command, option_of(alloc, "lose", "COUNT", texts::LOSE))?;
-    with_arg(lose, option_of(alloc, "corrupt", "COUNT", texts::CORRUPT))
+    let options = [
+        CommandOption::Value("lane", "NAME", texts::LANE),
+        CommandOption::Value("from", "LINE", texts::FIRST_LINE),
+        CommandOption::Value("to", "LINE", texts::LAST_LINE),
+        CommandOption::Flag("brief", texts::BRIEF),
+        CommandOption::Flag("levels", texts::LEVELS),
+    ];
+    with_options(alloc, plain_command(alloc, "chart", texts::CHART), &options)
 }
 
 /// The subcommand `generate`.
 fn generate_command<'a>(alloc: Global) -> Result<Command<'a>, AllocError>
-    ensures app { IfOk result (λ c. app_of c ≡ generate_app) }
+    ensures app { IfOk result (λ c. app_of c ≡ subcommand_app Subcommand.Generate) }
     ensures globals { IfOk result (λ c. (out-Command c).has_globals ≡ false) }
 {
-    let generate = plain_command(alloc, "generate", texts::GENERATE);
-    let seed = with_arg(generate, required_of(alloc, "seed", "NUMBER", texts::SEED))?;
-    let events = with_arg(seed, required_of(alloc, "events", "COUNT", texts::EVENTS))?;
-    let requesters = with_arg(
-        events,
-        option_of(alloc, "requesters", "COUNT", texts::SOME_REQUESTERS),
-    )?;
-    let links = with_links(alloc, requesters)?;
-    with_arg(links, option_of(alloc, "block", "BYTES", texts::BLOCK))
+    let options = [
+        CommandOption::Required("seed", "NUMBER", texts::SEED),
+        CommandOption::Required("events", "COUNT", texts::EVENTS),
+        CommandOption::Value("requesters", "COUNT", texts::SOME_REQUESTERS),
+        LOSE,
+        CORRUPT,
+        CommandOption::Value("block", "BYTES", texts::BLOCK),
+    ];
+    with_options(
+        alloc,
+        plain_command(alloc, "generate", texts::GENERATE),
+        &options,
+    )
 }
 
 /// The subcommand `sweep`.
 fn sweep_command<'a>(alloc: Global) -> Result<Command<'a>, AllocError>
-    ensures app { IfOk result (λ c. app_of c ≡ sweep_app) }
+    ensures app { IfOk result (λ c. app_of c ≡ subcommand_app Subcommand.Sweep) }
     ensures globals { IfOk result (λ c. (out-Command c).has_globals ≡ false) }
 {
-    let sweep = plain_command(alloc, "sweep", texts::SWEEP);
-    let seeds = with_arg(sweep, required_of(alloc, "seeds", "SEEDS", texts::SEEDS))?;
-    let events = with_arg(seeds, required_of(alloc, "events", "COUNT", texts::EVENTS))?;
-    let requesters = with_arg(
-        events,
-        option_of(alloc, "requesters", "COUNT", texts::SOME_REQUESTERS),
-    )?;
-    let links = with_links(alloc, requesters)?;
-    let block = with_arg(links, option_of(alloc, "block", "BYTES", texts::BLOCK))?;
-    let clocked = with_arg(block, flag_of(alloc, "clocked", texts::WITH_CLOCK))?;
-    let keep_going = with_arg(clocked, flag_of(alloc, "keep-going", texts::MORE_SEEDS))?;
-    with_arg(
-        keep_going,
-        option_of(alloc, "workers", "COUNT", texts::THREADS),
-    )
+    let options = [
+        CommandOption::Required("seeds", "SEEDS", texts::SEEDS),
+        CommandOption::Required("events", "COUNT", texts::EVENTS),
+        CommandOption::Value("requesters", "COUNT", texts::SOME_REQUESTERS),
+        LOSE,
+        CORRUPT,
+        CommandOption::Value("block", "BYTES", texts::BLOCK),
+        CommandOption::Flag("clocked", texts::WITH_CLOCK),
+        CommandOption::Flag("keep-going", texts::MORE_SEEDS),
+        CommandOption::Value("workers", "COUNT", texts::THREADS),
+    ];
+    with_options(alloc, plain_command(alloc, "sweep", texts::SWEEP), &options)
 }
 
 /// The subcommand `run`.
 fn run_command<'a>(alloc: Global) -> Result<Command<'a>, AllocError>
-    ensures app { IfOk result (λ c. app_of c ≡ run_app) }
+    ensures app { IfOk result (λ c. app_of c ≡ subcommand_app Subcommand.Run) }
     ensures globals { IfOk result (λ c. (out-Command c).has_globals ≡ false) }
 {
-    let run = plain_command(alloc, "run", texts::RUN);
-    let requesters = with_arg(
-        run,
-        required_of(alloc, "requesters", "COUNT", texts::REQUESTERS),
-    )?;
-    let each = with_arg(requesters, required_of(alloc, "each", "COUNT", texts::EACH))?;
-    let links = with_links(alloc, each)?;
-    let turns = with_arg(links, option_of(alloc, "turns", "COUNT", texts::TURNS))?;
-    let workers = with_arg(turns, option_of(alloc, "workers", "COUNT", texts::WORKERS))?;
-    with_arg(workers, flag_of(alloc, "progress", texts::PROGRESS))
+    let options = [
+        CommandOption::Required("requesters", "COUNT", texts::REQUESTERS),
+        CommandOption::Required("each", "COUNT", texts::EACH),
+        LOSE,
+        CORRUPT,
+        CommandOption::Value("turns", "COUNT", texts::TURNS),
+        CommandOption::Value("workers", "COUNT", texts::WORKERS),
+        CommandOption::Flag("progress", texts::PROGRESS),
+    ];
+    with_options(alloc, plain_command(alloc, "run", texts::RUN), &options)
 }
 
 /// The program without subcommands but `help`. Its name in a usage line is `pciex`, whatever its file is called.
@@ -312,41 +324,82 @@ fn top_command<'a>(alloc: Global) -> Result<Command<'a>, AllocError>
     command.bin_name("pciex")
 }
 
-/// The program with the subcommands for packets.
-fn with_packets<'a>(alloc: Global, top: Command<'a>) -> Result<Command<'a>, AllocError>
-    requires top { (out-Command top).has_globals ≡ false }
-    ensures app { IfOk result (λ c. app_of c ≡ with_packets (app_of top.entry)) }
+/// A subcommand with its options.
+fn command_of<'a>(alloc: Global, subcommand: Subcommand) -> Result<Command<'a>, AllocError>
+    ensures app { IfOk result (λ c. app_of c ≡ subcommand_app subcommand) }
     ensures globals { IfOk result (λ c. (out-Command c).has_globals ≡ false) }
 {
-    let with_tlp = with_made(top, tlp_command(alloc))?;
-    let with_endpoint = with_made(with_tlp, endpoint_command(alloc))?;
-    let with_decode = with_command(with_endpoint, plain_command(alloc, "decode", texts::DECODE))?;
-    with_command(with_decode, plain_command(alloc, "encode", texts::ENCODE))
+    match subcommand {
+        Subcommand::Tlp => tlp_command(alloc),
+        Subcommand::Endpoint => endpoint_command(alloc),
+        Subcommand::Decode => Ok(plain_command(alloc, "decode", texts::DECODE)),
+        Subcommand::Encode => Ok(plain_command(alloc, "encode", texts::ENCODE)),
+        Subcommand::Check => check_command(alloc),
+        Subcommand::Search => search_command(alloc),
+        Subcommand::Draw => draw_command(alloc),
+        Subcommand::Upgrade => Ok(plain_command(alloc, "upgrade", texts::UPGRADE)),
+        Subcommand::Step => step_command(alloc),
+        Subcommand::Chart => chart_command(alloc),
+        Subcommand::Generate => generate_command(alloc),
+        Subcommand::Sweep => sweep_command(alloc),
+        Subcommand::Run => run_command(alloc),
+    }
 }
 
-/// The program with the subcommands for traces.
-fn with_traces<'a>(alloc: Global, top: Command<'a>) -> Result<Command<'a>, AllocError>
-    requires top { (out-Command top).has_globals ≡ false }
-    ensures app { IfOk result (λ c. app_of c ≡ with_traces (app_of top.entry)) }
+/// The program with a subcommand more.
+fn with_subcommand<'a>(
+    alloc: Global,
+    top: Command<'a>,
+    subcommand: Subcommand,
+) -> Result<Command<'a>, AllocError>
+    requires globals { (out-Command top).has_globals ≡ false }
+    ensures app { IfOk result (λ c. app_of c ≡ with_subcommand (app_of top.entry) (subcommand_app subcommand).top) }
     ensures globals { IfOk result (λ c. (out-Command c).has_globals ≡ false) }
 {
-    let with_check = with_made(top, check_command(alloc))?;
-    let with_search = with_made(with_check, search_command(alloc))?;
-    let with_draw = with_made(with_search, draw_command(alloc))?;
-    with_command(with_draw, plain_command(alloc, "upgrade", texts::UPGRADE))
+    let command = command_of(alloc, subcommand)?;
+    with_command(top, command)
 }
+
+/// The program with these subcommands behind those that it has.
+fn with_subcommands<'a>(
+    alloc: Global,
+    top: Command<'a>,
+    subcommands: &[Subcommand],
+) -> Result<Command<'a>, AllocError>
+    requires globals { (out-Command top).has_globals ≡ false }
+    ensures app { IfOk result (λ c. app_of c ≡ with_subcommands (app_of top.entry) subcommands.now) }
+    ensures globals { IfOk result (λ c. (out-Command c).has_globals ≡ false) }
+{
+    match subcommands {
+        [] => Ok(top),
+        [first, rest @ ..] => {
+            let more = with_subcommand(alloc, top, *first)?;
+            with_subcommands(alloc, more, rest)
+        }
+    }
+}
+
+/// The subcommands, in the order of the program's help.
+const SUBCOMMANDS: [Subcommand; 13] = [
+    Subcommand::Tlp,
+    Subcommand::Endpoint,
+    Subcommand::Decode,
+    Subcommand::Encode,
+    Subcommand::Check,
+    Subcommand::Search,
+    Subcommand::Draw,
+    Subcommand::Upgrade,
+    Subcommand::Step,
+    Subcommand::Chart,
+    Subcommand::Generate,
+    Subcommand::Sweep,
+    Subcommand::Run,
+];
 
 /// The command line's grammar.
 pub(crate) fn grammar<'a>(alloc: Global) -> Result<Command<'a>, AllocError>
     ensures app { IfOk result (λ c. app_of c ≡ the_app) }
     ensures globals { IfOk result (λ c. (out-Command c).has_globals ≡ false) }
 {
-    let top = top_command(alloc)?;
-    let packets = with_packets(alloc, top)?;
-    let traces = with_traces(alloc, packets)?;
-    let step = with_made(traces, step_command(alloc))?;
-    let chart = with_made(step, chart_command(alloc))?;
-    let generate = with_made(chart, generate_command(alloc))?;
-    let sweep = with_made(generate, sweep_command(alloc))?;
-    with_made(sweep, run_command(alloc))
+    with_subcommands(alloc, top_command(alloc)?, &SUBCOMMANDS)
 }

@@ -312,10 +312,10 @@ pub(crate) static REQUESTERS: &str = "Number of requesters, 1 to 7";
 
 pub(crate) static EACH: &str = "Number of additions of each requester, 0 to 100000";
 
-pub(crate) static LOSE: &str = "Lose one in COUNT packets and DLLPs, 0 to 65536; 0 loses none
+pub(crate) const LOSE: &str = "Lose one in COUNT packets and DLLPs, 0 to 65536; 0 loses none
 [default: 0]";
 
-pub(crate) static CORRUPT: &str =
+pub(crate) const CORRUPT: &str =
     "Corrupt one in COUNT packets and DLLPs, 0 to 65536; 0 corrupts none
 [default: 0]";
 
