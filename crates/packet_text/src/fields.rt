@@ -28,6 +28,7 @@ const STATUS: Expected = Expected::Of("a status", "sc, ur, ca");
 const CLASS: Expected = Expected::Of("a class", "p, np, cpl");
 
 /// What is behind the next word, which has to be this one.
+#[inline(always)]
 pub(crate) fn keyword<'a>(
     rest: Option<&'a [u8]>,
     name: &[u8],
@@ -45,6 +46,7 @@ pub(crate) fn keyword<'a>(
 
 /// The number below 8 behind the next word, which is this name, or 0 where it is not; and what is
 /// behind it.
+#[inline(always)]
 pub(crate) fn named<'a>(
     rest: Option<&'a [u8]>,
     name: &[u8],
@@ -104,6 +106,7 @@ fn id_in(word: &[u8]) -> Option<u16>
 }
 
 /// A number of two digits.
+#[inline(always)]
 fn octet(rest: Option<&[u8]>, expected: Expected) -> Result<(u8, Option<&[u8]>), Misfit>
     ensures { first_field forms.octet (words_behind rest.entry) ≡ option_map (λ s. (s.0, words_behind s.1)) (result_ok result) }
 {
@@ -113,6 +116,7 @@ fn octet(rest: Option<&[u8]>, expected: Expected) -> Result<(u8, Option<&[u8]>),
 }
 
 /// A tag.
+#[inline(always)]
 pub(crate) fn tag(rest: Option<&[u8]>) -> Result<(u8, Option<&[u8]>), Misfit>
     ensures { first_field forms.octet (words_behind rest.entry) ≡ option_map (λ s. (s.0, words_behind s.1)) (result_ok result) }
 {
@@ -130,6 +134,7 @@ pub(crate) fn sequence(rest: Option<&[u8]>) -> Result<(u16, Option<&[u8]>), Misf
 }
 
 /// A Requester ID or Completer ID.
+#[inline(always)]
 pub(crate) fn id(rest: Option<&[u8]>) -> Result<(u16, Option<&[u8]>), Misfit>
     ensures { first_field forms.id (words_behind rest.entry) ≡ option_map (λ s. (s.0, words_behind s.1)) (result_ok result) }
 {

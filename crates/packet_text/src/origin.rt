@@ -32,6 +32,7 @@ fn left(rest: Option<&[u8]>) -> usize {
 }
 
 /// Traffic Class and attributes, which end the line.
+#[inline(always)]
 fn class(rest: Option<&[u8]>) -> Result<(u8, u8), Misfit>
     ensures value { result_ok result ≡ forms.class (words_behind rest.entry) }
     ensures range { IfOk result (λ p. (p.0 < 8) × (p.1 < 8)) }
@@ -47,6 +48,7 @@ fn class(rest: Option<&[u8]>) -> Result<(u8, u8), Misfit>
 }
 
 /// What has that Requester ID and that tag, and ends with Traffic Class and attributes.
+#[inline(always)]
 pub(crate) fn origin_with(requester: u16, tag: u8, rest: Option<&[u8]>) -> Result<Origin, Misfit>
     ensures value { result_ok result ≡ forms.origin_with requester tag (words_behind rest.entry) }
     ensures range { IfOk result (λ o. (o.tc < 8) × (o.attr < 8)) }
@@ -61,6 +63,7 @@ pub(crate) fn origin_with(requester: u16, tag: u8, rest: Option<&[u8]>) -> Resul
 }
 
 /// The Requester ID and the tag that the next words spell, and what is behind them.
+#[inline(always)]
 pub(crate) fn id_and_tag(rest: Option<&[u8]>) -> Result<(u16, u8, Option<&[u8]>), Misfit>
     ensures { forms.id_and_tag (words_behind rest.entry) ≡ option_map (λ s. ((s.0, s.1), words_behind s.2)) (result_ok result) }
 {

@@ -52,6 +52,7 @@ fn cut_from(line: &[u8]) -> Option<(&[u8], &[u8])>
 }
 
 /// Whose request it is, by the text behind ` from `.
+#[inline(always)]
 fn origin(text: &[u8]) -> Result<Origin, Misfit>
     ensures value { result_ok result ≡ forms.origin (words text.now) }
     ensures range { IfOk result (λ o. (o.tc < 8) × (o.attr < 8)) }
@@ -87,6 +88,7 @@ fn without_origin(line: &[u8]) -> Misfit {
 }
 
 /// The request that the line spells, or what keeps it from being one.
+#[inline(always)]
 fn request_of(line: &[u8]) -> Result<Result<Tlp, TlpFault>, Misfit>
     ensures { result_ok result ≡ forms.request_of line.now }
 {
@@ -139,6 +141,7 @@ fn told_dllp(read: &Result<Dllp, Misfit>) -> Result<Packet, Unread>
     }
 }
 
+#[inline(always)]
 fn told_tlp(read: Result<Result<Tlp, TlpFault>, Misfit>) -> Result<Packet, Unread>
     ensures ok { IfOk result (λ p. forms.tlp_read (result_ok read) ≡ Ok p) }
     ensures err { IfErr result (λ e. forms.tlp_read (result_ok read) ≡ Err (fault_of e)) }
