@@ -11,8 +11,7 @@ ghost use Rattle.storm_events.specs.Arrivals.{IsCounted};
 ghost use Rattle.storm_events.specs.Choice.{IsChosen};
 ghost use Rattle.generate_engine.specs.Script.{config_of, IsUnderWay, BeginsScript, IsWhole, IsPart};
 
-use crate::lines::{put_event, put_fabric};
-use arrayvec::ArrayString;
+use crate::lines::{EventLine, put_fabric};
 use fabric_core::{Config, Fabric};
 use fc_credit::LaneCredits;
 use line_loop::{EngineFault, write_out};
@@ -54,8 +53,7 @@ fn make(config: Config, alloc: Global) -> Result<Fabric, AllocError>
 struct Generator {
     fabric: Fabric,
     chooser: Chooser,
-    /// Room for the line of an event.
-    line: ArrayString<512>,
+    line: EventLine,
     /// The lines that are to be written.
     pending: Vec<u8>,
 }
@@ -68,14 +66,13 @@ impl Generator {
         counted_events_are_fated();
         let config = config_of(storm);
         let fabric = make(config, alloc)?;
-        let mut line = ArrayString::new();
         let mut pending = Vec::new(alloc);
-        put_fabric(&config, &mut line, &mut pending)?;
+        put_fabric(&config, &mut pending)?;
         let chooser = Chooser::new(storm);
         Ok(Generator {
             fabric,
             chooser,
-            line,
+            line: EventLine::new(),
             pending,
         })
     }
@@ -87,8 +84,8 @@ impl Generator {
             × (self.new.pending.items ≡ self.old.pending.items ++ (event_line event ++ 10 ∷ []))) }
         ensures err { OnErr result (self.new.pending.items ≡ self.old.pending.items) }
     {
-        let event = self.chooser.happen_next(&mut self.fabric)?;
-        put_event(&event, &mut self.line, &mut self.pending)
+        self.chooser.happen_next(&mut self.fabric, &mut self.line)?;
+        self.pending.extend_from_slice(self.line.bytes())
     }
 
     /// So many events more. Also where one fails, the lines of those before it are there.

@@ -1,47 +1,55 @@
 //! Lines with the line feeds that end them.
-ghost use Rattle.std.specs.Prelude.{◌≡◌, ◌≤◌, ◌++◌, ◌∷◌, [], OnOk, OnErr};
-ghost use Rattle.arrayvec.specs.ArrayString.{array_string_len};
-ghost use Rattle.script_text.specs.LineTexts.{event_line, fabric_line};
+ghost use Rattle.std.specs.Prelude.{◌≡◌, ◌++◌, ◌∷◌, [], OnOk, OnErr};
+ghost use Rattle.script_text.specs.LineTexts.{fabric_line};
 
 use arrayvec::ArrayString;
-use fabric_core::{Config, Event};
+use fabric_core::{Config, EventRef};
 use script_text::{write_event, write_fabric};
 use std::alloc::AllocError;
+use storm_events::Listener;
 
-/// Adds the line and what ends it.
-fn put_line(line: &mut ArrayString<512>, out: &mut Vec<u8>) -> Result<(), AllocError>
-    requires { array_string_len line.old ≤ 400 }
-    ensures ok { OnOk result (out.new.items ≡ out.old.items ++ (line.old.bytes ++ 10 ∷ [])) }
-    ensures err { OnErr result (out.new.items ≡ out.old.items) }
-{
-    line.push_str("\n");
-    out.extend_from_slice(line.as_bytes())
+/// The line of the event that was heard last, with the line feed that ends it.
+#[derive(Drop)]
+pub(crate) struct EventLine {
+    text: ArrayString<512>,
 }
 
-/// Adds the line of an event, which is made in `line`.
-pub(crate) fn put_event(
-    event: &Event,
-    line: &mut ArrayString<512>,
-    out: &mut Vec<u8>,
-) -> Result<(), AllocError>
-    ensures ok { OnOk result (out.new.items ≡ out.old.items ++ (event_line event.now ++ 10 ∷ [])) }
-    ensures err { OnErr result (out.new.items ≡ out.old.items) }
-{
-    line.clear();
-    write_event(&event.lend(), line);
-    put_line(line, out)
+impl EventLine {
+    /// Empty, before the first event.
+    pub(crate) fn new() -> EventLine {
+        EventLine {
+            text: ArrayString::new(),
+        }
+    }
+
+    /// Its bytes.
+    pub(crate) fn bytes(&self) -> &[u8]
+        ensures { result.now ≡ self.now.text.bytes }
+    {
+        self.text.as_bytes()
+    }
 }
 
-/// Adds the line that makes a fabric, which is made in `line`.
-pub(crate) fn put_fabric(
-    config: &Config,
-    line: &mut ArrayString<512>,
-    out: &mut Vec<u8>,
-) -> Result<(), AllocError>
+impl Listener for EventLine {
+    ghost use Rattle.std.specs.Prelude.{◌≡◌, ◌++◌, ◌∷◌, []};
+    ghost use Rattle.script_text.specs.LineTexts.{event_line};
+
+    ghost hears = { λ before event after. after.text.bytes ≡ event_line event ++ 10 ∷ [] };
+
+    fn hear(&mut self, event: &EventRef<'_>) {
+        self.text.clear();
+        write_event(event, &mut self.text);
+        self.text.push_str("\n");
+    }
+}
+
+/// Adds the line that makes a fabric, and the line feed that ends it.
+pub(crate) fn put_fabric(config: &Config, out: &mut Vec<u8>) -> Result<(), AllocError>
     ensures ok { OnOk result (out.new.items ≡ out.old.items ++ (fabric_line config.now ++ 10 ∷ [])) }
     ensures err { OnErr result (out.new.items ≡ out.old.items) }
 {
-    line.clear();
-    write_fabric(config, line);
-    put_line(line, out)
+    let mut line = ArrayString::<512>::new();
+    write_fabric(config, &mut line);
+    line.push_str("\n");
+    out.extend_from_slice(line.as_bytes())
 }

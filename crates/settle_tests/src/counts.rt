@@ -1,9 +1,9 @@
 //! The rounds and the hops of a settling.
-use fabric_core::{Event, EventRef, Fabric, LaneName, SeenRef};
+use fabric_core::{EventRef, Fabric, LaneName, SeenRef};
 use fabric_settle::{Witness, settle};
 use lane_core::DllpKind;
 use std::alloc::AllocError;
-use tlp_core::Op;
+use tlp_core::OpRef;
 
 /// Counts the rounds, each of which sends one Ack or Nak on `up1`, and the hops.
 #[derive(Drop)]
@@ -52,11 +52,11 @@ impl Witness for Counts {
 }
 
 /// How many hops are left after an event.
-pub(super) fn left_after(left: u64, event: &Event) -> u64 {
+pub(super) fn left_after(left: u64, event: &EventRef<'_>) -> u64 {
     match event {
-        Event::Submit(_, Op::Write { .. }) => left.wrapping_add(2),
-        Event::Submit(_, _) => left.wrapping_add(4),
-        Event::Forward(_, _) | Event::Serve(_) | Event::Collect(_) => left.wrapping_sub(1),
+        EventRef::Submit(_, OpRef::Write { .. }) => left.wrapping_add(2),
+        EventRef::Submit(_, _) => left.wrapping_add(4),
+        EventRef::Forward(_, _) | EventRef::Serve(_) | EventRef::Collect(_) => left.wrapping_sub(1),
         _ => left,
     }
 }

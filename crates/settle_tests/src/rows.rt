@@ -97,12 +97,13 @@ pub(super) fn add() -> Op {
 /// The hops that are left after so many submissions, none where one is refused.
 fn submit(fabric: &mut Fabric, count: u32, event: &Event, left: u64) -> Option<u64> {
     let mut now = left;
+    let event = event.lend();
     for _ in 0..count {
         let mut room = ANSWER_ROOM;
-        if fabric.step(&event.lend(), &mut room).is_err() {
+        if fabric.step(&event, &mut room).is_err() {
             return None;
         }
-        now = left_after(now, event);
+        now = left_after(now, &event);
     }
     Some(now)
 }

@@ -1,11 +1,11 @@
 //! Storms, and links that stop or fail right before the end.
 use crate::counts::{left_after, settled};
 use crate::rows::{LEAST, MOST, add, fabric_with};
-use fabric_core::{ANSWER_ROOM, Event, Fabric, LaneName};
+use fabric_core::{ANSWER_ROOM, Event, EventRef, Fabric, LaneName};
 use lane_core::{Fate, LaneCredits};
 use parameters::Storm;
 use std::alloc::Global;
-use storm_events::Chooser;
+use storm_events::{Chooser, Listener};
 
 /// How many storms there are.
 const STORMS: u64 = 63;
@@ -71,23 +71,37 @@ fn end(fabric: &mut Fabric, seed: u64) {
     }
 }
 
+/// How many hops are left.
+#[derive(Drop)]
+struct Hops {
+    left: u64,
+}
+
+impl Listener for Hops {
+    ghost hears = { λ before event after. Unit {0} };
+
+    fn hear(&mut self, event: &EventRef<'_>) {
+        self.left = left_after(self.left, event);
+    }
+}
+
 /// The hops that are left after the events of a storm, none where memory is wanted.
 fn blow(fabric: &mut Fabric, chooser: &mut Chooser, events: u64) -> Option<u64> {
-    let mut left = 0;
+    let mut hops = Hops { left: 0 };
     for _ in 0..events {
-        match chooser.happen_next(fabric) {
-            Ok(event) => left = left_after(left, &event),
-            Err(_) => return None,
+        if chooser.happen_next(fabric, &mut hops).is_err() {
+            return None;
         }
     }
-    Some(left)
+    Some(hops.left)
 }
 
 /// The hops that are left where a request of port 1 was submitted, if it could be.
 fn one_more(fabric: &mut Fabric, left: u64) -> u64 {
-    let event = Event::Submit(1, add());
+    let operation = add();
+    let event = EventRef::Submit(1, operation.lend());
     let mut room = ANSWER_ROOM;
-    match fabric.step(&event.lend(), &mut room) {
+    match fabric.step(&event, &mut room) {
         Ok(_) => left_after(left, &event),
         Err(_) => left,
     }

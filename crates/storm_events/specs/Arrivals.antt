@@ -1,5 +1,5 @@
 -- What becomes of the packets and DLLPs of a storm: which count each has, and how the counts are kept.
-use Rattle.std.specs.Prelude.{ℕ, ◌+◌, ◌%◌, ◌^◌, ◌≡◌, ◌<◌, ◌==◌, Bool, false, List, ◌∷◌, ◌++◌, length, replicate, slice_index, slice_set, count_by, Option, Some, None}
+use Rattle.std.specs.Prelude.{ℕ, ◌+◌, ◌%◌, ◌^◌, ◌≡◌, ◌<◌, ◌==◌, Bool, false, List, ◌∷◌, ◌++◌, length, replicate, slice_index, slice_set, count_by}
 use Rattle.fabric_events.specs.declared.event.LaneName.{LaneName}
 use Rattle.fabric_events.specs.declared.event.LaneName.TheVariants as lanes
 use Rattle.fabric_events.specs.Events.{Event}
@@ -77,11 +77,6 @@ with_event a _ = a
 pub record IsCounted (a : ArrivalsView) (event : Event) (a' : ArrivalsView) : Type 0 where
   pub fate : HasFate a event
   pub counted : a' ≡ with_event a event
-
--- one event happened and is counted, or none did
-abbrev pub IsCountedIfAny : ArrivalsView → Option Event → ArrivalsView → Type 0
-IsCountedIfAny a (Some event) a' = IsCounted a event a'
-IsCountedIfAny a None a' = a' ≡ a
 
 -- ---- what the counts say of the events
 

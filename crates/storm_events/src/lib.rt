@@ -1,4 +1,4 @@
-//! The events of a storm: each is drawn from a seed, tried on the fabric, and told where it happened.
+//! The events of a storm: each is drawn from a seed and tried on the fabric. If it happens, a [`Listener`] hears of it.
 //!
 //! A [`Chooser`] draws from the generator PCG-XSH-RR with 64 bits of state (O'Neill's `pcg32`), so that one seed
 //! gives the same events on every machine. Operations meet at a few places, and every kind of event is drawn, each of a
@@ -13,6 +13,8 @@ mod chooser;
 mod counts;
 mod draws;
 pub mod laws;
+mod listener;
 mod operations;
 
 pub use chooser::Chooser;
+pub use listener::Listener;
