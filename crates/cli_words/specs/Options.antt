@@ -1,5 +1,5 @@
 -- What the words of a command line ask for.
-use Rattle.std.specs.Prelude.{◌≡◌, ◌≤◌, ◌<◌, ◌^◌, ℕ, Bool, true, false, List, Option, Some, None, IfSome, codes, map, [], ◌∷◌}
+use Rattle.std.specs.Prelude.{◌≡◌, ◌≤◌, ◌<◌, ◌^◌, ℕ, Bool, true, false, List, Option, Some, None, IfSome, codes, fold, [], ◌∷◌}
 use Rattle.clap.specs.declared.builder.action.ArgAction.TheVariants.{SetTrue}
 use Rattle.clap.specs.Words.{App, Row, Rule, Text, first_of, new_app, new_rule, with_rule, with_subcommand}
 use Rattle.parameters.specs.declared.counting.Counting.{Counting}
@@ -43,7 +43,7 @@ text_of kinds.Generate = codes "generate"
 text_of kinds.Sweep = codes "sweep"
 text_of kinds.Run = codes "run"
 
--- a flag, whose value is `true` where it is given
+-- a flag, whose value is `true` if it is given
 abbrev pub flag : Text → Rule
 flag name = record (new_rule name) { long = Some name; action = Some SetTrue }
 
@@ -54,11 +54,6 @@ option name = record (new_rule name) { long = Some name; value_names = 1 }
 -- an option with a value, which has to be given
 abbrev pub required : Text → Rule
 required name = record (option name) { required = true }
-
--- with these options behind those that it has
-abbrev pub with_rules : App → List Rule → App
-with_rules app [] = app
-with_rules app (rule ∷ rules) = with_rules (with_rule app rule) rules
 
 -- the options of the subcommands, in the order of their help
 abbrev pub rules_of : Subcommand → List Rule
@@ -86,16 +81,15 @@ rules_of kinds.Run =
 
 -- a subcommand with its options
 abbrev pub subcommand_app : Subcommand → App
-subcommand_app s = with_rules (new_app (text_of s)) (rules_of s)
+subcommand_app s = fold with_rule (new_app (text_of s)) (rules_of s)
 
 -- the program, with `help` among its subcommands, which the parser answers
 abbrev pub top_app : App
 top_app = record (new_app (codes "pciex")) { top = record ((new_app (codes "pciex")).top) { has_version = true; subcommand_required = true } }
 
--- with these subcommands behind those that it has
-abbrev pub with_subcommands : App → List Subcommand → App
-with_subcommands app [] = app
-with_subcommands app (s ∷ ss) = with_subcommands (with_subcommand app (subcommand_app s).top) ss
+-- with this subcommand behind those that it has
+abbrev pub and_subcommand : App → Subcommand → App
+and_subcommand app s = with_subcommand app (subcommand_app s).top
 
 -- the subcommands, in the order of the program's help
 abbrev pub subcommands : List Subcommand
@@ -105,7 +99,7 @@ subcommands =
 
 -- the grammar of the command line
 unfoldable pub the_app : App
-the_app = with_subcommands top_app subcommands
+the_app = fold and_subcommand top_app subcommands
 
 -- the rule of an option
 abbrev pub option_rule : CommandOption → Rule

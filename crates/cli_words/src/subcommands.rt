@@ -1,10 +1,10 @@
 //! The subcommands, and the command line's grammar.
-ghost use Rattle.std.specs.Prelude.{◌≡◌, IfOk, IfSome, IfNone, false, map};
-ghost use Rattle.clap.specs.Words.{App, app_of, new_app, with_rule, with_subcommand};
+ghost use Rattle.std.specs.Prelude.{◌≡◌, IfOk, IfSome, IfNone, false, map, fold};
+ghost use Rattle.clap.specs.Words.{app_of, new_app, with_rule, with_subcommand};
 ghost use Rattle.clap.specs.Walk.{rule_of};
 ghost use Rattle.clap.specs.declared.builder.Command.TheViews.{out-Command};
 ghost use Rattle.cli_words.specs.declared.subcommands.Subcommand.{Subcommand};
-ghost use Rattle.cli_words.specs.Options.{the_app, text_of, top_app, rules_of, subcommand_app, with_rules, with_subcommands, option_rule};
+ghost use Rattle.cli_words.specs.Options.{the_app, text_of, top_app, subcommand_app, and_subcommand, option_rule};
 
 use crate::texts;
 use crate::texts::Help;
@@ -76,9 +76,10 @@ pub(crate) enum CommandOption {
     Required(&'static str, &'static str, &'static str),
 }
 
-/// The faults of links, which `generate`, `sweep` and `run` have.
+/// How often links lose a packet or a DLLP, in `generate`, `sweep` and `run`.
 const LOSE: CommandOption = CommandOption::Value("lose", "COUNT", texts::LOSE);
 
+/// How often they corrupt one.
 const CORRUPT: CommandOption = CommandOption::Value("corrupt", "COUNT", texts::CORRUPT);
 
 /// An option as clap takes it.
@@ -120,7 +121,7 @@ fn with_options<'a>(
     options: &[CommandOption],
 ) -> Result<Command<'a>, AllocError>
     requires globals { (out-Command command).has_globals ≡ false }
-    ensures app { IfOk result (λ c. app_of c ≡ with_rules (app_of command.entry) (map option_rule options.now)) }
+    ensures app { IfOk result (λ c. app_of c ≡ fold with_rule (app_of command.entry) (map option_rule options.now)) }
     ensures globals { IfOk result (λ c. (out-Command c).has_globals ≡ false) }
 {
     match options {
@@ -346,14 +347,14 @@ fn command_of<'a>(alloc: Global, subcommand: Subcommand) -> Result<Command<'a>, 
     }
 }
 
-/// The program with a subcommand more.
-fn with_subcommand<'a>(
+/// The program with this subcommand behind those that it has.
+fn and_subcommand<'a>(
     alloc: Global,
     top: Command<'a>,
     subcommand: Subcommand,
 ) -> Result<Command<'a>, AllocError>
     requires globals { (out-Command top).has_globals ≡ false }
-    ensures app { IfOk result (λ c. app_of c ≡ with_subcommand (app_of top.entry) (subcommand_app subcommand).top) }
+    ensures app { IfOk result (λ c. app_of c ≡ and_subcommand (app_of top.entry) subcommand) }
     ensures globals { IfOk result (λ c. (out-Command c).has_globals ≡ false) }
 {
     let command = command_of(alloc, subcommand)?;
@@ -367,13 +368,13 @@ fn with_subcommands<'a>(
     subcommands: &[Subcommand],
 ) -> Result<Command<'a>, AllocError>
     requires globals { (out-Command top).has_globals ≡ false }
-    ensures app { IfOk result (λ c. app_of c ≡ with_subcommands (app_of top.entry) subcommands.now) }
+    ensures app { IfOk result (λ c. app_of c ≡ fold and_subcommand (app_of top.entry) subcommands.now) }
     ensures globals { IfOk result (λ c. (out-Command c).has_globals ≡ false) }
 {
     match subcommands {
         [] => Ok(top),
         [first, rest @ ..] => {
-            let more = with_subcommand(alloc, top, *first)?;
+            let more = and_subcommand(alloc, top, *first)?;
             with_subcommands(alloc, more, rest)
         }
     }

@@ -2,7 +2,6 @@ use Rattle.std.proofs.Common.{ap, codes, true, ◌≡◌, ◌∙◌}
 use Rattle.std.proofs.lemmas.Result.{IfOk-weaker}
 use Rattle.clap.specs.Words.{App, app_of, new_app}
 use Rattle.clap.specs.Simple.{app_of_fields}
-use Rattle.clap.specs.declared.builder.Command.{Command}
 use Rattle.cli_words.specs.Options.{top_app}
 use Rattle.cli_words.proofs.subcommands.top_command.Goals as goal
 
