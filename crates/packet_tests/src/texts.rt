@@ -232,8 +232,8 @@ fn written_replies(rt: HostRuntime) {
     assert!(rt; all_right(&ANSWERS));
 }
 
-/// Whether a line is cut into its first word and a last number.
-fn is_cut() -> bool {
+/// Whether a line is split into its first word and a last number.
+fn is_split() -> bool {
     let (word, rest) = split_word(b"sub 7");
     match number(rest, 10, 255, LINE_END) {
         Ok((requester, rest)) => word == b"sub".as_slice() && requester == 7 && is_ended(rest),
@@ -261,5 +261,5 @@ fn replies_behind() -> bool {
 #[test]
 fn parts_of_lines(rt: HostRuntime) {
     own_digits_spell_number();
-    assert!(rt; is_cut() && ops_behind() && replies_behind());
+    assert!(rt; is_split() && ops_behind() && replies_behind());
 }
