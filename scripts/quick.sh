@@ -9,7 +9,10 @@ unset CDPATH
 cd "$(dirname "$0")/.."
 only=
 [ "${1:-}" != --tests ] || { only=1; shift; }
-[ $# = 1 ] || { echo "usage: quick.sh [--tests] NAME" >&2; exit 2; }
+case $#,${1:-} in
+    1,[!-]*) ;;
+    *) echo "usage: quick.sh [--tests] NAME" >&2; exit 2 ;;
+esac
 [ -d "crates/$1/src" ] || { echo "quick.sh: no crate crates/$1" >&2; exit 2; }
 
 # tested NAME: the nearest crates that have tests, the first to run first.

@@ -1,5 +1,5 @@
 //! A device that a root complex brings up: worked rows of each TLP and its completions, each byte, and what is malformed;
-//! of configuration requests, registers and headers alone.
+//! of configuration requests alone; of ports of links, and of the device behind one.
 #![tactic(auto)]
 
 #[cfg(test)]
@@ -7,9 +7,9 @@ mod configuration;
 #[cfg(test)]
 mod errors;
 #[cfg(test)]
-mod packets;
+mod linked;
 #[cfg(test)]
-mod registers;
+mod port;
 #[cfg(test)]
 mod rows;
 #[cfg(test)]

@@ -1,10 +1,10 @@
 //! Whole scripts in one call.
-use crate::drive::{SMALL, Step, events_of, run};
-use crate::scripts::{
-    IDLE_COLLECT, LOST_ACK, NAK_AND_REPLAY, NO_PORT_8, READ_BEHIND_WRITE, WRITE_PASSES_READ,
-};
 use crate::trials::{Trial, all_right};
 use fabric_core::{Config, Event, Fabric, Refusal};
+use fabric_rows::drive::{SMALL, Step, events_of, run};
+use fabric_rows::scripts::{
+    IDLE_COLLECT, LOST_ACK, NAK_AND_REPLAY, NO_PORT_8, READ_BEHIND_WRITE, WRITE_PASSES_READ,
+};
 use history_check::check;
 use history_words::Trace;
 use std::alloc::Global;

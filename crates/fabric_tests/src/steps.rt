@@ -1,10 +1,10 @@
 //! Worked scripts, step by step; the numbers of refusals, and configurations.
-use crate::drive::{SMALL, Step, quiet, steps_so};
-use crate::scripts::{
-    CREDITS, LOST_ACK, NAK_AND_REPLAY, READ_BEHIND_WRITE, REFUSALS, STOPPED_LINK, WRITE_PASSES_READ,
-};
 use crate::trials::{Trial, all_right, on_new};
 use fabric_core::{Config, ConfigFault, Fabric, Refusal};
+use fabric_rows::drive::{SMALL, Step, quiet, steps_so};
+use fabric_rows::scripts::{
+    CREDITS, LOST_ACK, NAK_AND_REPLAY, READ_BEHIND_WRITE, REFUSALS, STOPPED_LINK, WRITE_PASSES_READ,
+};
 use lane_core::LaneCredits;
 use requester_core::SubmitRefusal;
 use std::alloc::Global;

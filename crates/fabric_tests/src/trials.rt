@@ -1,6 +1,6 @@
 //! What is tried on new fabrics.
-use crate::drive::made;
 use fabric_core::{Config, ConfigFault, Fabric};
+use fabric_rows::drive::made;
 use std::alloc::Global;
 
 /// What is tried on a new fabric.

@@ -1,6 +1,6 @@
-//! Lanes driven from end to end: worked rows, past several wraps of the sequence numbers; credits that come back; a
-//! wire that loses or fails most of what it carries; memory that doesn't grow. The switch: worked routes, and a packet
-//! that is forwarded from lane to lane. Plans of faults: worked fates.
+//! Links and lanes. Lanes driven from end to end: worked rows, past several wraps of the sequence numbers; credits that
+//! come back; memory that doesn't grow. The switch: worked routes, and a packet that is forwarded from lane to lane. More
+//! rows of them are in `plain/tests`.
 #![tactic(auto)]
 
 #[cfg(test)]
@@ -8,11 +8,9 @@ mod calls;
 #[cfg(test)]
 mod credits;
 #[cfg(test)]
-mod fates;
+mod link;
 #[cfg(test)]
 mod memory;
-#[cfg(test)]
-mod storm;
 #[cfg(test)]
 mod switches;
 #[cfg(test)]

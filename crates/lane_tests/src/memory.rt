@@ -23,7 +23,7 @@ enum Growth {
 }
 
 /// What there is to see of a lane's ends.
-#[derive(Clone, Copy, PartialEq, Eq)]
+#[derive(Clone, Copy, PartialEq)]
 struct Ends {
     next: Seq12,
     packets: usize,

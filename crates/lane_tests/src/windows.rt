@@ -1,7 +1,7 @@
-//! Windows of 2047 packets, past a wrap of the sequence numbers, and a Nak.
+//! Windows of 2047 packets, past a wrap of the sequence numbers, a Nak, and a link that is retrained.
 use crate::calls::{
-    deliver, delivers, enter, fetch_add, infinite, quiet, sent, take_mark, timer, took, transmit,
-    write_of,
+    deliver, delivers, enter, fetch_add, infinite, quiet, retrained, sent, take_mark, timer, took,
+    transmit, usual, write_of,
 };
 use lane_core::{DllpKind, Fate, Lane, LaneRefusal};
 use link_receiver::Reception;
@@ -197,4 +197,23 @@ const A_NAK: [Step; 16] = [
 #[test]
 fn a_nak(rt: HostRuntime) {
     assert!(rt; new_does_all_with(rt.alloc(), fetch_add(), &A_NAK));
+}
+
+/// Whether a packet that was sent four times is sent again only when the link is retrained.
+fn retrains(lane: &mut Lane) -> bool {
+    let mut right = match write_of(0) {
+        Ok(tlp) => enter(lane, &tlp, 0) == Ok(0),
+        Err(_) => false,
+    };
+    for _ in 0..4u8 {
+        right &= transmit(lane) == Ok(Some(0));
+        timer(lane);
+    }
+    right &= transmit(lane) == Ok(None) && retrained(lane);
+    right && transmit(lane) == Ok(Some(0))
+}
+
+#[test]
+fn a_fifth_time_after_retraining(rt: HostRuntime) {
+    assert!(rt; retrains(&mut usual(rt.alloc())));
 }

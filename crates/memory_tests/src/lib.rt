@@ -1,15 +1,11 @@
-//! Memories and who asks them: AtomicOps, what a memory answers and refuses, whether a history explains a trace,
-//! requests with their completions.
+//! Memories and who asks them: growth that is refused, flaws of traces, a store's owned form, a request with its
+//! completion. More rows of them are in `plain/tests`.
 #![tactic(auto)]
 
-#[cfg(test)]
-mod atomics;
 #[cfg(test)]
 mod completers;
 #[cfg(test)]
 mod memories;
-#[cfg(test)]
-mod requesters;
 #[cfg(test)]
 mod stores;
 #[cfg(test)]

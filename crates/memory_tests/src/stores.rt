@@ -1,19 +1,12 @@
 //! Traces and histories that are put in as they are lent.
-use history_check::{check, check_claim};
-use history_words::{AsClaim, Flaw, FlawKind, RecordRef};
-use seq_memory::{EntryRef, Extent, ReplyData, ReplyRef};
+use history_check::check;
+use seq_memory::{Extent, ReplyRef};
 use std::alloc::{AllocError, Global};
 use tlp_core::{OpRef, PayloadRef, Width};
 use trace_store::TraceStore;
 
 /// How many operations there are.
 const OPS: u8 = 11;
-
-/// The answer to the posted write.
-const UNASKED: Flaw = Flaw {
-    kind: FlawKind::Unasked,
-    place: 12,
-};
 
 /// Operations, no two of them the same. The first seven are served at 40h, the others aren't. The last two have
 /// operands that are too great for their widths.
@@ -116,92 +109,6 @@ fn answer_from(store: &mut TraceStore, from: u8) -> Result<(), AllocError> {
     Ok(())
 }
 
-/// Whether the record submits that operation.
-fn is_submission(record: Option<RecordRef<'_>>, which: u8) -> bool {
-    match record {
-        Some(
-            RecordRef::Sub {
-                number,
-                op: got,
-                ..
-            },
-        ) => { number == u32::from(which) && got.to_owned() == op(which).to_owned() }
-        _ => false,
-    }
-}
-
-/// Whether the record has that answer.
-fn is_answer(record: Option<RecordRef<'_>>, which: u8) -> bool {
-    match record {
-        Some(
-            RecordRef::Ans {
-                number,
-                reply: got,
-                ..
-            },
-        ) => number == u32::from(which) && got.to_owned() == reply(which).to_owned(),
-        _ => false,
-    }
-}
-
-/// Whether the entry is that operation.
-fn is_act(entry: Option<EntryRef<'_>>, which: u8) -> bool {
-    match entry {
-        Some(entry) => entry.number == u32::from(which)
-            && entry.op.to_owned() == op(which).to_owned(),
-        None => false,
-    }
-}
-
-/// The place so far behind the submission.
-fn place_behind(which: u8, behind: u8) -> usize {
-    usize::from(which) + usize::from(behind)
-}
-
-/// Whether each record and each entry is what was put in.
-fn are_kept(store: &TraceStore) -> bool {
-    let mut right = store.records() == 22 && store.entries() == 11;
-    for which in 0..OPS {
-        right &= is_submission(store.record(usize::from(which)), which);
-        right &= is_answer(store.record(place_behind(which, OPS)), which);
-        right &= is_act(store.entry(usize::from(which)), which);
-    }
-    right
-}
-
-/// Whether that record submits the operation of its own entry alone.
-fn submits_itself(store: &TraceStore, which: u8) -> bool {
-    let mut right = true;
-    for index in 0..OPS {
-        right &= store.submits(usize::from(which), usize::from(index)) == (which == index);
-    }
-    right
-}
-
-/// Whether each record of a submission does so.
-fn submit_themselves(store: &TraceStore) -> bool {
-    let mut right = true;
-    for which in 0..OPS {
-        right &= submits_itself(store, which);
-    }
-    right
-}
-
-/// Whether the memory replies to each entry as the record says that stands so far behind its submission.
-fn are_replayed(store: &TraceStore, behind: u8, bytes: &mut [u8]) -> bool {
-    let mut room = ReplyData::new();
-    let mut right = true;
-    for which in 0..OPS {
-        right &= store.replays(
-            usize::from(which),
-            Some(place_behind(which, behind)),
-            bytes,
-            &mut room,
-        );
-    }
-    right
-}
-
 /// A store of all, with the answers from one on, over 4096 bytes from 0 on.
 fn filled(alloc: Global, from: u8) -> Result<TraceStore, AllocError> {
     let mut store = TraceStore::new(alloc, Extent::new(0, 128, 64).unwrap());
@@ -211,54 +118,10 @@ fn filled(alloc: Global, from: u8) -> Result<TraceStore, AllocError> {
     Ok(store)
 }
 
-fn keeps_all(alloc: Global) -> Result<bool, AllocError> {
-    Ok(are_kept(&filled(alloc, 0)?))
-}
-
-fn tells_apart(alloc: Global) -> Result<bool, AllocError> {
-    Ok(submit_themselves(&filled(alloc, 0)?))
-}
-
-/// Whether the answers are those of the memory, and those one place further on aren't.
-fn replays_all(alloc: Global) -> Result<bool, AllocError> {
-    let store = filled(alloc, 0)?;
-    let mut bytes = vec![in alloc; 0u8; 4096]?;
-    let right = are_replayed(&store, OPS, &mut bytes);
-    let mut others = vec![in alloc; 0u8; 4096]?;
-    Ok(right && !are_replayed(&store, OPS + 1, &mut others))
-}
-
 /// Whether the checker says ok to what the store holds.
 fn is_owned_checked(alloc: Global) -> Result<bool, AllocError> {
     let (trace, history) = filled(alloc, 2)?.to_owned(alloc)?;
     Ok(check(alloc, &trace, &history).is_ok())
-}
-
-/// Whether the checker says ok if the posted write has no answer, and else where it has one.
-fn is_checked(alloc: Global) -> Result<bool, AllocError> {
-    let right = check_claim(alloc, &filled(alloc, 2)?).is_ok();
-    let flaw = check_claim(alloc, &filled(alloc, 0)?).err();
-    Ok(right && flaw == Some(UNASKED))
-}
-
-#[test]
-fn each_operation_and_reply_is_kept(rt: HostRuntime) {
-    assert!(rt; matches!(keeps_all(rt.alloc()), Ok(true)));
-}
-
-#[test]
-fn operations_are_told_apart(rt: HostRuntime) {
-    assert!(rt; matches!(tells_apart(rt.alloc()), Ok(true)));
-}
-
-#[test]
-fn each_entry_is_replayed(rt: HostRuntime) {
-    assert!(rt; matches!(replays_all(rt.alloc()), Ok(true)));
-}
-
-#[test]
-fn the_checker_reads_stores(rt: HostRuntime) {
-    assert!(rt; matches!(is_checked(rt.alloc()), Ok(true)));
 }
 
 #[test]

@@ -1,6 +1,6 @@
 //! Worked traces of one requester, of reads and writes at 40h.
 use history_check::check;
-use history_words::{Flaw, FlawKind, Record, Trace};
+use history_words::{Flaw, Record, Trace};
 use seq_memory::{Entry, Extent, Reply};
 use std::alloc::{AllocError, Global};
 use tlp_core::{Op, Payload, payload_of};
@@ -148,37 +148,6 @@ fn flaw_of(alloc: Global, events: &[Event], acts: &[Act]) -> Result<Option<Flaw>
     flaw_with(alloc, &trace, acts)
 }
 
-/// What happened, and a history.
-type Traced = (&'static [Event], &'static [Act]);
-
-/// Traces with histories that explain them.
-static EXPLAINED: [Traced; 3] = [
-    (&[], &[]),
-    (
-        &[Event::Read(0, 0), Event::Write(1, 0), Event::Data(0, 7, 2)],
-        &[Act::Write(1), Act::Read(0)],
-    ),
-    (
-        &[Event::WideRead(0, 0), Event::Aborted(0, 1)],
-        &[Act::WideRead(0)],
-    ),
-];
-
-/// Whether the check says ok to each.
-fn all_are_explained(alloc: Global, rows: &[Traced]) -> Result<bool, AllocError> {
-    let mut right = true;
-    for (events, acts) in rows {
-        let flaw = flaw_of(alloc, events, acts)?;
-        right &= flaw.is_none();
-    }
-    Ok(right)
-}
-
-#[test]
-fn explained(rt: HostRuntime) {
-    assert!(rt; matches!(all_are_explained(rt.alloc(), &EXPLAINED), Ok(true)));
-}
-
 /// What happened, a history, and the number, the name and the place of the flaw.
 type Flawed = (&'static [Event], &'static [Act], u8, &'static str, usize);
 
@@ -290,21 +259,4 @@ fn all_are_found(alloc: Global, rows: &[Flawed]) -> Result<bool, AllocError> {
 #[test]
 fn flaws(rt: HostRuntime) {
     assert!(rt; matches!(all_are_found(rt.alloc(), &FLAWS), Ok(true)));
-}
-
-/// Whether the flaw is told so.
-fn is_told(alloc: Global, flaw: Flaw) -> bool {
-    match format!(in alloc; "{flaw}") {
-        Ok(text) => text.as_str() == "Reply at 2",
-        Err(_) => false,
-    }
-}
-
-#[test]
-fn told(rt: HostRuntime) {
-    let flaw = Flaw {
-        kind: FlawKind::Reply,
-        place: 2,
-    };
-    assert!(rt; is_told(rt.alloc(), flaw));
 }

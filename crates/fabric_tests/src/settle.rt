@@ -1,0 +1,4 @@
+//! The rounds of `settle` beside the hops that were left: at most as many, one more, and the last, which moves nothing.
+
+mod counts;
+mod rows;

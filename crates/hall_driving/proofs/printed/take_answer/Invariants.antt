@@ -1,5 +1,0 @@
-use Rattle.hall_core.specs.Views.{IsSeatOf}
-use Rattle.hall_driving.proofs.printed.take_answer.Given as goal
-
-abbrev pub invariant-loop-again : goal.invariant-loop-again
-invariant-loop-again g l = IsSeatOf l.hall l.seat

@@ -1,5 +1,0 @@
-use Rattle.hall_core.specs.Views.{IsSeatOf}
-use Rattle.hall_tests.proofs.threads.serve_often.Given as goal
-
-abbrev pub invariant-loop-round : goal.invariant-loop-round
-invariant-loop-round l = IsSeatOf l.hall l.seat × IsSeatOf l.hall l.worker
