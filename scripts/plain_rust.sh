@@ -12,10 +12,10 @@
 #     plain_rust.sh --check [PROGRAM]
 #
 # tries that the plain program is the same as the proved one, or PROGRAM: it builds the workspace without warnings, runs
-# its tests and the programs of docs/use-the-crates.md, builds page/wasm.rs, runs the scripts that try a program over an
-# optimized build, and compares the two on 20,000 mutated lines for each subcommand, in a build with checks of sums at run
-# time. Then it compares the program with --crates-io, on fewer lines, where Debian's packages of these crates are
-# installed. It needs cargo, and says so if there is none.
+# `cargo test --workspace`, the programs of docs/use-the-crates.md, plain/examples and bench/, builds page/wasm.rs, runs the scripts
+# that try a program over an optimized build, and compares the two on 20,000 mutated lines for each subcommand, in a build
+# with checks of sums at run time. Then it compares the program with --crates-io, on fewer lines, where Debian's packages of these crates are
+# installed. It needs cargo of 1.88 or later, and says so if there is none.
 set -eu
 unset CDPATH
 say() { echo "plain rust: $*"; }
@@ -29,26 +29,42 @@ while :; do
     esac
     shift
 done
-top=$(cd "$(dirname "$0")/.." && pwd)
+# What `pwd` prints ends before the point, so that a line feed at a path's end isn't lost.
+top=$(cd "$(dirname "$0")/.." && pwd && echo .)
+top=${top%??}
+case $top in
+    *"
+"*)
+        echo "plain rust: the project's path has a line feed" >&2
+        exit 2
+        ;;
+esac
+. "$top/scripts/left_out.sh"
 if ! command -v python3 > /dev/null; then
-    say "left out, there is no python3"
+    echo "left out: plain Rust, since there is no python3"
     [ -n "$check" ] || exit 1
     exit 0
 fi
 if [ -z "$check" ]; then
-    if [ $# -ne 1 ] || [ -z "$1" ]; then
-        echo "usage: plain_rust.sh [--older] [--crates-io] FOLDER, or plain_rust.sh --check [PROGRAM]" >&2
-        exit 2
-    fi
+    case $#,${1:-} in
+        1,[!-]*) ;;
+        *)
+            echo "usage: plain_rust.sh [--older] [--crates-io] FOLDER, or plain_rust.sh --check [PROGRAM]" >&2
+            exit 2
+            ;;
+    esac
     mkdir -p "$1"
     # shellcheck disable=SC2086 # a word for each option
-    exec python3 "$top/plain/translator/translate.py" "$top" "$1" $options
-fi
-if ! command -v cargo > /dev/null; then
-    say "left out, there is no cargo"
+    python3 "$top/plain/translator/translate.py" "$top" "$1" $options
+    set -- "$1" "$1"/*/Cargo.toml
+    say "$(($# - 1)) packages in $1"
     exit 0
 fi
-program=$(sh "$top/scripts/program.sh" "$@") || exit 1
+if ! is_cargo_new; then
+    echo "left out: plain Rust, since there is no cargo of 1.88 or later"
+    exit 0
+fi
+program=$(sh "$top/scripts/program.sh" "$@") || exit
 room=$(mktemp -d)
 trap 'rm -rf "$room"' EXIT
 trap 'exit 1' HUP INT TERM
@@ -73,13 +89,18 @@ blocks() {
 mkdir "$room/out"
 python3 "$top/plain/translator/translate.py" "$top" "$room/out"
 cd "$room/out"
-# What debuggers read would take a third of the time of builds without optimization.
-export CARGO_NET_OFFLINE=true CARGO_PROFILE_DEV_DEBUG=0
+export CARGO_NET_OFFLINE=true
 RUSTFLAGS="-D warnings" cargo build --quiet --release || exit 1
-tries cargo test --quiet --workspace --no-fail-fast
+# (what a user types; what follows takes the libraries that it compiles)
+tries cargo test --workspace
+tests=$(awk '/^test result: ok/ { count += $4 } END { print count + 0 }' "$room/log")
 tries cargo build --quiet
+tries sh "$top/bench/run.sh" --check "$room/out"
 blocks toml
 blocks rust
+for example in "$top"/plain/examples/*.rs; do
+    cp "$example" "$room/block.$(basename "$example" .rs).rust"
+done
 examples=0
 for block in "$room"/block.*.rust; do
     mkdir -p "$room/example/src"
@@ -98,7 +119,7 @@ cd "$room/page"
 tries env CARGO_TARGET_DIR="$room/out/target" cargo build --quiet
 plain=$room/out/target/release/pciex
 cd "$top"
-for script in pages built_program settles searches large_inputs; do
+for script in pages rows built_program settles searches large_inputs refused_allocations; do
     sh "scripts/$script.sh" "$plain" || failed=1
 done
 (cd "$room" && python3 "$top/plain/compare.py" 20000 "$program" "$room/out/target/debug/pciex") || failed=1
@@ -111,7 +132,9 @@ for crate in arrayvec byteorder hex itoa memchr thiserror; do
     [ -d "$1" ] || lacks="$lacks librust-$crate-dev"
 done
 if [ -n "$lacks" ]; then
-    say "the crates of crates.io left out, there is no$lacks"
+    for package in $lacks; do
+        echo "left out: plain Rust with crates of crates.io, since there is no $package"
+    done
 else
     python3 "$top/plain/translator/translate.py" "$top" "$room/crates_io" --crates-io
     mkdir "$room/crates_io/.cargo"
@@ -127,5 +150,5 @@ packages=0
 for package in "$room"/out/*/Cargo.toml; do
     [ ! -f "$package" ] || packages=$((packages + 1))
 done
-say "$packages packages, $examples programs of docs/use-the-crates.md, $([ $failed -eq 0 ] && echo "the same program" || echo "not the same program")"
+say "$packages packages, $tests tests, $examples programs over the crates, $([ $failed -eq 0 ] && echo "the same program" || echo "not the same program")" || failed=1
 exit $failed

@@ -23,8 +23,8 @@ KIT = {
     "collections": {name: "kit::collections::" + name
                     for name in ("VecDeque", "LinkedList", "HashMap", "BTreeMap", "HashSet", "BTreeSet")},
     "convert": {"AsStr": "kit::convert::AsStr"},
-    "env": {"": "kit::env", "args": "kit::env::args"},
-    "fs": {"": "kit::fs", "File": "kit::fs::File"},
+    "env": {"": "kit::env", "args": "kit::env::args", "Env": "kit::env::Env", "FillError": "kit::env::FillError"},
+    "fs": {"": "kit::fs", "File": "kit::fs::File", "metadata": "kit::fs::metadata"},
     "io": {"": "kit::io", **{name: "kit::io::" + name
                              for name in ("BufRead", "BufReader", "BufWriter", "Cursor", "Error", "ErrorKind",
                                           "IsTerminal", "Read", "Result", "Write", "sink", "empty", "writer")}},

@@ -686,7 +686,12 @@ class File:
             head = head.replace("#[cfg(test)]", "").strip()
             wrapper = f"#[cfg(test)]\n{indent}{head} fn {name}() {{\n{indent}    {line}\n{indent}}}\n\n{indent}#[cfg(test)]\n{indent}"
         else:
-            wrapper = f"fn {name}(){end_type} {{\n{indent}    {line}\n{indent}}}\n\n{indent}"
+            wrapper = (
+                "/// Where Rust's own library lacks memory, the program ends as it does where its own calls do.\n"
+                "#[global_allocator]\nstatic ALLOCATOR: kit::alloc::ProgramAllocator = "
+                f'kit::alloc::ProgramAllocator("{self.crate}: memory\\n");\n\n'
+                f"fn {name}(){end_type} {{\n    {line}\n}}\n\n"
+            )
         line_number = self.ts[i].line
         self.drop(start, i - 1)
         self.ts[at] = Token("ident", inner, line_number)

@@ -1,15 +1,16 @@
 #!/usr/bin/env python3
 """Writes the crates of this repository as a cargo workspace: translate.py ROOT FOLDER [--older] [--crates-io]
 
-ROOT is the repository. FOLDER gets a package for each crate, the package `kit`, and the workspace's Cargo.toml. It is
-written anew: what stood in it of an earlier translation goes. `--older` writes for Rust 1.63, `--crates-io` for the
-crates of crates.io that modules of `kit` stand for. The first thing that the translation doesn't know ends it, with its
-file and line.
+ROOT is the repository. FOLDER gets a package for each crate, the packages `kit` and `plain_tests`, and the workspace's
+Cargo.toml. What stood in it of an earlier translation goes; what would be the same stays as it is, so that cargo builds what
+changed. `--older` writes for Rust 1.63, without `plain_tests`, `--crates-io` for the crates of crates.io that modules of
+`kit` stand for. The first thing that the translation doesn't know ends it, with its file and line.
 """
 
 import os
 import re
 import shutil
+import subprocess
 import sys
 
 import names
@@ -96,10 +97,28 @@ def sources(folder):
                 yield os.path.join(place, name)
 
 
+WRITTEN = set()
+
+
 def write(path, text):
+    WRITTEN.add(path)
+    if os.path.exists(path) and open(path, encoding="utf-8").read() == text:
+        return
     os.makedirs(os.path.dirname(path), exist_ok=True)
     with open(path, "w", encoding="utf-8") as out:
         out.write(text)
+
+
+def copy(source, path):
+    write(path, open(source, encoding="utf-8").read())
+
+
+def remove_others(folder):
+    """Removes what this run didn't write."""
+    for place, _, files in os.walk(folder):
+        for path in (os.path.join(place, name) for name in files):
+            if path not in WRITTEN:
+                os.remove(path)
 
 
 def definitions(found):
@@ -127,7 +146,7 @@ def translate_crate(root, folder, crate, crates, specs, options):
     for path in sources(source):
         links.macros |= set(re.findall(r"macro_rules! *(\w+)", open(path, encoding="utf-8").read()))
     is_program = os.path.exists(os.path.join(source, "main.rt"))
-    uses_kit = False
+    uses_kit = has_tests = False
     for path in sources(source):
         shown = os.path.relpath(path, root)
         text = open(path, encoding="utf-8").read()
@@ -136,17 +155,19 @@ def translate_crate(root, folder, crate, crates, specs, options):
         if name == "lib.rs":
             rust += definitions(specs.get(crate))
         uses_kit = uses_kit or "kit::" in rust
+        has_tests = has_tests or "#[test]" in rust
         write(os.path.join(folder, crate, "src", name), rust)
     if not is_program:
         for module, path in specs.get(crate, {}).items():
-            os.makedirs(os.path.join(folder, crate, "specs"), exist_ok=True)
-            shutil.copyfile(path, os.path.join(folder, crate, "specs", module + ".antt"))
+            copy(path, os.path.join(folder, crate, "specs", module + ".antt"))
     own = [d for d in deps if d in crates] + sorted(links.cites - set(deps) - {crate})
     own = [d for d in own if not os.path.exists(os.path.join(root, "crates", d, "src", "main.rt"))]
     lines = [MADE, "[package]\n", f'name = "{crate}"\n', "version.workspace = true\nedition.workspace = true\n",
              "rust-version.workspace = true\npublish = false\n"]
-    if "staticlib" in words:
-        lines.append('\n[lib]\ncrate-type = ["cdylib", "staticlib"]\n')
+    if not is_program:
+        # No library is compiled once more, for tests that it lacks.
+        lines += ["\n[lib]\ndoctest = false\n", "" if has_tests else "test = false\n",
+                  'crate-type = ["cdylib", "staticlib"]\n' if "staticlib" in words else ""]
     lines.append("\n[lints]\nworkspace = true\n\n[dependencies]\n")
     if uses_kit:
         lines.append("kit.workspace = true\n")
@@ -157,15 +178,15 @@ def translate_crate(root, folder, crate, crates, specs, options):
 
 
 def version(root):
-    text = open(os.path.join(root, "scripts", "version.sh"), encoding="utf-8").read()
-    found = re.search(r"(\d+\.\d+\.\d+)", os.popen(f"sh {root}/scripts/version.sh").read() or text)
-    return found.group(1)
+    script = os.path.join(root, "scripts", "version.sh")
+    return subprocess.run(["sh", script], check=True, capture_output=True, text=True).stdout.strip()
 
 
 def workspace(root, folder, crates, options):
     edition, rust = ("2021", "1.63") if options.older else ("2024", "1.88")
     out = [MADE, "[workspace]\nresolver = \"2\"\nmembers = [\n", '    "kit",\n']
     out += [f'    "{crate}",\n' for crate in crates]
+    out += [] if options.older else ['    "plain_tests",\n']
     out += ["]\ndefault-members = [\"pciex\", \"pciex_c\"]\n\n",
             f'[workspace.package]\nversion = "{version(root)}"\nedition = "{edition}"\nrust-version = "{rust}"\n\n',
             "[workspace.dependencies]\n", 'kit = { path = "kit" }\n']
@@ -177,7 +198,9 @@ def workspace(root, folder, crates, options):
             "unexpected_cfgs = { level = \"warn\", check-cfg = ['cfg(feature, values(\"crates-io\"))'] }\n\n",
             '[workspace.lints.rustdoc]\nredundant_explicit_links = "allow"\n\n',
             "[profile.release]\nlto = \"fat\"\ncodegen-units = 1\npanic = \"abort\"\n\n",
-            "# The same with checks of sums, products and casts at run time.\n",
+            "# `cargo test --workspace` is compiled in a minute: what debuggers read would take half of it.\n",
+            "[profile.dev]\ndebug = false\nincremental = false\n\n",
+            "# The same as a release with checks of sums, products and casts at run time.\n",
             '[profile.checked]\ninherits = "release"\nlto = false\ncodegen-units = 16\noverflow-checks = true\ndebug-assertions = true\n']
     write(os.path.join(folder, "Cargo.toml"), "".join(out))
     # What links the library for C also links an archive of the toolchain, which is empty here.
@@ -186,14 +209,47 @@ def workspace(root, folder, crates, options):
 
 def kit(root, folder, options):
     made = os.path.join(folder, "kit")
-    shutil.rmtree(made, ignore_errors=True)
-    shutil.copytree(os.path.join(root, "plain", "kit"), made, ignore=shutil.ignore_patterns("target"))
-    if options.crates_io:
-        features = ", ".join(f'"dep:{name}"' for name in names.ORIGINALS)
-        lines = ["\n[features]\n", 'default = ["crates-io"]\n', f"crates-io = [{features}]\n\n[dependencies]\n"]
-        lines += [f'{name} = {{ version = "{version}", optional = true }}\n' for name, version in names.ORIGINALS.items()]
-        with open(os.path.join(made, "Cargo.toml"), "a", encoding="utf-8") as out:
-            out.write("".join(lines))
+    source = os.path.join(root, "plain", "kit")
+    for place, folders, files in os.walk(source):
+        folders[:] = [name for name in folders if name != "target"]
+        for name in files:
+            path = os.path.join(place, name)
+            text = open(path, encoding="utf-8").read()
+            if options.older:
+                text = text.replace('unsafe extern "C" {', 'extern "C" {')
+                text = re.sub(r'unsafe\((link_section = "[^"]*")\)', r"\1", text)
+            if options.crates_io and name == "Cargo.toml":
+                features = ", ".join(f'"dep:{name}"' for name in names.ORIGINALS)
+                text += f'\n[features]\ndefault = ["crates-io"]\ncrates-io = [{features}]\n\n[dependencies]\n'
+                originals = names.ORIGINALS.items()
+                text += "".join(f'{name} = {{ version = "{version}", optional = true }}\n' for name, version in originals)
+            write(os.path.join(made, os.path.relpath(path, source)), text)
+    remove_others(os.path.join(made, "src"))
+
+
+def remove_packages(folder, crates):
+    """Removes the packages of crates that there are no more."""
+    for name in os.listdir(folder):
+        made = os.path.join(folder, name, "Cargo.toml")
+        if name not in crates and made not in WRITTEN and os.path.exists(made):
+            if open(made, encoding="utf-8").read().startswith(MADE):
+                shutil.rmtree(os.path.join(folder, name))
+
+
+def plain_tests(root, folder, crates):
+    """The package of the tests that are written in plain Rust. It uses the crates that its files name."""
+    source = os.path.join(root, "plain", "tests")
+    made = os.path.join(folder, "plain_tests")
+    named = set()
+    for name in os.listdir(source):
+        copy(os.path.join(source, name), os.path.join(made, "src", name))
+        named |= set(re.findall(r"\b(\w+)::", open(os.path.join(source, name), encoding="utf-8").read()))
+    lines = [MADE, "[package]\n", 'name = "plain_tests"\n', "version.workspace = true\nedition.workspace = true\n",
+             "rust-version.workspace = true\npublish = false\n", "\n[lib]\ndoctest = false\n",
+             "\n[dependencies]\nkit.workspace = true\n"]
+    lines += [f"{crate}.workspace = true\n" for crate in crates if crate in named]
+    write(os.path.join(made, "Cargo.toml"), "".join(lines))
+    remove_others(os.path.join(made, "src"))
 
 
 def main(words):
@@ -207,15 +263,20 @@ def main(words):
     if os.path.isdir(folder) and os.listdir(folder):
         if not os.path.exists(made) or not open(made, encoding="utf-8").read().startswith(MADE):
             sys.exit(f"translate.py: {folder} has files that are no translation's")
+    # The mark comes first, so that an interrupted translation can be begun again, and none is built that isn't whole.
+    write(made, MADE)
     options = Options(older, crates_io)
     crates = read_crates(root)
     specs = read_specs(root, crates)
     for crate in crates:
-        shutil.rmtree(os.path.join(folder, crate, "src"), ignore_errors=True)
-        shutil.rmtree(os.path.join(folder, crate, "specs"), ignore_errors=True)
         translate_crate(root, folder, crate, crates, specs, options)
+        remove_others(os.path.join(folder, crate, "src"))
+        remove_others(os.path.join(folder, crate, "specs"))
     kit(root, folder, options)
+    if not options.older:
+        plain_tests(root, folder, crates)
     workspace(root, folder, crates, options)
+    remove_packages(folder, crates)
 
 
 if __name__ == "__main__":

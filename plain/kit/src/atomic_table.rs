@@ -3,7 +3,7 @@
 //! In Rattle a table has a rule, which says when a seat may read and write a slot, and each step is proved to keep it. So
 //! no two threads use a slot at once, and no lock here is ever waited for.
 
-use crate::alloc::Allocator;
+use crate::alloc::{Allocator, heard};
 use crate::vec::Vec;
 use std::marker::PhantomData;
 use std::mem;
@@ -106,7 +106,8 @@ impl<S, V, K, P: TableRule<S, V, K>, A: Allocator> Table<S, V, K, P, A> {
     pub fn new(_: A, words: &[u64], slots: Vec<S, A>, _: &K) -> Result<(Self, Seat<S, V>), Refused<S, A>> {
         let mut all = std::vec::Vec::new();
         let mut row = std::vec::Vec::new();
-        if all.try_reserve_exact(words.len()).is_err() || row.try_reserve_exact(slots.len()).is_err() {
+        let reserved = heard(|| all.try_reserve_exact(words.len()).and_then(|()| row.try_reserve_exact(slots.len())));
+        if reserved.is_err() {
             return Err(Refused { slots });
         }
         all.extend(words.iter().copied().map(AtomicU64::new));

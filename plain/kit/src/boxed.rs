@@ -1,6 +1,6 @@
 //! A value in a block of its own.
 
-use crate::alloc::{AllocFailed, Allocator, Global};
+use crate::alloc::{AllocFailed, Allocator, Global, heard};
 use std::alloc::Layout;
 use std::fmt;
 use std::marker::PhantomData;
@@ -21,7 +21,7 @@ impl<T, A> Box<T, A> {
         } else {
             // The block has the layout of a `T`, and is written before it is owned.
             unsafe {
-                let block = std::alloc::alloc(layout).cast::<T>();
+                let block = heard(|| std::alloc::alloc(layout)).cast::<T>();
                 if block.is_null() {
                     return Err(AllocFailed { value });
                 }

@@ -1,6 +1,6 @@
 //! Queues and maps.
 
-use crate::alloc::{AllocError, AllocFailed, Global};
+use crate::alloc::{AllocError, AllocFailed, Global, heard};
 use std::fmt;
 use std::hash::{BuildHasherDefault, Hash, Hasher};
 use std::ops::{Index, IndexMut};
@@ -27,7 +27,7 @@ impl<T> VecDeque<T> {
 
     /// Makes room for `more` items.
     pub fn reserve(&mut self, more: usize) -> Result<(), AllocError> {
-        self.items.try_reserve(more).map_err(|_| AllocError)
+        heard(|| self.items.try_reserve(more)).map_err(|_| AllocError)
     }
 
     pub fn try_reserve(&mut self, more: usize) -> Result<(), AllocError> {
@@ -220,7 +220,7 @@ impl<K: Eq + Hash, V> HashMap<K, V> {
     }
 
     pub fn insert(&mut self, key: K, value: V) -> Result<Option<V>, AllocFailed<(K, V)>> {
-        if self.map.try_reserve(1).is_err() {
+        if heard(|| self.map.try_reserve(1)).is_err() {
             return Err(AllocFailed { value: (key, value) });
         }
         Ok(self.map.insert(key, value))
@@ -261,7 +261,7 @@ impl<K: fmt::Debug, V: fmt::Debug> fmt::Debug for HashMap<K, V> {
     }
 }
 
-/// A map by the order of its keys. Rust's doesn't say when memory runs out: then the process ends.
+/// A map by the order of its keys. Rust's doesn't say when memory runs out: then the process ends. The library for C has none.
 #[derive(Clone, Debug, PartialEq, Eq)]
 pub struct BTreeMap<K, V> {
     map: std::collections::BTreeMap<K, V>,

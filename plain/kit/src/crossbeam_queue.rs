@@ -1,6 +1,6 @@
 //! A bounded queue for many threads: after `ArrayQueue` of the crate `crossbeam-queue`.
 
-use crate::alloc::{AllocError, Global};
+use crate::alloc::{AllocError, Global, heard};
 use crate::sync::Wait;
 use std::cell::UnsafeCell;
 use std::marker::PhantomData;
@@ -53,7 +53,7 @@ impl<T, V, P: Protocol<T, V>> RuledArrayQueue<T, V, P> {
     /// A queue of `places` values, and its first pass.
     pub fn ruled(_: Global, places: usize) -> Result<(Self, Pass<T, V>), AllocError> {
         let mut slots = std::vec::Vec::new();
-        slots.try_reserve_exact(places).map_err(|_| AllocError)?;
+        heard(|| slots.try_reserve_exact(places)).map_err(|_| AllocError)?;
         slots.extend((0..places).map(|place| Slot {
             stamp: AtomicUsize::new(2 * place),
             value: UnsafeCell::new(MaybeUninit::uninit()),

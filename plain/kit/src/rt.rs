@@ -32,14 +32,55 @@ impl HostRuntime {
     }
 }
 
-/// A stream of the process, without a buffer: each call is one of the system's.
+/// Which standard streams were closed when the process began. Rust's runtime opens the null device in their place before
+/// `main`, so this looks before that.
+#[cfg(unix)]
+mod closed {
+    use std::io;
+    use std::sync::atomic::{AtomicU8, Ordering};
+
+    /// A bit for each stream.
+    static CLOSED: AtomicU8 = AtomicU8::new(0);
+    const F_GETFD: i32 = 1;
+    const EBADF: i32 = 9;
+
+    unsafe extern "C" {
+        fn fcntl(file: i32, command: i32, ...) -> i32;
+    }
+
+    extern "C" fn look() {
+        for stream in 0..3 {
+            if unsafe { fcntl(stream, F_GETFD) } == -1 {
+                CLOSED.fetch_or(1 << stream, Ordering::Relaxed);
+            }
+        }
+    }
+
+    #[used]
+    #[cfg_attr(target_vendor = "apple", unsafe(link_section = "__DATA,__mod_init_func"))]
+    #[cfg_attr(not(target_vendor = "apple"), unsafe(link_section = ".init_array"))]
+    static LOOK: extern "C" fn() = look;
+
+    /// The error of a stream that was closed.
+    #[inline]
+    pub fn open(stream: i32) -> io::Result<()> {
+        if CLOSED.load(Ordering::Relaxed) & 1 << stream == 0 {
+            return Ok(());
+        }
+        Err(io::Error::from_raw_os_error(EBADF))
+    }
+}
+
+/// A stream of the process, without a buffer: each call is one of the system's. One that was closed when the process began
+/// is an error.
 #[derive(Clone, Copy, Debug)]
 pub struct Stream<const N: i32>;
 
 #[cfg(unix)]
 impl<const N: i32> Stream<N> {
-    fn with<R>(&self, call: impl FnOnce(&mut std::fs::File) -> R) -> R {
+    fn with<R>(&self, call: impl FnOnce(&mut std::fs::File) -> io::Result<R>) -> io::Result<R> {
         use std::os::fd::FromRawFd;
+        closed::open(N)?;
         // The file isn't closed, since it isn't dropped.
         let mut file = std::mem::ManuallyDrop::new(unsafe { std::fs::File::from_raw_fd(N) });
         call(&mut file)

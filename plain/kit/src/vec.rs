@@ -1,6 +1,6 @@
 //! Lists.
 
-use crate::alloc::{AllocError, AllocFailed, Global};
+use crate::alloc::{AllocError, AllocFailed, Global, heard};
 use std::cmp::Ordering;
 use std::fmt;
 use std::hash::{Hash, Hasher};
@@ -82,7 +82,7 @@ impl<T, A> Vec<T, A> {
     #[cold]
     #[inline(never)]
     fn grow(&mut self, more: usize) -> Result<(), AllocError> {
-        self.items.try_reserve(more).map_err(|_| AllocError)
+        heard(|| self.items.try_reserve(more)).map_err(|_| AllocError)
     }
 
     /// Puts an item behind the others.
@@ -167,29 +167,57 @@ impl<T, A> Vec<T, A> {
     where
         T: Ord,
     {
-        self.items.sort();
+        self.sort_by(T::cmp)
+    }
+
+    /// Rust's sorts that keep the order of equal items don't say when memory runs out. So places are sorted, each item with
+    /// its own.
+    pub fn sort_by<F: FnMut(&T, &T) -> Ordering>(&mut self, mut order: F) -> Result<(), AllocError> {
+        if self.items.windows(2).all(|two| order(&two[0], &two[1]) != Ordering::Greater) {
+            return Ok(());
+        }
+        let mut places = room(self.items.len())?;
+        places.extend(0..self.items.len());
+        places.sort_unstable_by(|one, other| order(&self.items[*one], &self.items[*other]).then(one.cmp(other)));
+        self.put(&mut places, |place| place);
         Ok(())
     }
 
-    pub fn sort_by<F: FnMut(&T, &T) -> Ordering>(&mut self, order: F) -> Result<(), AllocError> {
-        self.items.sort_by(order);
-        Ok(())
-    }
-
-    pub fn sort_by_key<K: Ord, F: FnMut(&T) -> K>(&mut self, key: F) -> Result<(), AllocError> {
-        self.items.sort_by_key(key);
-        Ok(())
+    pub fn sort_by_key<K: Ord, F: FnMut(&T) -> K>(&mut self, mut key: F) -> Result<(), AllocError> {
+        self.sort_by(|one, other| key(one).cmp(&key(other)))
     }
 
     pub fn sort_by_cached_key<K: Ord, F: FnMut(&T) -> K>(&mut self, key: F) -> Result<(), AllocError> {
-        self.items.sort_by_cached_key(key);
+        let mut places = room(self.items.len())?;
+        places.extend(self.items.iter().map(key).zip(0..));
+        places.sort_unstable();
+        self.put(&mut places, |(_, place)| place);
         Ok(())
+    }
+
+    /// Puts the items in the order of these places: the first one says where the first item stands.
+    fn put<P>(&mut self, places: &mut [P], place: impl Fn(&mut P) -> &mut usize) {
+        for at in 0..places.len() {
+            let mut from = *place(&mut places[at]);
+            while from < at {
+                from = *place(&mut places[from]);
+            }
+            *place(&mut places[at]) = from;
+            self.items.swap(at, from);
+        }
     }
 
     /// Frees a list without items.
     pub fn destroy_empty(self) {
         debug_assert!(self.items.is_empty());
     }
+}
+
+/// An empty list with room for so many items.
+fn room<T>(count: usize) -> Result<std::vec::Vec<T>, AllocError> {
+    let mut list = std::vec::Vec::new();
+    heard(|| list.try_reserve_exact(count)).map_err(|_| AllocError)?;
+    Ok(list)
 }
 
 impl<T, A> Deref for Vec<T, A> {
@@ -306,6 +334,23 @@ mod tests {
         assert_eq!(list.remove(0), 0);
         list.extend_from_slice(&[5, 6]).unwrap();
         assert_eq!(list[2..], [2, 5, 6]);
+    }
+
+    #[test]
+    fn equal_items_keep_their_order() {
+        let mut list = Vec::new(Global);
+        let mut state = 1u32;
+        for place in 0..1000 {
+            state = state.wrapping_mul(1_664_525).wrapping_add(1_013_904_223);
+            list.push((state >> 28, place)).unwrap();
+        }
+        let mut wanted = list.as_slice().to_vec();
+        wanted.sort();
+        let (mut whole, mut cached) = (list.clone(), list.clone());
+        whole.sort().unwrap();
+        list.sort_by_key(|item| item.0).unwrap();
+        cached.sort_by_cached_key(|item| item.0).unwrap();
+        assert!([whole, list, cached].iter().all(|sorted| sorted.as_slice() == wanted));
     }
 
     #[test]
