@@ -2,12 +2,12 @@
 ghost use Rattle.std.specs.Prelude.{◌≡◌};
 ghost use Rattle.config_packets.specs.Fault.{number_of, name_of};
 
-use thiserror::Error;
+use std::error::Error;
+use std::fmt;
 
 /// The faults of a configuration request's bytes, in the order in which they are tested: the first that holds is
 /// reported.
-#[derive(Clone, Copy, Debug, PartialEq, Eq, Error)]
-#[error("{}", self.name())]
+#[derive(Clone, Copy, Debug, PartialEq)]
 pub enum CfgFault {
     /// Fewer than 12 bytes.
     Short,
@@ -22,6 +22,14 @@ pub enum CfgFault {
     /// TC, attributes, AT, LN, TH, a tag's upper bits or Last DW BE are not 0.
     Fields,
 }
+
+impl fmt::Display for CfgFault {
+    fn fmt<W: fmt::Write>(&self, f: &mut fmt::Formatter<W>) -> fmt::Result {
+        f.write_str(self.name())
+    }
+}
+
+impl Error for CfgFault {}
 
 impl CfgFault {
     /// The number under which the fault is reported, 1 to 6 in the order of the tests.

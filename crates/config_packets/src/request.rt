@@ -1,7 +1,7 @@
 //! A configuration request as a value.
 
 /// A configuration request. TC and attributes are 0, and it names one DW.
-#[derive(Clone, Copy, Debug, PartialEq, Eq)]
+#[derive(Clone, Copy, PartialEq)]
 pub struct CfgRequest {
     /// It writes the register: CfgWr0 or CfgWr1.
     pub writes: bool,

@@ -1,6 +1,6 @@
 //! Lines that are written.
 ghost use Rattle.std.specs.Prelude.{◌≡◌, ◌++◌, ◌∷◌, [], IfOk, OnErr};
-ghost use Rattle.packet_text.specs.Packets.{FitsDataFC, reading};
+ghost use Rattle.packet_text.specs.Packets.{FitsFields, reading};
 ghost use Rattle.packet_text.specs.Texts.{text_fault_text};
 ghost use Rattle.line_loop.specs.Run.{IsAnswer};
 ghost use Rattle.packet_engine.specs.Lines.{bytes_text, decode_reading};
@@ -55,7 +55,7 @@ pub(crate) fn tell_decoded(
 
 /// Adds the line of the packet's canonical bytes.
 pub(crate) fn tell_bytes(packet: &Packet, out: &mut Vec<u8>) -> Result<Verdict, AllocError>
-    requires { FitsDataFC packet.now }
+    requires { FitsFields packet.now }
     ensures ok { IfOk result (λ verdict. (verdict ≡ Verdict.Fine) × (out.new.items ≡ out.old.items ++ (bytes_text packet.now ++ 10 ∷ []))) }
     ensures err { OnErr result (out.new.items ≡ out.old.items) }
 {

@@ -1,6 +1,7 @@
 //! What is wrong with a line of a packet's bytes.
 ghost use Rattle.std.specs.Prelude.{◌≤◌, length};
 
+use config_packets::CfgFault;
 use diagnostics::Reason;
 use hex_text::HexLine;
 use operation_text::Expected;
@@ -107,6 +108,65 @@ fn fault_reason(fault: TlpFault, bytes: &[u8]) -> Reason {
     reason
 }
 
+/// That a configuration request has other bytes or another Length than it is to have.
+fn configuration_length_reason(bytes: &[u8]) -> Reason {
+    let mut reason = Reason::new();
+    reason.put(": LengthMismatch");
+    if let [code, _, third, fourth, ..] = bytes {
+        let given = bytes.len();
+        let dw = length_in(*third, *fourth);
+        let (kind, size) = if code / 64 % 2 == 1 {
+            ("write", 16)
+        } else {
+            ("read", 12)
+        };
+        reason.put(format_args!(
+            " ({given} bytes of Length {dw}, and a configuration {kind} has {size} of Length 1)"
+        ));
+    }
+    reason
+}
+
+/// Which byte of a configuration request has a bit that has to be 0.
+fn fields_reason(bytes: &[u8]) -> Reason {
+    let mut reason = Reason::new();
+    reason.put(": Fields");
+    if let [_, first, second, _, _, _, _, seventh, ..] = bytes {
+        let (place, byte, names) = if *first != 0 {
+            (1, *first, "TC, T9, T8, Attr[2], LN and TH")
+        } else if second / 4 != 0 {
+            (2, *second, "Attr[1:0] and AT")
+        } else {
+            (7, *seventh, "Last DW BE")
+        };
+        reason.put(format_args!(
+            " (byte {place} is {byte:02X}h, and a configuration request has 0 in {names})"
+        ));
+    }
+    reason
+}
+
+/// Why bytes that begin as a configuration request are none.
+fn configuration_reason(fault: CfgFault, bytes: &[u8]) -> Reason {
+    match fault {
+        CfgFault::Short => fault_reason(TlpFault::Short, bytes),
+        CfgFault::Kind => fault_reason(TlpFault::Kind, bytes),
+        CfgFault::Digest => fault_reason(TlpFault::Digest, bytes),
+        CfgFault::Poisoned => fault_reason(TlpFault::Poisoned, bytes),
+        CfgFault::LengthMismatch => configuration_length_reason(bytes),
+        CfgFault::Fields => fields_reason(bytes),
+    }
+}
+
+/// That bytes begin as no packet.
+fn kind_reason() -> Reason {
+    let mut reason = Reason::new();
+    reason.put(
+        ": Kind (the first byte, Fmt and Type, is of no memory request, AtomicOp, completion or configuration request)",
+    );
+    reason
+}
+
 /// Why the bytes of the line are no packet.
 pub(crate) fn packet_reason(line: &[u8]) -> Reason
     requires { length line.now ≤ 512 }
@@ -116,7 +176,9 @@ pub(crate) fn packet_reason(line: &[u8]) -> Reason
         return digits_reason(line);
     }
     match decode(hex.bytes()) {
+        Err(BytesFault::Tlp(TlpFault::Kind)) => kind_reason(),
         Err(BytesFault::Tlp(fault)) => fault_reason(fault, hex.bytes()),
+        Err(BytesFault::Configuration(fault)) => configuration_reason(fault, hex.bytes()),
         Err(BytesFault::Dllp(fault)) => {
             let mut reason = Reason::new();
             let name = fault.name();

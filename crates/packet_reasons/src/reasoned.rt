@@ -6,12 +6,13 @@ use crate::bytes::{packet_reason, request_reason};
 use diagnostics::{tell_long_line, tell_misfit, tell_refusal};
 use line_loop::{EngineFault, Responder, Verdict, write_out};
 use packet_text::{Unread, read_words};
+use reason_count::ReasonCount;
 use std::alloc::{AllocError, Global};
 use std::io::Write;
 use std::marker::Model;
 
 /// What an engine reads of a line.
-#[derive(Clone, Copy, Debug, PartialEq, Eq)]
+#[derive(Clone, Copy)]
 pub enum PacketLines {
     /// A packet in words.
     Words,
@@ -70,6 +71,8 @@ pub struct Reasoned<P, E> {
     lines: PacketLines,
     /// How many lines were answered.
     count: u64,
+    /// How many reasons were told.
+    told: ReasonCount,
     /// The reasons that are to be written.
     reasons: Vec<u8>,
     /// Whether memory for a reason ran out: then no further line is answered.
@@ -94,10 +97,34 @@ impl<P, E> Reasoned<P, E> {
             responder,
             lines,
             count: 0,
+            told: ReasonCount::new(),
             reasons: Vec::new(alloc),
             is_lost: false,
             errors,
         }
+    }
+}
+
+impl<P, E> Reasoned<P, E> {
+    /// Tells why the line that was answered last is refused.
+    fn tell(&mut self, line: &[u8]) -> Result<(), EngineFault>
+        requires { length line.now ≤ 512 }
+        ensures { self.new ≡ self.old }
+    {
+        if self.told.takes(&mut self.reasons)? {
+            explain(self.lines, line, Some(self.count), &mut self.reasons)?;
+        }
+        Ok(())
+    }
+
+    /// Tells that the line that was answered last is too long.
+    fn tell_long(&mut self) -> Result<(), EngineFault>
+        ensures { self.new ≡ self.old }
+    {
+        if self.told.takes(&mut self.reasons)? {
+            tell_long_line(Some(self.count), &mut self.reasons)?;
+        }
+        Ok(())
     }
 }
 
@@ -111,8 +138,7 @@ impl<P: Responder, E: Write + Drop> Responder for Reasoned<P, E> {
         self.count = self.count.saturating_add(1);
         let verdict = self.responder.on_line(line, out)?;
         if verdict.is_fault() {
-            let told = explain(self.lines, line, Some(self.count), &mut self.reasons);
-            self.is_lost = told.is_err();
+            self.is_lost = self.tell(line).is_err();
         }
         Ok(verdict)
     }
@@ -123,8 +149,9 @@ impl<P: Responder, E: Write + Drop> Responder for Reasoned<P, E> {
         }
         self.count = self.count.saturating_add(1);
         let verdict = self.responder.on_long_line(out)?;
-        let told = tell_long_line(verdict.is_fault().then_some(self.count), &mut self.reasons);
-        self.is_lost = told.is_err();
+        if verdict.is_fault() {
+            self.is_lost = self.tell_long().is_err();
+        }
         Ok(verdict)
     }
 

@@ -10,6 +10,11 @@ use Rattle.tlp_core.specs.Bits.{IsBytes, has_bit}
 use Rattle.tlp_core.specs.TlpView as tlp
 use Rattle.tlp_core.specs.Layout as tlp_layout
 use Rattle.tlp_core.specs.Faults as tlp_faults
+use Rattle.tlp_core.specs.declared.fault.TlpFault.TheVariants as tlp_fault
+use Rattle.config_packets.specs.declared.request.CfgRequest.{CfgRequest}
+use Rattle.config_packets.specs.declared.fault.CfgFault.{CfgFault}
+use Rattle.config_packets.specs.Layout as configuration
+use Rattle.config_packets.specs.Canonical as configuration_bytes
 use Rattle.dllp_core.specs.declared.packet.Dllp.{Dllp}
 use Rattle.dllp_core.specs.declared.packet.Dllp.TheVariants as dllps
 use Rattle.dllp_core.specs.declared.fault.DllpFault.{DllpFault}
@@ -18,12 +23,13 @@ use Rattle.dllp_core.specs.Faults as dllp_faults
 use Rattle.packet_text.specs.declared.packet.Packet.{Packet}
 use Rattle.packet_text.specs.declared.packet.Packet.TheVariants as packets
 use Rattle.packet_text.specs.declared.fault.BytesFault.{BytesFault}
-use Rattle.packet_text.specs.Packets.{IsTlp, IsPacket, of_tlp, of_dllp, reading}
+use Rattle.packet_text.specs.Packets.{IsTlp, IsPacket, of_other, of_tlp_fault, of_tlp, of_dllp, reading}
 use Rattle.packet_text.proofs.NumberLemmas.{bytes-drop}
 
 -- what is known of the bytes of TLPs and DLLPs
 pub record Spellings : Type 0 where
   pub of_tlps : (b : List ℕ) (t : tlp.TlpView) → IsBytes b → tlp_faults.reading b ≡ Ok t → tlp_layout.Spells b t
+  pub of_requests : (b : List ℕ) (r : CfgRequest) → IsBytes b → configuration.reading b ≡ Ok r → configuration_bytes.FitsFields r
   pub of_dllps : (b : List ℕ) (d : Dllp) → dllp_faults.reading b ≡ Ok d → dllp_layout.Spells b d
 
 address-range : (b : List ℕ) → IsBytes b → tlp_layout.address_of b < 2 ^ 64
@@ -65,23 +71,39 @@ dllp-is b (dllps.Update c header units) are h = (
   subst (λ (n : ℕ). n < 4096) (sym h.has_units) (low_twelve-range b are),
 )
 
-same-tlp : (r : Result tlp.TlpView TlpFault) (p : Packet) → of_tlp r ≡ Ok p → (t : tlp.TlpView) × (r ≡ Ok t) × (p ≡ packets.Tlp t)
-same-tlp (Ok t) p e = (t, refl, sym (of-ok (packets.Tlp t) p e))
-  where
-    of-ok : (p q : Packet) → ◌≡◌ {A = Result Packet BytesFault} (Ok p) (Ok q) → p ≡ q
-    of-ok p q e = cc e
-same-tlp (Err f) p e = absurd (cc e)
+of-ok : (p q : Packet) → ◌≡◌ {A = Result Packet BytesFault} (Ok p) (Ok q) → p ≡ q
+of-ok p q e = cc e
+
+request-is : (S : Spellings) (b : List ℕ) → IsBytes b → (r : Result CfgRequest CfgFault) → configuration.reading b ≡ r → (p : Packet) → of_other r ≡ Ok p → IsPacket p
+request-is S b are (Ok r) is p e = subst IsPacket (of-ok (packets.Configuration r) p e) (S.of_requests b r are is)
+request-is S b are (Err f) is p e = absurd (cc e)
+
+fault-is : (S : Spellings) (b : List ℕ) → IsBytes b → (f : TlpFault) (p : Packet) → of_tlp_fault b f ≡ Ok p → IsPacket p
+fault-is S b are tlp_fault.Kind p e = request-is S b are (configuration.reading b) refl p e
+fault-is S b are tlp_fault.Short p e = absurd (cc e)
+fault-is S b are tlp_fault.Prefix p e = absurd (cc e)
+fault-is S b are tlp_fault.TenBitTag p e = absurd (cc e)
+fault-is S b are tlp_fault.Hints p e = absurd (cc e)
+fault-is S b are tlp_fault.Digest p e = absurd (cc e)
+fault-is S b are tlp_fault.Poisoned p e = absurd (cc e)
+fault-is S b are tlp_fault.Translated p e = absurd (cc e)
+fault-is S b are tlp_fault.LengthMismatch p e = absurd (cc e)
+fault-is S b are tlp_fault.PayloadTooLong p e = absurd (cc e)
+fault-is S b are tlp_fault.ByteEnables p e = absurd (cc e)
+fault-is S b are tlp_fault.OperandSize p e = absurd (cc e)
+fault-is S b are tlp_fault.Unaligned p e = absurd (cc e)
+
+by-tlp : (S : Spellings) (b : List ℕ) → IsBytes b → (r : Result tlp.TlpView TlpFault) → tlp_faults.reading b ≡ r → (p : Packet) → of_tlp b r ≡ Ok p → IsPacket p
+by-tlp S b are (Ok t) is p e = subst IsPacket (of-ok (packets.Tlp t) p e) (tlp-is b t are (S.of_tlps b t are is))
+by-tlp S b are (Err f) is p e = fault-is S b are f p e
 
 same-dllp : (r : Result Dllp DllpFault) (p : Packet) → of_dllp r ≡ Ok p → (d : Dllp) × (r ≡ Ok d) × (p ≡ packets.Dllp d)
 same-dllp (Ok d) p e = (d, refl, sym (of-ok (packets.Dllp d) p e))
-  where
-    of-ok : (p q : Packet) → ◌≡◌ {A = Result Packet BytesFault} (Ok p) (Ok q) → p ≡ q
-    of-ok p q e = cc e
 same-dllp (Err f) p e = absurd (cc e)
 
 pub packet-is : (S : Spellings) (b : List ℕ) (p : Packet) → IsBytes b → reading b ≡ Ok p → IsPacket p
 packet-is S b p are h = by (length b == 4) h
   where
-    by : (four : Bool) → (if four then of_dllp (dllp_faults.reading b) else of_tlp (tlp_faults.reading b)) ≡ Ok p → IsPacket p
+    by : (four : Bool) → (if four then of_dllp (dllp_faults.reading b) else of_tlp b (tlp_faults.reading b)) ≡ Ok p → IsPacket p
     by true e = let s = same-dllp (dllp_faults.reading b) p e in subst IsPacket (sym s.2) (dllp-is b s.0 are (S.of_dllps b s.0 s.1))
-    by false e = let s = same-tlp (tlp_faults.reading b) p e in subst IsPacket (sym s.2) (tlp-is b s.0 are (S.of_tlps b s.0 are s.1))
+    by false e = by-tlp S b are (tlp_faults.reading b) refl p e

@@ -5,5 +5,7 @@ pub mod WordLemmas
 pub mod NumberLemmas
 pub mod OpLemmas
 pub mod ReadBack
+pub mod ConfigurationLemmas
+pub mod PacketBack
 pub mod BytesLemmas
 pub mod LineLemmas

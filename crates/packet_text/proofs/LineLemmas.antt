@@ -23,20 +23,26 @@ use Rattle.dllp_core.specs.declared.packet.Class.TheVariants as classes
 use Rattle.dllp_core.specs.declared.packet.Dllp.{Dllp}
 use Rattle.dllp_core.specs.declared.packet.Dllp.TheVariants as dllps
 use Rattle.dllp_core.specs.Layout.{FitsFields}
+use Rattle.byteorder.specs.Endian.{little_bytes}
+use Rattle.config_packets.specs.declared.request.CfgRequest.{CfgRequest}
+use Rattle.config_packets.specs.Canonical as configuration
 use Rattle.operation_text.specs.Operations.{op_spelled}
 use Rattle.operation_text.specs.Texts.{op_text, op_words, IsPrinted, IsPrintedChar}
 use Rattle.packet_text.specs.declared.packet.Packet.{Packet}
 use Rattle.packet_text.specs.declared.packet.Packet.TheVariants as packets
 use Rattle.packet_text.specs.Packets.{IsPacket, IsTlp}
-use Rattle.packet_text.specs.Texts.{id_text, named, class_text, origin_text, request_text, status_text, data_text, completer_text, completion_text, tlp_text_by, tlp_text, credits_text, dllp_text, packet_text}
-use Rattle.operation_text.specs.Texts.{octet_text, sequence_text}
+use Rattle.packet_text.specs.Texts.{id_text, named, class_text, origin_text, request_text, status_text, data_text, completer_text, completion_text, tlp_text_by, tlp_text, credits_text, dllp_text, id_and_tag_text, access_text, function_text, register_text, written_text, configuration_text, packet_text}
+use Rattle.operation_text.specs.Texts.{octet_text, sequence_text, hexadecimal}
 use Rattle.packet_text.specs.Lines.{BeginsWithLetter}
 use Rattle.packet_text.proofs.DigitLemmas.{glyph-range, glyph-is}
 use Rattle.packet_text.proofs.OpLemmas.{Laws, Asked, asked}
+use Rattle.packet_text.proofs.ConfigurationLemmas.{dw-bytes}
 
 -- what is known of printed texts
 pub record Printing : Type 0 where
   pub of_decimal : (n : ℕ) → IsPrinted (decimal n)
+  pub of_hexadecimal : (n : ℕ) → IsPrinted (hexadecimal n)
+  pub hexadecimal_short : (n : ℕ) → n < 2 ^ 64 → length (hexadecimal n) ≤ 16
   pub of_op : (ws : List (List ℕ)) (op : Op) → op_spelled ws ≡ Some op → IsPrinted (op_text op)
   pub op_short : (ws : List (List ℕ)) (op : Op) → op_spelled ws ≡ Some op → length (op_text op) ≤ 320
 
@@ -238,8 +244,64 @@ dllp-line R (dllps.Update c header units) h =
       letter = (omega arith, omega arith);
     }
 
+-- ---- configuration requests
+
+hexa : (R : Printing) (n : ℕ) → n < 2 ^ 64 → Sized 16 (hexadecimal n)
+hexa R n fits = record { printed = R.of_hexadecimal n; short = R.hexadecimal_short n fits }
+
+access : (w t : Bool) → Sized 9 (access_text w t)
+unfolding is_printed
+access false false = record { printed = printed-is (codes "cfgread") refl; short = omega arith }
+access false true = record { printed = printed-is (codes "cfgread1") refl; short = omega arith }
+access true false = record { printed = printed-is (codes "cfgwrite") refl; short = omega arith }
+access true true = literal (codes "cfgwrite1") refl
+
+access-letter : (w t : Bool) (text : List ℕ) → BeginsWithLetter (access_text w t ++ text)
+access-letter false false text = (omega arith, omega arith)
+access-letter false true text = (omega arith, omega arith)
+access-letter true false text = (omega arith, omega arith)
+access-letter true true text = (omega arith, omega arith)
+
+function : (R : Printing) (b d f : ℕ) → b < 256 → d < 32 → f < 8 → Sized 50 (function_text b d f)
+unfolding is_printed
+function R b d f hb hd hf =
+    joined 16 34 (hexadecimal b) _ (hexa R b (omega arith))
+    (joined 1 33 (codes ":") _ (literal (codes ":") refl)
+    (joined 16 17 (hexadecimal d) _ (hexa R d (omega arith))
+    (joined 1 16 (codes ".") (hexadecimal f) (literal (codes ".") refl) (hexa R f (omega arith)))))
+
+register : (R : Printing) (n e : ℕ) → e < 16 → Sized 20 (register_text n e)
+unfolding is_printed
+register R n e he =
+    joined 3 17 (sequence_text (n % 4096)) _ (sequence (n % 4096) (omega arith))
+    (joined 1 16 (codes " ") (hexadecimal e) (literal (codes " ") refl) (hexa R e (omega arith)))
+
+written : (w : Bool) (v : ℕ) → Sized 9 (written_text w v)
+unfolding is_printed
+written true v = joined 1 8 (codes " ") (encode_upper (little_bytes 4 v)) (literal (codes " ") refl) (bytes (little_bytes 4 v) (dw-bytes v))
+written false v = record { printed = All-nil IsPrintedChar; short = omega arith }
+
+id-and-tag : (r t : ℕ) → r < 65536 → t < 256 → Sized 11 (id_and_tag_text r t)
+unfolding is_printed
+id-and-tag r t hr ht = joined 4 7 (id_text r) (codes " tag " ++ octet_text t) (id r hr) (joined 5 2 (codes " tag ") (octet_text t) (literal (codes " tag ") refl) (octet t ht))
+
+configuration-line : (R : Printing) (r : CfgRequest) → configuration.FitsFields r → Line (configuration_text r)
+unfolding is_printed
+configuration-line R r h = record {
+  sized = at_most 107 (configuration_text r) (omega arith)
+      (joined 9 98 (access_text r.writes r.is_type_1) _ (access r.writes r.is_type_1)
+      (joined 1 97 (codes " ") _ (literal (codes " ") refl)
+      (joined 50 47 (function_text r.bus r.device r.function) _ (function R r.bus r.device r.function h.bus h.device h.function)
+      (joined 1 46 (codes " ") _ (literal (codes " ") refl)
+      (joined 20 26 (register_text r.register r.enables) _ (register R r.register r.enables h.enables)
+      (joined 9 17 (written_text r.writes r.value) _ (written r.writes r.value)
+      (joined 6 11 (codes " from ") (id_and_tag_text r.requester r.tag) (literal (codes " from ") refl) (id-and-tag r.requester r.tag h.requester h.tag))))))));
+  letter = access-letter r.writes r.is_type_1 _;
+}
+
 packet-line : (L : Laws) (R : Printing) (p : Packet) → IsPacket p → Line (packet_text p)
 packet-line L R (packets.Tlp t) h = tlp-line L R t.kind t.tc t.attr t.length t.requester t.tag t.body t.payload h
+packet-line L R (packets.Configuration r) h = configuration-line R r h
 packet-line L R (packets.Dllp d) h = dllp-line R d h
 
 pub printed : (L : Laws) (R : Printing) (p : Packet) → IsPacket p → IsPrinted (packet_text p)

@@ -1,6 +1,6 @@
--- The text of a packet is read back as that packet.
+-- The text of a TLP or a DLLP is read back as that packet.
 use Rattle.std.proofs.Common.{◌≡◌, ◌≢◌, ℕ, suc, ◌+◌, ◌*◌, ◌/◌, ◌%◌, ◌<◌, ◌≤◌, Bool, true, false, List, [], ◌∷◌, ◌++◌, length, refl, sym, ap, ap₂, subst, ◌∙◌, append_assoc, inl, inr, arith, Option, Some, None}
-use Rattle.std.specs.Prelude.{◌==◌, ◌||◌, not, nat_lt, codes, bytes_eq, Result, Ok, ◌⊎◌, if◌then◌else◌}
+use Rattle.std.specs.Prelude.{◌==◌, ◌||◌, not, nat_lt, codes, bytes_eq, Ok, ◌⊎◌, if◌then◌else◌}
 use Rattle.std.specs.Fmt.{decimal, digit_glyph}
 use Rattle.std.proofs.lemmas.Fmt.{decimal_digit}
 use Rattle.std.proofs.lemmas.Bool.{eqb-true, ne_eqb}
@@ -25,11 +25,10 @@ use Rattle.operation_text.specs.Words.{words, then_with}
 use Rattle.operation_text.specs.Numbers.{byte_string, numeral}
 use Rattle.operation_text.specs.Operations.{op_spelled}
 use Rattle.operation_text.specs.Texts.{op_text, op_words}
-use Rattle.packet_text.specs.declared.packet.Packet.{Packet}
 use Rattle.packet_text.specs.declared.packet.Packet.TheVariants as packets
 use Rattle.requester_core.specs.declared.request.Origin.{Origin}
-use Rattle.packet_text.specs.Packets.{IsPacket, IsTlp}
-use Rattle.packet_text.specs.Texts.{id_text, named, class_text, status_text, completer_text, tlp_text_by, tlp_text, credits_text, dllp_text, packet_text}
+use Rattle.packet_text.specs.Packets.{IsTlp}
+use Rattle.packet_text.specs.Texts.{id_text, named, class_text, status_text, completer_text, tlp_text_by, tlp_text, credits_text, dllp_text}
 use Rattle.operation_text.specs.Texts.{octet_text, sequence_text}
 use Rattle.packet_text.specs.Forms as forms
 use Rattle.requester_core.specs.Request as requests
@@ -42,20 +41,20 @@ use Rattle.packet_text.proofs.OpLemmas.{Laws, Asked, asked, bytes-read}
 -- ---- characters
 
 -- a digit is neither a space nor an `f`
-glyph-not : (k x : ℕ) → k < 16 → (x < 48) ⊎ (70 < x) → digit_glyph true k ≢ x
+pub glyph-not : (k x : ℕ) → k < 16 → (x < 48) ⊎ (70 < x) → digit_glyph true k ≢ x
 glyph-not k x lt (inl h) e = let r = glyph-range k lt in omega (arith, r.0, e, h)
 glyph-not k x lt (inr h) e = let r = glyph-range k lt in omega (arith, r.1, e, h)
 
-octet-lacks : (n x : ℕ) → n < 256 → (x < 48) ⊎ (70 < x) → Lacks x (octet_text n)
+pub octet-lacks : (n x : ℕ) → n < 256 → (x < 48) ⊎ (70 < x) → Lacks x (octet_text n)
 octet-lacks n x lt out = (glyph-not (n / 16) x (omega arith) out, (glyph-not (n % 16) x (omega arith) out, tt))
 
-sequence-lacks : (n x : ℕ) → n < 4096 → (x < 48) ⊎ (70 < x) → Lacks x (sequence_text n)
+pub sequence-lacks : (n x : ℕ) → n < 4096 → (x < 48) ⊎ (70 < x) → Lacks x (sequence_text n)
 sequence-lacks n x lt out = (glyph-not (n / 256) x (omega arith) out, octet-lacks (n % 256) x (omega arith) out)
 
 id-lacks : (n x : ℕ) → n < 65536 → (x < 48) ⊎ (70 < x) → Lacks x (id_text n)
 id-lacks n x lt out = lacks-append x (octet_text (n / 256)) (octet_text (n % 256)) (octet-lacks (n / 256) x (omega arith) out) (octet-lacks (n % 256) x (omega arith) out)
 
-space : (32 < 48) ⊎ (70 < 32)
+pub space : (32 < 48) ⊎ (70 < 32)
 space = inl (omega arith)
 
 letter : (102 < 48) ⊎ (70 < 102)
@@ -71,7 +70,7 @@ decimal-part : (L : Laws) (n : ℕ) → IsPart (decimal n)
 decimal-part L n = record { first = L.decimal_word n; last = L.decimal_last n }
 
 -- a word that has to stand there
-literal : (w : List ℕ) → lacks 32 w ≡ true → IsPart w
+pub literal : (w : List ℕ) → lacks 32 w ≡ true → IsPart w
 literal w h = part w (lacks-is 32 w h)
 
 -- ---- Traffic Class and attributes
@@ -120,10 +119,10 @@ named-lacks name n lt h = by (n == 0) refl
 
 -- ---- requests
 
-origin_words : ℕ → ℕ → List (List ℕ) → List (List ℕ)
+unfoldable pub origin_words : ℕ → ℕ → List (List ℕ) → List (List ℕ)
 origin_words requester tag ws = id_text requester ∷ codes "tag" ∷ octet_text tag ∷ ws
 
-origin-tail : (requester tag : ℕ) (text : List ℕ) (ws : List (List ℕ)) → requester < 65536 → tag < 256 → IsTail text ws
+pub origin-tail : (requester tag : ℕ) (text : List ℕ) (ws : List (List ℕ)) → requester < 65536 → tag < 256 → IsTail text ws
     → IsTail (32 ∷ (id_text requester ++ (codes " tag " ++ (octet_text tag ++ text)))) (origin_words requester tag ws)
 unfolding origin_words lacks
 origin-tail requester tag text ws hr ht h =
@@ -134,7 +133,7 @@ origin-tail requester tag text ws hr ht h =
 id_and_tag-of : (w v : List ℕ) (ws : List (List ℕ)) (requester tag : ℕ) → forms.id w ≡ Some requester → forms.octet v ≡ Some tag → forms.id_and_tag (w ∷ codes "tag" ∷ v ∷ ws) ≡ Some ((requester, tag), ws)
 id_and_tag-of w v ws requester tag e f = rw (e, f) refl
 
-id_and_tag-reads : (requester tag : ℕ) (ws : List (List ℕ)) → requester < 65536 → tag < 256 → forms.id_and_tag (origin_words requester tag ws) ≡ Some ((requester, tag), ws)
+pub id_and_tag-reads : (requester tag : ℕ) (ws : List (List ℕ)) → requester < 65536 → tag < 256 → forms.id_and_tag (origin_words requester tag ws) ≡ Some ((requester, tag), ws)
 unfolding origin_words
 id_and_tag-reads requester tag ws hr ht = id_and_tag-of (id_text requester) (octet_text tag) ws requester tag (id-reads requester hr) (octet-reads tag ht)
 
@@ -317,7 +316,7 @@ not-to w bytes e = by (bytes_eq w (codes "to")) refl
 data_to-reads : (w bytes : List ℕ) (ws : List (List ℕ)) → byte_string w ≡ Some bytes → forms.data_to (w ∷ codes "to" ∷ ws) ≡ Some (Some bytes, ws)
 data_to-reads w bytes ws e = rw (not-to w bytes e, e) refl
 
-encode-part : (bytes : List ℕ) → IsBytes bytes → IsPart (encode_upper bytes)
+pub encode-part : (bytes : List ℕ) → IsBytes bytes → IsPart (encode_upper bytes)
 unfolding encode_with
 encode-part bytes are = part (encode_upper bytes) (all bytes are)
   where
@@ -358,7 +357,7 @@ with-data-back L s bytes dw requester tag completer count lower tc attr hr ht hc
 
 -- ---- TLPs
 
-tlp-back : (L : Laws) (k : Kind) (tc attr dw requester tag : ℕ) (body : Body) (bytes : List ℕ) → IsTlp (tlp_with k tc attr dw requester tag body bytes)
+pub tlp-back : (L : Laws) (k : Kind) (tc attr dw requester tag : ℕ) (body : Body) (bytes : List ℕ) → IsTlp (tlp_with k tc attr dw requester tag body bytes)
     → text_reading (tlp_text (tlp_with k tc attr dw requester tag body bytes)) ≡ Ok (packets.Tlp (tlp_with k tc attr dw requester tag body bytes))
 tlp-back L kinds.Completion tc attr dw requester tag (bodies.Request a f l) bytes h = absurd h.grammar.fits
 tlp-back L kinds.Completion tc attr dw requester tag (bodies.Completion completer s count lower) bytes h =
@@ -395,7 +394,7 @@ credits-reads classes.Posted = refl
 credits-reads classes.NonPosted = refl
 credits-reads classes.Completion = refl
 
-dllp-back : (L : Laws) (d : Dllp) → FitsFields d → text_reading (dllp_text d) ≡ Ok (packets.Dllp d)
+pub dllp-back : (L : Laws) (d : Dllp) → FitsFields d → text_reading (dllp_text d) ≡ Ok (packets.Dllp d)
 unfolding lacks
 dllp-back L (dllps.Ack n) h =
     let split : words (codes "ack " ++ sequence_text n) ≡ codes "ack" ∷ sequence_text n ∷ [] = tail-last (sequence_text n) (sequence-part n h) (codes "ack") (literal (codes "ack") refl) in
@@ -420,15 +419,3 @@ dllp-back L (dllps.Update c header units) h =
     by : (w v u : List ℕ) → forms.credits w ≡ Some c → numeral 10 255 v ≡ Some header → numeral 10 4095 u ≡ Some units
         → forms.dllp_read (forms.update_of (w ∷ v ∷ u ∷ [])) ≡ Ok (packets.Dllp (dllps.Update c header units))
     by w v u e f g = rw (e, f, g) refl
-
--- ---- packets
-
-pub packet-back : (L : Laws) (p : Packet) → IsPacket p → text_reading (packet_text p) ≡ Ok p
-packet-back L (packets.Tlp t) h = tlp-back L t.kind t.tc t.attr t.length t.requester t.tag t.body t.payload h
-packet-back L (packets.Dllp d) h = dllp-back L d h
-
-some-packet : {E : Type 0} (p q : Packet) → ◌≡◌ {A = Result Packet E} (Ok p) (Ok q) → p ≡ q
-some-packet p q e = cc e
-
-pub one-packet : (L : Laws) (p q : Packet) → IsPacket p → IsPacket q → packet_text p ≡ packet_text q → p ≡ q
-one-packet L p q hp hq e = some-packet p q (sym (packet-back L p hp) ∙ ap text_reading e ∙ packet-back L q hq)

@@ -1,6 +1,7 @@
 -- The packet that a line of words spells.
-use Rattle.std.specs.Prelude.{ℕ, ◌+◌, ◌*◌, ◌/◌, ◌%◌, ◌==◌, ◌||◌, not, nat_lt, if◌then◌else◌, List, [], ◌∷◌, length, take, drop, codes, bytes_eq, Option, Some, None, Result, Ok, Err}
+use Rattle.std.specs.Prelude.{ℕ, ◌+◌, ◌*◌, ◌/◌, ◌%◌, ◌==◌, ◌||◌, Bool, true, false, not, nat_lt, if◌then◌else◌, List, [], ◌∷◌, length, take, drop, codes, bytes_eq, Option, Some, None, Result, Ok, Err}
 use Rattle.std.specs.Char.{digit_value}
+use Rattle.byteorder.specs.Endian.{little_number}
 use Rattle.tlp_core.specs.Ops.{Op}
 use Rattle.tlp_core.specs.declared.packet.Kind.TheVariants as kinds
 use Rattle.tlp_core.specs.declared.packet.Body.TheVariants as bodies
@@ -10,6 +11,7 @@ use Rattle.tlp_core.specs.declared.fault.TlpFault.{TlpFault}
 use Rattle.tlp_core.specs.declared.fault.TlpFault.TheVariants as tlp_faults
 use Rattle.tlp_core.specs.Operation.{op_fault}
 use Rattle.tlp_core.specs.TlpView as tlp
+use Rattle.config_packets.specs.declared.request.CfgRequest.{CfgRequest}
 use Rattle.dllp_core.specs.declared.packet.Class.{Class}
 use Rattle.dllp_core.specs.declared.packet.Class.TheVariants as classes
 use Rattle.dllp_core.specs.declared.packet.Dllp.{Dllp}
@@ -22,6 +24,7 @@ use Rattle.operation_text.specs.Operations as operations
 use Rattle.packet_text.specs.declared.packet.Packet.{Packet}
 use Rattle.packet_text.specs.declared.packet.Packet.TheVariants as packets
 use Rattle.packet_text.specs.declared.completion.Completer.{Completer}
+use Rattle.packet_text.specs.declared.configuration.Access.{Access}
 use Rattle.packet_text.specs.declared.fault.TextFault.{TextFault}
 use Rattle.packet_text.specs.declared.fault.TextFault.TheVariants as faults
 
@@ -159,6 +162,74 @@ completion_to s bytes ws =
 abbrev pub completion_of : List (List ℕ) → Option (Result tlp.TlpView TlpFault)
 completion_of ws = field status (λ s rest. then_with (data_to rest) (λ d. completion_to s d.0 d.1)) ws
 
+-- ---- configuration requests
+
+-- a read or a write, the second one of Type 1
+abbrev pub access : List ℕ → Option Access
+access w =
+    if bytes_eq w (codes "cfgread") then Some (record { writes = false; is_type_1 = false })
+    else (if bytes_eq w (codes "cfgread1") then Some (record { writes = false; is_type_1 = true })
+    else (if bytes_eq w (codes "cfgwrite") then Some (record { writes = true; is_type_1 = false })
+    else (if bytes_eq w (codes "cfgwrite1") then Some (record { writes = true; is_type_1 = true }) else None)))
+
+abbrev pub at_most : ℕ → ℕ → Option ℕ
+at_most most n = if nat_lt most n then None else Some n
+
+-- a number of one or two digits, without a leading zero
+abbrev pub short : ℕ → List ℕ → Option ℕ
+short most (a ∷ []) = then_with (digit a) (at_most most)
+short most (a ∷ b ∷ []) = if a == 48 then None else then_with (octet (a ∷ b ∷ [])) (at_most most)
+short most _ = None
+
+-- the one or two characters before a mark, and what is behind it
+abbrev pub cut_second : ℕ → ℕ → ℕ → List ℕ → Option (List ℕ × List ℕ)
+cut_second mark a b [] = None
+cut_second mark a b (c ∷ cs) = if c == mark then Some (a ∷ b ∷ [], cs) else None
+
+abbrev pub cut_at : ℕ → List ℕ → Option (List ℕ × List ℕ)
+cut_at mark (a ∷ b ∷ cs) = if b == mark then Some (a ∷ [], cs) else cut_second mark a b cs
+cut_at mark _ = None
+
+-- a bus, a colon, a device of 0 to 1F, a point and a function of 0 to 7
+abbrev pub function : List ℕ → Option (ℕ × ℕ × ℕ)
+function w =
+    then_with (cut_at 58 w) (λ b. then_with (cut_at 46 b.1) (λ d.
+    then_with (short 255 b.0) (λ bus. then_with (short 31 d.0) (λ device. then_with (short 7 d.1) (λ n. Some (bus, device, n))))))
+
+-- a register's offset: three digits, and a multiple of 4
+abbrev pub register : List ℕ → Option ℕ
+register w = then_with (sequence w) (λ n. if n % 4 == 0 then Some n else None)
+
+-- First DW BE: one digit
+abbrev pub enables : List ℕ → Option ℕ
+enables w = numeral 16 15 w
+
+-- four bytes in memory order
+abbrev pub dw : List ℕ → Option ℕ
+dw w = then_with (byte_string w) (λ bytes. if length bytes == 4 then Some (little_number 4 bytes) else None)
+
+-- what is written; a read has no such word, and 0 stands for it
+abbrev pub written : Bool → List (List ℕ) → Option (ℕ × List (List ℕ))
+written true ws = first_field dw ws
+written false ws = Some (0, ws)
+
+-- the request behind its name; no Traffic Class and no attributes end the line
+abbrev pub configuration_of : Access → List (List ℕ) → Option CfgRequest
+configuration_of a ws =
+    field function (λ f. field register (λ r. field enables (λ e rest. then_with (written a.writes rest) (λ v. keyword (codes "from") (λ last.
+    then_with (id_and_tag last) (λ o. ended (record {
+      writes = a.writes;
+      is_type_1 = a.is_type_1;
+      requester = o.0.0;
+      tag = o.0.1;
+      bus = f.0;
+      device = f.1;
+      function = f.2;
+      register = r;
+      enables = e;
+      value = v.0;
+    }) o.1)) v.1)))) ws
+
 -- ---- DLLPs
 
 abbrev pub credits : List ℕ → Option Class
@@ -187,14 +258,23 @@ tlp_read None = Err faults.Words
 tlp_read (Some (Err f)) = Err (faults.Packet f)
 tlp_read (Some (Ok t)) = Ok (packets.Tlp t)
 
--- by the first word; a request begins with its operation
+abbrev pub configuration_read : Option CfgRequest → Result Packet TextFault
+configuration_read None = Err faults.Words
+configuration_read (Some r) = Ok (packets.Configuration r)
+
+-- a request begins with its operation
+abbrev pub request_read : List ℕ → Option Access → List (List ℕ) → Result Packet TextFault
+request_read line (Some a) ws = configuration_read (configuration_of a ws)
+request_read line None ws = tlp_read (request_of line)
+
+-- by the first word
 abbrev pub read_by : List ℕ → List ℕ → List (List ℕ) → Result Packet TextFault
 read_by line kind ws =
     if bytes_eq kind (codes "completion") then tlp_read (completion_of ws)
     else (if bytes_eq kind (codes "ack") then dllp_read (ack_of ws)
     else (if bytes_eq kind (codes "nak") then dllp_read (nak_of ws)
     else (if bytes_eq kind (codes "update") then dllp_read (update_of ws)
-    else tlp_read (request_of line))))
+    else request_read line (access kind) ws)))
 
 abbrev pub read_first : List ℕ → List (List ℕ) → Result Packet TextFault
 read_first line [] = Err faults.Words

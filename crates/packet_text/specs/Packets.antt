@@ -1,10 +1,16 @@
--- Packets of both kinds, TLPs and DLLPs, and their bytes.
+-- Packets of all kinds, TLPs, configuration requests and DLLPs, and their bytes.
 use Rattle.std.specs.Prelude.{ℕ, ◌^◌, ◌<◌, ◌==◌, if◌then◌else◌, List, length, Result, Ok, Err}
 use Rattle.tlp_core.specs.declared.fault.TlpFault.{TlpFault}
+use Rattle.tlp_core.specs.declared.fault.TlpFault.TheVariants as of_tlps
 use Rattle.tlp_core.specs.Bits.{IsBytes}
 use Rattle.tlp_core.specs.TlpView as tlp
 use Rattle.tlp_core.specs.Layout as tlp_layout
 use Rattle.tlp_core.specs.Faults as tlp_faults
+use Rattle.config_packets.specs.declared.request.CfgRequest.{CfgRequest}
+use Rattle.config_packets.specs.declared.fault.CfgFault.{CfgFault}
+use Rattle.config_packets.specs.declared.fault.CfgFault.TheVariants as of_requests
+use Rattle.config_packets.specs.Layout as configuration
+use Rattle.config_packets.specs.Canonical as configuration_bytes
 use Rattle.dllp_core.specs.declared.packet.Dllp.{Dllp}
 use Rattle.dllp_core.specs.declared.fault.DllpFault.{DllpFault}
 use Rattle.dllp_core.specs.Layout as dllp_layout
@@ -26,28 +32,44 @@ pub record IsTlp (t : tlp.TlpView) : Type 0 where
 
 abbrev pub IsPacket : Packet → Type 0
 IsPacket (packets.Tlp t) = IsTlp t
+IsPacket (packets.Configuration r) = configuration_bytes.FitsFields r
 IsPacket (packets.Dllp d) = dllp_layout.FitsFields d
 
--- what a DLLP says of data credits fits its field
-abbrev pub FitsDataFC : Packet → Type 0
-FitsDataFC (packets.Tlp t) = Unit {0}
-FitsDataFC (packets.Dllp d) = dllp_layout.FitsDataFC d
+-- the numbers that may be too great for their fields aren't: those of a configuration request, and a DLLP's data credits
+abbrev pub FitsFields : Packet → Type 0
+FitsFields (packets.Tlp t) = Unit {0}
+FitsFields (packets.Configuration r) = configuration_bytes.FitsFields r
+FitsFields (packets.Dllp d) = dllp_layout.FitsDataFC d
 
 -- ---- bytes
 
-abbrev pub of_tlp : Result tlp.TlpView TlpFault → Result Packet BytesFault
-of_tlp (Ok t) = Ok (packets.Tlp t)
-of_tlp (Err f) = Err (faults.Tlp f)
+abbrev pub of_configuration_fault : CfgFault → BytesFault
+of_configuration_fault of_requests.Kind = faults.Tlp of_tlps.Kind
+of_configuration_fault f = faults.Configuration f
+
+-- what bytes are whose first byte is of no other TLP
+abbrev pub of_other : Result CfgRequest CfgFault → Result Packet BytesFault
+of_other (Ok r) = Ok (packets.Configuration r)
+of_other (Err f) = Err (of_configuration_fault f)
+
+abbrev pub of_tlp_fault : List ℕ → TlpFault → Result Packet BytesFault
+of_tlp_fault bytes of_tlps.Kind = of_other (configuration.reading bytes)
+of_tlp_fault bytes f = Err (faults.Tlp f)
+
+abbrev pub of_tlp : List ℕ → Result tlp.TlpView TlpFault → Result Packet BytesFault
+of_tlp bytes (Ok t) = Ok (packets.Tlp t)
+of_tlp bytes (Err f) = of_tlp_fault bytes f
 
 abbrev pub of_dllp : Result Dllp DllpFault → Result Packet BytesFault
 of_dllp (Ok d) = Ok (packets.Dllp d)
 of_dllp (Err f) = Err (faults.Dllp f)
 
--- four bytes are read as a DLLP, and any other number as a TLP
+-- four bytes are read as a DLLP, and any other number as a TLP, which may be a configuration request
 abbrev pub reading : List ℕ → Result Packet BytesFault
-reading bytes = if length bytes == 4 then of_dllp (dllp_faults.reading bytes) else of_tlp (tlp_faults.reading bytes)
+reading bytes = if length bytes == 4 then of_dllp (dllp_faults.reading bytes) else of_tlp bytes (tlp_faults.reading bytes)
 
 -- the one spelling with zeros in all ignored bits, and for a TLP with the shortest header
 abbrev pub canonical : Packet → List ℕ
 canonical (packets.Tlp t) = tlp_layout.canonical t
+canonical (packets.Configuration r) = configuration_bytes.canonical r
 canonical (packets.Dllp d) = dllp_layout.canonical d

@@ -20,7 +20,7 @@ const COUNT_WORD: Expected = Expected::Named("'count'");
 const LOWER_WORD: Expected = Expected::Named("'lower'");
 
 /// Completer ID, Byte Count and Lower Address.
-#[derive(Clone, Copy, Debug, PartialEq, Eq)]
+#[derive(Clone, Copy)]
 pub(crate) struct Completer {
     pub completer: u16,
     /// 1 to 4096.

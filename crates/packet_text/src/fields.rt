@@ -65,14 +65,14 @@ pub(crate) fn named<'a>(
 }
 
 /// The value of a hexadecimal digit.
-fn digit(c: u8) -> Option<u8>
+pub(crate) fn digit(c: u8) -> Option<u8>
     ensures value { result ≡ forms.digit c }
     ensures range { IfSome result (λ n. n < 16) }
 {
     Some(char::from(c).to_digit(16)? as u8)
 }
 
-fn octet_in(word: &[u8]) -> Option<u8>
+pub(crate) fn octet_in(word: &[u8]) -> Option<u8>
     ensures { result ≡ forms.octet word.now }
 {
     match word {
@@ -81,7 +81,7 @@ fn octet_in(word: &[u8]) -> Option<u8>
     }
 }
 
-fn sequence_in(word: &[u8]) -> Option<u16>
+pub(crate) fn sequence_in(word: &[u8]) -> Option<u16>
     ensures value { result ≡ forms.sequence word.now }
     ensures range { IfSome result (λ n. n < 4096) }
 {

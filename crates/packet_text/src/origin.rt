@@ -8,6 +8,8 @@ use crate::fields::{id, keyword, named, tag};
 use operation_text::{Expected, LINE_END, Misfit, is_ended};
 use requester_core::Origin;
 
+pub(crate) const FROM: Expected = Expected::Named("'from'");
+
 const TAG_WORD: Expected = Expected::Named("'tag'");
 
 const TC_OR_END: Expected = Expected::Named("'tc', 'attr' or the line's end");

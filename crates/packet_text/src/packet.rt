@@ -1,11 +1,15 @@
-//! A packet of either kind.
+//! A packet of any kind.
 
+use config_packets::CfgRequest;
 use dllp_core::Dllp;
 use tlp_core::Tlp;
 
 /// A packet of the transaction layer or of the data link layer.
-#[derive(Debug, PartialEq, Drop)]
+#[derive(Drop)]
 pub enum Packet {
+    /// A memory request, an AtomicOp or a completion.
     Tlp(Tlp),
+    /// A TLP that reads or writes a configuration register.
+    Configuration(CfgRequest),
     Dllp(Dllp),
 }

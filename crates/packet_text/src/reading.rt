@@ -1,6 +1,7 @@
 //! The packet that a line spells.
 ghost use Rattle.std.specs.Prelude.{◌≡◌, ◌<◌, take, codes, bytes_eq, option_map, Ok, Err, IfOk, IfErr};
 ghost use Rattle.std.specs.Result.{result_ok};
+ghost use Rattle.config_packets.specs.Canonical.{FitsFields};
 ghost use Rattle.dllp_core.specs.Layout as dllps;
 ghost use Rattle.operation_text.specs.Words.{words, words_behind};
 ghost use Rattle.packet_text.specs.Packets as packets;
@@ -8,10 +9,12 @@ ghost use Rattle.packet_text.specs.Faults.{fault_of};
 ghost use Rattle.packet_text.specs.Forms as forms;
 
 use crate::completion::completion;
+use crate::configuration::{access_in, configuration};
 use crate::fault::{TextFault, Unread};
 use crate::fields::{credits, sequence};
-use crate::origin::{id_and_tag, origin_with};
+use crate::origin::{FROM, id_and_tag, origin_with};
 use crate::packet::Packet;
+use config_packets::CfgRequest;
 use dllp_core::Dllp;
 use operation_text::{Expected, LINE_END, Misfit, OPERATION, alone, number, read_op, split_word};
 use requester_core::{Origin, request_with};
@@ -24,7 +27,8 @@ const PACKET: Expected = Expected::Of(
     "read, write, add, swap, cas, completion, ack, nak, update",
 );
 
-const FROM: Expected = Expected::Named("'from'");
+/// The same, where that word begins as a configuration request's.
+const CONFIGURATION: Expected = Expected::Of("a packet", "cfgread, cfgread1, cfgwrite, cfgwrite1");
 
 const HEADERS: Expected = Expected::Between("HdrFC", 0, 255);
 
@@ -61,13 +65,22 @@ fn origin(text: &[u8]) -> Result<Origin, Misfit>
     origin_with(requester, tag, rest)
 }
 
-/// The misfit of an operation, in a line that has `behind` bytes more: the operation is a packet's, and
+/// What is expected at the front of a line that has the name of no packet.
+fn packet_expected(line: &[u8]) -> Expected {
+    if line.starts_with(b"cfg") {
+        CONFIGURATION
+    } else {
+        PACKET
+    }
+}
+
+/// The misfit of an operation at the front of a line, which has `behind` bytes more: the operation is a packet's, and
 /// ends before ` from `.
-fn in_request(misfit: Misfit, behind: usize) -> Misfit {
+fn in_request(misfit: Misfit, line: &[u8], behind: usize) -> Misfit {
     let expected = if misfit.expected == LINE_END {
         FROM
     } else if misfit.expected == OPERATION {
-        PACKET
+        packet_expected(line)
     } else {
         misfit.expected
     };
@@ -83,7 +96,7 @@ fn in_request(misfit: Misfit, behind: usize) -> Misfit {
 fn without_origin(line: &[u8]) -> Misfit {
     match read_op(line, &mut [0; MAX_PAYLOAD]) {
         Ok(_) => FROM.at(None),
-        Err(misfit) => in_request(misfit, 0),
+        Err(misfit) => in_request(misfit, line, 0),
     }
 }
 
@@ -100,7 +113,10 @@ fn request_of(line: &[u8]) -> Result<Result<Tlp, TlpFault>, Misfit>
             let origin = origin(behind)?;
             Ok(request_with(&op, origin))
         }
-        Err(misfit) => Err(in_request(misfit, line.len().saturating_sub(text.len()))),
+        Err(misfit) => {
+            let behind = line.len().saturating_sub(text.len());
+            Err(in_request(misfit, line, behind))
+        }
     }
 }
 
@@ -133,7 +149,7 @@ fn update(rest: Option<&[u8]>) -> Result<Dllp, Misfit>
 fn told_dllp(read: &Result<Dllp, Misfit>) -> Result<Packet, Unread>
     ensures ok { IfOk result (λ p. forms.dllp_read (result_ok read.now) ≡ Ok p) }
     ensures err { IfErr result (λ e. forms.dllp_read (result_ok read.now) ≡ Err (fault_of e)) }
-    ensures in_range { IfOk read.now dllps.FitsDataFC → IfOk result packets.FitsDataFC }
+    ensures in_range { IfOk read.now dllps.FitsDataFC → IfOk result packets.FitsFields }
 {
     match read {
         Ok(dllp) => Ok(Packet::Dllp(*dllp)),
@@ -145,7 +161,7 @@ fn told_dllp(read: &Result<Dllp, Misfit>) -> Result<Packet, Unread>
 fn told_tlp(read: Result<Result<Tlp, TlpFault>, Misfit>) -> Result<Packet, Unread>
     ensures ok { IfOk result (λ p. forms.tlp_read (result_ok read) ≡ Ok p) }
     ensures err { IfErr result (λ e. forms.tlp_read (result_ok read) ≡ Err (fault_of e)) }
-    ensures in_range { IfOk result packets.FitsDataFC }
+    ensures in_range { IfOk result packets.FitsFields }
 {
     match read {
         Ok(Ok(tlp)) => Ok(Packet::Tlp(tlp)),
@@ -154,11 +170,22 @@ fn told_tlp(read: Result<Result<Tlp, TlpFault>, Misfit>) -> Result<Packet, Unrea
     }
 }
 
+fn told_configuration(read: &Result<CfgRequest, Misfit>) -> Result<Packet, Unread>
+    ensures ok { IfOk result (λ p. forms.configuration_read (result_ok read.now) ≡ Ok p) }
+    ensures err { IfErr result (λ e. forms.configuration_read (result_ok read.now) ≡ Err (fault_of e)) }
+    ensures in_range { IfOk read.now FitsFields → IfOk result packets.FitsFields }
+{
+    match read {
+        Ok(request) => Ok(Packet::Configuration(*request)),
+        Err(misfit) => Err(Unread::Words(*misfit)),
+    }
+}
+
 /// The packet that the line spells, or what keeps it from spelling one. Takes no memory.
 pub fn read_words(line: &[u8]) -> Result<Packet, Unread>
     ensures ok { IfOk result (λ p. forms.text_reading line.now ≡ Ok p) }
     ensures err { IfErr result (λ e. forms.text_reading line.now ≡ Err (fault_of e)) }
-    ensures in_range { IfOk result packets.FitsDataFC }
+    ensures in_range { IfOk result packets.FitsFields }
 {
     let (kind, rest) = split_word(line);
     if kind == b"completion".as_slice() {
@@ -169,6 +196,8 @@ pub fn read_words(line: &[u8]) -> Result<Packet, Unread>
         told_dllp(&nak(rest))
     } else if kind == b"update".as_slice() {
         told_dllp(&update(rest))
+    } else if let Some(access) = access_in(kind) {
+        told_configuration(&configuration(access, rest))
     } else {
         told_tlp(request_of(line))
     }
@@ -178,7 +207,7 @@ pub fn read_words(line: &[u8]) -> Result<Packet, Unread>
 /// operation or of data of which the grammar has no packet. Takes no memory.
 pub fn read_packet(line: &[u8]) -> Result<Packet, TextFault>
     ensures value { result ≡ forms.text_reading line.now }
-    ensures in_range { IfOk result packets.FitsDataFC }
+    ensures in_range { IfOk result packets.FitsFields }
 {
     match read_words(line) {
         Ok(packet) => Ok(packet),

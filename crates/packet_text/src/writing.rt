@@ -3,14 +3,20 @@ ghost use Rattle.std.specs.Prelude.{◌≡◌, ◌≤◌, ◌<◌, ◌+◌, ◌*
 ghost use Rattle.arrayvec.specs.ArrayString.{array_string_len};
 ghost use Rattle.operation_text.specs.Texts.{op_text};
 ghost use Rattle.hex.specs.Hex.{encode_upper};
+ghost use Rattle.config_packets.specs.Layout as configuration;
 ghost use Rattle.packet_text.specs.Packets as packets;
 ghost use Rattle.packet_text.specs.Texts as texts;
 
-use crate::fault::{BytesFault, TextFault};
+use crate::bytes::of_other;
+use crate::fault::{BytesFault, TextFault, configuration_number};
 use crate::packet::Packet;
 use arrayvec::ArrayString;
+use config_packets::{CfgFault, CfgRequest};
 use dllp_core::{Class, Dllp, DllpFault};
-use operation_text::{write_bytes, write_decimal, write_octet, write_op, write_sequence};
+use operation_text::{
+    write_bytes, write_decimal, write_hexadecimal, write_octet, write_op, write_sequence,
+};
+use seq12::Seq12;
 use tlp_core::{Body, Kind, OpRef, Status, TlpFault, TlpRef, decode_lent, op_lent};
 
 /// Adds four digits.
@@ -47,14 +53,23 @@ fn put_class(tlp: &TlpRef<'_>, out: &mut ArrayString<512>)
 }
 
 /// Adds Requester ID and tag.
+fn put_id_and_tag(requester: u16, tag: u8, out: &mut ArrayString<512>)
+    requires { array_string_len out.old + 11 ≤ 512 }
+    ensures text { out.new.bytes ≡ out.old.bytes ++ texts.id_and_tag_text requester tag }
+    ensures len { array_string_len out.new ≡ array_string_len out.old + 11 }
+{
+    put_id(requester, out);
+    out.push_str(" tag ");
+    write_octet(tag, out);
+}
+
+/// Adds Requester ID and tag of a TLP.
 fn put_origin(tlp: &TlpRef<'_>, out: &mut ArrayString<512>)
     requires { array_string_len out.old + 11 ≤ 512 }
     ensures text { out.new.bytes ≡ out.old.bytes ++ texts.origin_text tlp.now }
     ensures len { array_string_len out.new ≡ array_string_len out.old + 11 }
 {
-    put_id(tlp.header.requester, out);
-    out.push_str(" tag ");
-    write_octet(tlp.header.tag, out);
+    put_id_and_tag(tlp.header.requester, tlp.header.tag, out);
 }
 
 fn put_request(tlp: &TlpRef<'_>, op: &OpRef<'_>, out: &mut ArrayString<512>)
@@ -183,6 +198,71 @@ fn put_dllp(dllp: Dllp, out: &mut ArrayString<512>)
     }
 }
 
+fn put_access(request: &CfgRequest, out: &mut ArrayString<512>)
+    requires { array_string_len out.old + 9 ≤ 512 }
+    ensures text { out.new.bytes ≡ out.old.bytes ++ texts.access_text request.now.writes request.now.is_type_1 }
+    ensures len { array_string_len out.new ≤ array_string_len out.old + 9 }
+{
+    out.push_str(match (request.writes, request.is_type_1) {
+        (false, false) => "cfgread",
+        (false, true) => "cfgread1",
+        (true, false) => "cfgwrite",
+        (true, true) => "cfgwrite1",
+    });
+}
+
+/// Adds bus, device and function.
+fn put_function(request: &CfgRequest, out: &mut ArrayString<512>)
+    requires { array_string_len out.old + 50 ≤ 512 }
+    ensures text { out.new.bytes ≡ out.old.bytes ++ texts.function_text request.now.bus request.now.device request.now.function }
+    ensures len { array_string_len out.new ≤ array_string_len out.old + 50 }
+{
+    write_hexadecimal(u64::from(request.bus), out);
+    out.push_str(":");
+    write_hexadecimal(u64::from(request.device), out);
+    out.push_str(".");
+    write_hexadecimal(u64::from(request.function), out);
+}
+
+/// Adds a register's offset, of 12 bits, and First DW BE.
+fn put_register(request: &CfgRequest, out: &mut ArrayString<512>)
+    requires { array_string_len out.old + 20 ≤ 512 }
+    ensures text { out.new.bytes ≡ out.old.bytes ++ texts.register_text request.now.register request.now.enables }
+    ensures len { array_string_len out.new ≤ array_string_len out.old + 20 }
+{
+    write_sequence(Seq12::new(request.register % 4096), out);
+    out.push_str(" ");
+    write_hexadecimal(u64::from(request.enables), out);
+}
+
+/// Adds what a write writes.
+fn put_written(request: &CfgRequest, out: &mut ArrayString<512>)
+    requires { array_string_len out.old + 9 ≤ 512 }
+    ensures text { out.new.bytes ≡ out.old.bytes ++ texts.written_text request.now.writes request.now.value }
+    ensures len { array_string_len out.new ≤ array_string_len out.old + 9 }
+{
+    if request.writes {
+        out.push_str(" ");
+        write_bytes(&request.value.to_le_bytes(), out);
+    }
+}
+
+/// Adds the text of a configuration request.
+fn put_configuration(request: &CfgRequest, out: &mut ArrayString<512>)
+    requires { array_string_len out.old + 400 ≤ 512 }
+    ensures text { out.new.bytes ≡ out.old.bytes ++ texts.configuration_text request.now }
+    ensures len { array_string_len out.new ≤ array_string_len out.old + 400 }
+{
+    put_access(request, out);
+    out.push_str(" ");
+    put_function(request, out);
+    out.push_str(" ");
+    put_register(request, out);
+    put_written(request, out);
+    out.push_str(" from ");
+    put_id_and_tag(request.requester, request.tag, out);
+}
+
 /// Adds the text of the packet, at most 400 bytes.
 pub fn write_packet(packet: &Packet, out: &mut ArrayString<512>)
     requires { array_string_len out.old + 400 ≤ 512 }
@@ -191,6 +271,7 @@ pub fn write_packet(packet: &Packet, out: &mut ArrayString<512>)
 {
     match packet {
         Packet::Tlp(tlp) => put_tlp(&tlp.lend(), out),
+        Packet::Configuration(request) => put_configuration(request, out),
         Packet::Dllp(dllp) => put_dllp(*dllp, out),
     }
 }
@@ -216,6 +297,14 @@ fn put_tlp_fault(fault: TlpFault, out: &mut ArrayString<512>)
     put_fault(fault.number(), fault.name(), out);
 }
 
+fn put_configuration_fault(fault: CfgFault, out: &mut ArrayString<512>)
+    requires { array_string_len out.old + 41 ≤ 512 }
+    ensures text { out.new.bytes ≡ out.old.bytes ++ texts.configuration_fault_text fault }
+    ensures len { array_string_len out.new ≤ array_string_len out.old + 41 }
+{
+    put_fault(configuration_number(fault), fault.name(), out);
+}
+
 fn put_dllp_fault(fault: DllpFault, out: &mut ArrayString<512>)
     requires { array_string_len out.old + 41 ≤ 512 }
     ensures text { out.new.bytes ≡ out.old.bytes ++ texts.dllp_fault_text fault }
@@ -232,13 +321,33 @@ pub fn write_bytes_fault(fault: BytesFault, out: &mut ArrayString<512>)
 {
     match fault {
         BytesFault::Tlp(fault) => put_tlp_fault(fault, out),
+        BytesFault::Configuration(fault) => put_configuration_fault(fault, out),
         BytesFault::Dllp(fault) => put_dllp_fault(fault, out),
+    }
+}
+
+/// Adds what bytes of no kind of TLP are read as, at most 400 bytes, and says whether that is a packet.
+fn put_other(bytes: &[u8], out: &mut ArrayString<512>) -> bool
+    requires { array_string_len out.old + 400 ≤ 512 }
+    ensures value { result ≡ is_ok (packets.of_other (configuration.reading bytes.now)) }
+    ensures text { out.new.bytes ≡ out.old.bytes ++ texts.decoded_text (packets.of_other (configuration.reading bytes.now)) }
+    ensures len { array_string_len out.new ≤ array_string_len out.old + 400 }
+{
+    match of_other(bytes) {
+        Ok(packet) => {
+            write_packet(&packet, out);
+            true
+        }
+        Err(fault) => {
+            write_bytes_fault(fault, out);
+            false
+        }
     }
 }
 
 /// Adds the text of the packet that the bytes spell, at most 400 bytes, or that of the first of their
 /// faults, and says whether they spell one. Four bytes are read as a DLLP, and any other number as a
-/// TLP, as [`decode`](crate::decode) does.
+/// TLP or a configuration request, as [`decode`](crate::decode) does.
 pub fn write_decoded(bytes: &[u8], out: &mut ArrayString<512>) -> bool
     requires { array_string_len out.old + 400 ≤ 512 }
     ensures value { result ≡ is_ok (packets.reading bytes.now) }
@@ -262,6 +371,7 @@ pub fn write_decoded(bytes: &[u8], out: &mut ArrayString<512>) -> bool
                 put_tlp(&tlp, out);
                 true
             }
+            Err(TlpFault::Kind) => put_other(bytes, out),
             Err(fault) => {
                 put_tlp_fault(fault, out);
                 false

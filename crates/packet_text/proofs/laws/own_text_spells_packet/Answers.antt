@@ -1,5 +1,5 @@
 use Rattle.packet_text.proofs.OpLemmas.{Laws}
-use Rattle.packet_text.proofs.ReadBack.{packet-back, one-packet}
+use Rattle.packet_text.proofs.PacketBack.{packet-back, one-packet}
 use Rattle.packet_text.proofs.BytesLemmas.{Spellings, packet-is}
 use Rattle.packet_text.proofs.LineLemmas.{Printing, printed, letter, short}
 use Rattle.packet_text.proofs.laws.own_text_spells_packet.Goals as goal
@@ -19,11 +19,14 @@ spellings : (c : goal.After-bytes_spell_one_dllp) → Spellings
 spellings c = record {
   of_tlps = c.reading_is_spelling.ensures.spelled;
   of_dllps = c.bytes_spell_one_dllp.ensures.spelled;
+  of_requests = c.reading_is_spelling-2.ensures.fits;
 }
 
 printing : (c : goal.After-bytes_spell_one_dllp) → Printing
 printing c = record {
   of_decimal = λ n. (c.own_digits_spell_number.ensures.printed n).0;
+  of_hexadecimal = λ n. (c.own_digits_spell_number.ensures.printed n).1;
+  hexadecimal_short = λ n h. (c.own_digits_spell_number.ensures.short n h).1;
   of_op = c.own_text_spells_operation.ensures.printed;
   op_short = c.own_text_spells_operation.ensures.short;
 }
