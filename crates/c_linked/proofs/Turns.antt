@@ -1,16 +1,18 @@
 -- Requests act and completions enter, in turn, and what they record.
-use Rattle.std.proofs.Common.{◌≡◌, Bool, true, cond, List, [], ◌∷◌, ◌++◌, Option, None, inl, inr, refl, sym, ap, subst, ◌∙◌}
+use Rattle.std.proofs.Common.{◌≡◌, ℕ, ◌<◌, Bool, true, false, cond, List, [], ◌∷◌, ◌++◌, Option, None, inl, inr, refl, sym, ap, subst, ◌∙◌}
+use Rattle.std.specs.Prelude.{is_some}
 use Rattle.port_core.specs.declared.fault.EnterRefusal.{EnterRefusal}
 use Rattle.endpoint_log.specs.LogView.{LogView}
 use Rattle.endpoint_log.specs.Steps as log
 use Rattle.linked_endpoint.specs.LinkedView.{LinkedView}
-use Rattle.linked_endpoint.specs.Linked.{may_act, acted, refusal_of, entered, IsHeldOrEntered}
+use Rattle.linked_endpoint.specs.Linked.{may_act, acted, turns_left, refusal_of, entered, IsHeldOrEntered}
 use Rattle.linked_endpoint.specs.Runs.{Call, Act, Enter, entered_unless, after_call, after_calls, AreTurns}
+use Rattle.linked_endpoint.proofs.Settling.{completed_less, entered_as_many, held_rests}
 use Rattle.c_recording.specs.declared.recording.Recording.{Recording}
 use Rattle.c_recording.specs.declared.recording.Recording.TheVariants.{Off, On, Lost}
 use Rattle.c_recording.specs.Recordings as recordings
 use Rattle.c_recording.specs.Recordings.{noted, IsOrLost}
-use Rattle.c_linked.specs.SessionView.{SessionView, logged, logged_all, Leads, IsDone}
+use Rattle.c_linked.specs.SessionView.{SessionView, logged, logged_all, Leads, IsTurned, IsDone}
 
 -- ---- recordings
 
@@ -62,12 +64,19 @@ then_leads a b c xs ys h k =
     }
 
 -- these calls, then what is done goes on
-pub then_done : (a b c : SessionView) (xs : List Call) → Leads a xs b → IsDone b [] c → IsDone a xs c
-then_done a b c xs h k = record { turns = k.turns; are = k.are; leads = then_leads a b c xs k.turns h k.leads }
+then_turned : (a b c : SessionView) (xs : List Call) → Leads a xs b → IsTurned b [] c → IsTurned a xs c
+then_turned a b c xs h k = record { turns = k.turns; are = k.are; leads = then_leads a b c xs k.turns h k.leads }
 
-pub then_on : (a b c : SessionView) → IsDone a [] b → IsDone b [] c → IsDone a [] c
+pub then_done : (a b c : SessionView) (xs : List Call) → Leads a xs b → IsDone b [] c → IsDone a xs c
+then_done a b c xs h k = record { turned = then_turned a b c xs h k.turned; rest = k.rest }
+
+pub then_on : (a b c : SessionView) → IsTurned a [] b → IsTurned b [] c → IsTurned a [] c
 then_on a b c h k =
     record { turns = h.turns ++ k.turns; are = are-turns h.turns k.turns h.are k.are; leads = then_leads a b c h.turns k.turns h.leads k.leads }
+
+-- no request may act
+pub at_rest : (a b c : SessionView) → IsTurned a [] b → IsTurned b [] c → may_act c.linked ≡ false → IsDone a [] c
+at_rest a b c h k rest = record { turned = then_on a b c h k; rest = rest }
 
 pub unnoted : (new r : Recording) → IsOrLost new r → IsOrLost new (noted (λ l. l) r)
 unnoted new (Off s) h = h
@@ -75,11 +84,11 @@ unnoted new (On l) h = h
 unnoted new Lost h = h
 
 -- nothing to do
-pub nothing : (a : SessionView) → IsDone a [] a
+pub nothing : (a : SessionView) → IsTurned a [] a
 nothing a = record { turns = []; are = tt; leads = record { linked = refl; recording = unnoted a.recording a.recording (same a.recording) } }
 
-pub no_turns : (old new : SessionView) → new ≡ old → IsDone old [] new
-no_turns old new e = subst (λ (s : SessionView). IsDone old [] s) (sym e) (nothing old)
+pub no_turns : (old new : SessionView) → new ≡ old → IsTurned old [] new
+no_turns old new e = subst (λ (s : SessionView). IsTurned old [] s) (sym e) (nothing old)
 
 -- a call that records nothing
 pub plain_call : (old new : SessionView) (call : Call) → new.linked ≡ after_call old.linked call → new.recording ≡ old.recording → ((l : LogView) → logged old.linked call l ≡ l) → Leads old (call ∷ []) new
@@ -90,7 +99,7 @@ plain_call old new call e f g =
     }
 
 -- a completion enters, and what is done goes on
-pub enters_then : (old between new : SessionView) → refusal_of old.linked ≡ None → between.linked ≡ entered old.linked → between.recording ≡ old.recording → IsDone between [] new → IsDone old [] new
+pub enters_then : (old between new : SessionView) → refusal_of old.linked ≡ None → between.linked ≡ entered old.linked → between.recording ≡ old.recording → IsTurned between [] new → IsTurned old [] new
 enters_then old between new none e f h =
     let is : after_call old.linked Enter ≡ between.linked = ap (λ (o : Option EnterRefusal). entered_unless o old.linked) none ∙ sym e in
     let one : Leads old (Enter ∷ []) between = plain_call old between Enter (sym is) f (λ l. refl) in
@@ -105,7 +114,7 @@ act_leads old new may e h =
     }
 
 -- a request that may act acts, and its completion enters, or is held
-pub acts : (old new : SessionView) → may_act old.linked ≡ true → IsHeldOrEntered (acted old.linked) new.linked → IsOrLost new.recording (recordings.acted old.linked.endpoint old.recording) → IsDone old [] new
+pub acts : (old new : SessionView) → may_act old.linked ≡ true → IsHeldOrEntered (acted old.linked) new.linked → IsOrLost new.recording (recordings.acted old.linked.endpoint old.recording) → IsTurned old [] new
 acts old new may (inl e) h = record { turns = Act ∷ []; are = (tt, tt); leads = act_leads old new may e h }
 acts old new may (inr e) h =
     let between : SessionView = record { linked = acted old.linked; recording = new.recording } in
@@ -115,3 +124,15 @@ acts old new may (inr e) h =
       are = (tt, (tt, tt));
       leads = then_leads old between new (Act ∷ []) (Enter ∷ []) (act_leads old between may refl h) (plain_call between new Enter (sym is) refl (λ l. refl));
     }
+
+-- ---- fewer turns are left
+
+pub fewer : (old new : LinkedView) → may_act old ≡ true → IsHeldOrEntered (acted old) new → turns_left new < turns_left old
+fewer old new may h = completed_less old new may h
+
+pub fewer_entered : (old between new : LinkedView) → between ≡ entered old → turns_left new < turns_left between → turns_left new < turns_left old
+fewer_entered old between new e h = subst (λ (n : ℕ). turns_left new < n) (ap (λ (l : LinkedView). turns_left l) e ∙ entered_as_many old) h
+
+-- a completion is held: no request may act
+pub rests : (old new : LinkedView) → new ≡ old → is_some old.held ≡ true → may_act new ≡ false
+rests old new e h = ap (λ (l : LinkedView). may_act l) e ∙ held_rests old h

@@ -1,5 +1,5 @@
 -- An endpoint behind its link and what is recorded of it, as contracts see them.
-use Rattle.std.specs.Prelude.{◌≡◌, Bool, if◌then◌else◌, List, [], ◌∷◌, ◌++◌}
+use Rattle.std.specs.Prelude.{◌≡◌, Bool, false, if◌then◌else◌, List, [], ◌∷◌, ◌++◌}
 use Rattle.fc_credit.specs.declared.limits.LaneCredits.{LaneCredits}
 use Rattle.config_space.specs.SetupView.{SetupView}
 use Rattle.endpoint_packets.specs.Classes.{becomes}
@@ -39,10 +39,15 @@ pub record Leads (old : SessionView) (calls : List Call) (new : SessionView) : T
   pub recording : IsOrLost new.recording (noted (logged_all old.linked calls) old.recording)
 
 -- these calls, then requests act and completions enter
-pub record IsDone (old : SessionView) (calls : List Call) (new : SessionView) : Type 0 where
+pub record IsTurned (old : SessionView) (calls : List Call) (new : SessionView) : Type 0 where
   pub turns : List Call
   pub are : AreTurns turns
   pub leads : Leads old (calls ++ turns) new
+
+-- the same, until no request may act: none waits, a completion is held, or the next would be refused
+pub record IsDone (old : SessionView) (calls : List Call) (new : SessionView) : Type 0 where
+  pub turned : IsTurned old calls new
+  pub rest : linked.may_act new.linked ≡ false
 
 -- the end of the link changes, and nothing is recorded
 abbrev pub with_linked : SessionView → LinkedView → SessionView

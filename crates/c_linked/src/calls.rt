@@ -23,7 +23,7 @@ use port_core::{
 pub const MAX_PACKET: usize = PACKET_BYTES;
 
 /// What is sent.
-#[derive(Clone, Copy, Debug, PartialEq, Eq)]
+#[derive(Clone, Copy)]
 pub struct Sent {
     /// How many bytes it has, 0 if nothing is to be sent.
     pub length: Length,

@@ -1,10 +1,10 @@
 //! What arrives at the device, and what acts in it, with what is recorded.
-ghost use Rattle.std.specs.Prelude.{◌≡◌, [], true, false, IfOk, OnOk, OnErr};
+ghost use Rattle.std.specs.Prelude.{◌≡◌, ◌<◌, [], true, false, IfOk, OnOk, OnErr};
 ghost use Rattle.c_recording.specs.Recordings.{noted, IsOrLost};
 ghost use Rattle.linked_endpoint.specs.Linked as spec;
 ghost use Rattle.linked_endpoint.specs.Runs.{Receive};
 ghost use Rattle.port_core.specs.Port.{received};
-ghost use Rattle.c_linked.specs.SessionView.{logged, IsDone};
+ghost use Rattle.c_linked.specs.SessionView.{logged, IsTurned, IsDone};
 
 use crate::session::Session;
 use c_recording::what_is_entered_and_answered_acted;
@@ -46,9 +46,11 @@ pub(crate) fn arrive(
 }
 
 /// A request acts, if one may, and is recorded. Returns whether one did.
-#[tactic(auto, using(crate::proofs::Turns::no_turns))]
+#[tactic(auto, using(crate::proofs::Turns::no_turns, crate::proofs::Turns::fewer))]
 fn act(session: &mut Session, room: &mut Room) -> bool
-    ensures { IsDone session.old [] session.new }
+    ensures turned { IsTurned session.old [] session.new }
+    ensures left { result ≡ true → spec.turns_left session.new.linked < spec.turns_left session.old.linked }
+    ensures rest { result ≡ false → spec.may_act session.new.linked ≡ false }
 {
     what_is_entered_and_answered_acted();
     if !session.linked.may_act() {
@@ -60,10 +62,12 @@ fn act(session: &mut Session, room: &mut Room) -> bool
     true
 }
 
-/// The completion that is held enters the replay buffer, and a request acts. Returns whether there may be more to do.
-#[tactic(auto, using(crate::proofs::Turns::no_turns, crate::proofs::Turns::enters_then))]
+/// The completion that is held enters the replay buffer, and a request acts. Returns whether one did.
+#[tactic(auto, using(crate::proofs::Turns::no_turns, crate::proofs::Turns::enters_then, crate::proofs::Turns::fewer_entered, crate::proofs::Turns::rests))]
 fn turn(session: &mut Session, room: &mut Room) -> bool
-    ensures { IsDone session.old [] session.new }
+    ensures turned { IsTurned session.old [] session.new }
+    ensures left { result ≡ true → spec.turns_left session.new.linked < spec.turns_left session.old.linked }
+    ensures rest { result ≡ false → spec.may_act session.new.linked ≡ false }
 {
     if session.linked.enter().is_err() {
         return false;
@@ -71,14 +75,11 @@ fn turn(session: &mut Session, room: &mut Room) -> bool
     act(session, room)
 }
 
-/// Requests act and their completions enter the replay buffer, as far as the peer's credits, the window of 2047 packets and
-/// memory go.
+/// Requests act and their completions enter the replay buffer, until none that waits may act: as far as the peer's credits,
+/// the window of 2047 packets and memory go.
+#[tactic(auto, using(crate::proofs::Turns::no_turns, crate::proofs::Turns::then_on, crate::proofs::Turns::at_rest))]
 pub(crate) fn settle(session: &mut Session, room: &mut Room)
     ensures { IsDone session.old [] session.new }
 {
-    for _ in 0..2048u16 {
-        if !turn(session, room) {
-            return;
-        }
-    }
+    while turn(session, room) {}
 }

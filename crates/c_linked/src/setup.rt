@@ -11,7 +11,7 @@ use fc_credit::LaneCredits;
 /// The credits that an endpoint advertises, in header units and in data units of 16 bytes. They are finite, so what waits
 /// is bounded whatever the peer sends. Those of completions are infinite, since it has no requests.
 #[repr(C)]
-#[derive(Clone, Copy, Debug, PartialEq, Eq)]
+#[derive(Clone, Copy)]
 pub struct FiniteCredits {
     /// Posted headers, 1 to 127.
     pub ph: u8,
@@ -24,7 +24,7 @@ pub struct FiniteCredits {
 }
 
 /// What an endpoint behind its link is made with.
-#[derive(Clone, Copy, Debug, PartialEq, Eq)]
+#[derive(Clone, Copy)]
 pub struct LinkedSetup {
     /// The memory's bytes, a power of two from 4096 to 1,048,576.
     pub size: usize,
@@ -38,7 +38,7 @@ pub struct LinkedSetup {
 }
 
 /// Why no endpoint is made.
-#[derive(Clone, Copy, Debug, PartialEq, Eq)]
+#[derive(Clone, Copy)]
 pub enum NewFailure {
     /// The memory's size is no power of two from 4096 to 1,048,576.
     WrongSize,

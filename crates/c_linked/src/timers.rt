@@ -14,7 +14,7 @@ use port_core::LinkState;
 use std::alloc::Global;
 
 /// The state of a link.
-#[derive(Clone, Copy, Debug, PartialEq, Eq)]
+#[derive(Clone, Copy)]
 pub enum LinkStatus {
     /// The physical layer reports that the link is down.
     Inactive,

@@ -1,5 +1,5 @@
 -- What each call does to a device and its end of a link.
-use Rattle.std.specs.Prelude.{ℕ, ◌≡◌, ◌⊎◌, ◌&&◌, Bool, true, false, nat_lt, if◌then◌else◌, List, [], ◌∷◌, ◌++◌, length, drop, Option, Some, None, is_none}
+use Rattle.std.specs.Prelude.{ℕ, suc, ◌≡◌, ◌⊎◌, ◌&&◌, Bool, true, false, nat_lt, if◌then◌else◌, List, [], ◌∷◌, ◌++◌, length, drop, sum_by, Option, Some, None, is_some, is_none}
 use Rattle.tlp_core.specs.TlpView.{TlpView}
 use Rattle.fc_credit.specs.declared.needs.Need.{Need}
 use Rattle.fc_credit.specs.declared.limits.LaneCredits.{LaneCredits}
@@ -13,6 +13,8 @@ use Rattle.port_core.specs.Port.{PortView}
 use Rattle.config_space.specs.SetupView.{SetupView}
 use Rattle.endpoint_core.specs.declared.endpoint.Handled.{Handled}
 use Rattle.endpoint_core.specs.declared.endpoint.Handled.TheVariants as handles
+use Rattle.endpoint_core.specs.declared.waiting.Waiting.{Waiting}
+use Rattle.endpoint_core.specs.declared.waiting.Waiting.TheVariants as waits
 use Rattle.endpoint_core.specs.EndpointView.{EndpointView}
 use Rattle.endpoint_core.specs.Steps as device
 use Rattle.linked_endpoint.specs.declared.linked.Arrived.{Arrived}
@@ -122,6 +124,15 @@ acted l =
 abbrev pub after_act : LinkedView → LinkedView
 after_act l = if may_act l then acted l else l
 
+-- at most so many turns are left of a request, in each of which it acts: a read acts by one DW at least
+abbrev pub turns_of : Waiting → ℕ
+turns_of (waits.Memory t) = suc t.length
+turns_of (waits.Configuration r) = 1
+turns_of (waits.Refused d n) = 1
+
+abbrev pub turns_left : LinkedView → ℕ
+turns_left l = sum_by turns_of l.endpoint.waiting
+
 -- ---- the completion that is held enters
 
 abbrev pub refusal_for : PortView → Option TlpView → Option EnterRefusal
@@ -130,6 +141,10 @@ refusal_for p (Some t) = port.refusal_of p (need_of t)
 
 abbrev pub refusal_of : LinkedView → Option EnterRefusal
 refusal_of l = refusal_for l.port l.held
+
+-- the completion that is held may enter
+abbrev pub may_enter : LinkedView → Bool
+may_enter l = is_some l.held && is_none (refusal_of l)
 
 abbrev pub entered_with : LinkedView → Option TlpView → LinkedView
 entered_with l None = l

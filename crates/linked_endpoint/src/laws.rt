@@ -1,15 +1,20 @@
 //! What holds of a device behind its end of a link whatever calls are made, whatever its peer and the wires do.
-ghost use Rattle.std.specs.Prelude.{◌≡◌, ◌++◌, ◌∷◌, [], ℕ, List, length, map};
+ghost use Rattle.std.specs.Prelude.{◌≡◌, ◌++◌, ◌∷◌, [], true, ℕ, List, length, map};
+ghost use Rattle.dllp_core.specs.declared.packet.Class.{Class};
 ghost use Rattle.fc_credit.specs.declared.limits.LaneCredits.{LaneCredits};
 ghost use Rattle.link_receiver.specs.Runs.{AreConsecutive};
 ghost use Rattle.port_core.specs.Port.{outgoing_of, outgoing_bytes};
-ghost use Rattle.port_core.specs.Runs.{IsEntered};
+ghost use Rattle.port_core.specs.Init.{is_up, fi1};
+ghost use Rattle.port_core.specs.Runs.{IsEntered, CoversHeaders, CoversUnits, advertised_in};
 ghost use Rattle.config_space.specs.SetupView.{SetupView};
 ghost use Rattle.endpoint_core.specs.Runs as devices;
 ghost use Rattle.linked_endpoint.specs.Runs.{Call, AreCalls, run_in, story, somes, list_of, tlps_within, taken_in, cargos_of};
 
 use endpoint_core::laws::{each_request_leaves_once, whatever_comes};
-use port_core::{Outgoing, what_is_sent_was_entered, whatever_arrives};
+use port_core::{
+    Outgoing, initialization_comes_first, no_more_is_sent_than_the_peer_advertised,
+    what_is_sent_was_entered, whatever_arrives,
+};
 
 /// Whatever calls come, and whatever bytes arrive, since the link came up last: the packets that were accepted have the
 /// numbers 0, 1, 2, .. modulo 4096, each once. The device took the TLP of each that is within its credits, once and in
@@ -47,4 +52,19 @@ pub fn each_accepted_request_acts_once()
     whatever_comes();
     whatever_arrives();
     what_is_sent_was_entered();
+}
+
+/// Whatever calls come, and whatever bytes arrive: a device keeps to its peer's credits. From the last InitFC of FC_INIT1 on,
+/// which is when the link is in DL_Up, CREDIT_LIMIT is what the last UpdateFC that took effect says. In whole numbers, all
+/// completions that entered lie within it.
+pub fn no_more_is_completed_than_the_peer_advertised()
+    ensures headers { (setup : SetupView) (ours : LaneCredits) (calls : List Call) (class : Class) → AreCalls calls →
+        is_up (run_in setup ours calls).linked.port.state ≡ true → CoversHeaders class (story ours (run_in setup ours calls)) }
+    ensures units { (setup : SetupView) (ours : LaneCredits) (calls : List Call) (class : Class) → AreCalls calls →
+        is_up (run_in setup ours calls).linked.port.state ≡ true → CoversUnits class (story ours (run_in setup ours calls)) }
+    ensures up { (setup : SetupView) (ours : LaneCredits) (calls : List Call) → AreCalls calls →
+        is_up (run_in setup ours calls).linked.port.state ≡ fi1 (advertised_in (story ours (run_in setup ours calls)).heard) }
+{
+    initialization_comes_first();
+    no_more_is_sent_than_the_peer_advertised();
 }

@@ -8,5 +8,5 @@
 mod laws;
 mod linked;
 
-pub use laws::each_accepted_request_acts_once;
+pub use laws::{each_accepted_request_acts_once, no_more_is_completed_than_the_peer_advertised};
 pub use linked::{Arrived, LinkedEndpoint, tlp_in};

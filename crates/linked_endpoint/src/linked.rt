@@ -1,5 +1,5 @@
 //! A device and its port.
-ghost use Rattle.std.specs.Prelude.{◌≡◌, ◌<◌, ◌++◌, ◌∷◌, [], if◌then◌else◌, true, is_some, None, IfOk, IfErr, OnOk, OnErr};
+ghost use Rattle.std.specs.Prelude.{◌≡◌, ◌<◌, ◌++◌, ◌∷◌, [], if◌then◌else◌, true, false, is_some, None, IfOk, IfErr, OnOk, OnErr};
 ghost use Rattle.std.specs.VecDeque.{deque_len, deque_capacity};
 ghost use Rattle.fc_credit.specs.Limits.{IsInLimits};
 ghost use Rattle.port_core.specs.Outgoing.{Refuses};
@@ -22,7 +22,7 @@ use std::marker::Model;
 use tlp_core::{Tlp, TlpRef};
 
 /// What became of a packet that arrived.
-#[derive(Clone, Copy, Debug, PartialEq, Eq)]
+#[derive(Clone, Copy, PartialEq)]
 pub enum Arrived {
     /// The link isn't up: it is discarded.
     Dropped,
@@ -298,6 +298,7 @@ impl LinkedEndpoint {
     /// The completion that is held enters the replay buffer. Returns whether there was one. A refusal changes nothing.
     pub fn enter(&mut self) -> Result<bool, EnterRefusal>
         ensures refused { IfErr result (λ r. Refuses (spec.refusal_of self.old) r) }
+        ensures held { OnErr result (is_some self.old.held ≡ true) }
         ensures may { OnOk result (spec.refusal_of self.old ≡ None) }
         ensures answer { IfOk result (λ b. b ≡ is_some self.old.held) }
         ensures ok { OnOk result (self.new ≡ spec.entered self.old) }
@@ -311,27 +312,35 @@ impl LinkedEndpoint {
         Ok(true)
     }
 
-    /// The completion that is held enters the replay buffer, and a request acts. Returns whether there may be more to do.
-    #[tactic(auto, using(crate::proofs::Turns::no_turns, crate::proofs::Turns::one_turn))]
-    fn turn(&mut self, room: &mut Room) -> bool
-        ensures { GoesOn self.old self.new }
+    /// The completion that is held enters the replay buffer, and a request acts. Returns whether one acted. Fails if memory
+    /// can't be allocated for the completion.
+    #[tactic(auto, using(crate::proofs::Turns::no_turns, crate::proofs::Settling::turn_rests, crate::proofs::Settling::turn_enters, crate::proofs::Settling::held_rests, crate::proofs::Settling::memory_enters, crate::proofs::Settling::refused_rests))]
+    fn turn(&mut self, room: &mut Room) -> Result<bool, AllocError>
+        ensures turns { GoesOn self.old self.new }
+        ensures left { IfOk result (λ acted. acted ≡ true → spec.turns_left self.new < spec.turns_left self.old) }
+        ensures acts { IfOk result (λ acted. acted ≡ false → spec.may_act self.new ≡ false) }
+        ensures enters { IfOk result (λ acted. acted ≡ false → spec.may_enter self.new ≡ false) }
+        ensures err { OnErr result (spec.may_enter self.new ≡ true) }
     {
-        if self.enter().is_err() {
-            return false;
+        match self.enter() {
+            Ok(_) => Ok(self.act(room)),
+            Err(EnterRefusal::Memory) => Err(AllocError),
+            Err(_) => Ok(false),
         }
-        self.act(room)
     }
 
-    /// Requests act and their completions enter the replay buffer, as far as the peer's credits, the window of 2047 packets
-    /// and memory go.
-    pub fn settle(&mut self, room: &mut Room)
-        ensures { GoesOn self.old self.new }
+    /// Requests act and their completions enter the replay buffer, until none that waits may act, and no completion that is
+    /// held may enter: as far as the peer's credits and the window of 2047 packets go. Fails if memory can't be allocated for
+    /// a completion: it is held.
+    #[tactic(auto, using(crate::proofs::Turns::no_turns, crate::proofs::Turns::then_on))]
+    pub fn settle(&mut self, room: &mut Room) -> Result<(), AllocError>
+        ensures turns { GoesOn self.old self.new }
+        ensures done { OnOk result (spec.may_act self.new ≡ false) }
+        ensures entered { OnOk result (spec.may_enter self.new ≡ false) }
+        ensures err { OnErr result (spec.may_enter self.new ≡ true) }
     {
-        for _ in 0..2048u16 {
-            if !self.turn(room) {
-                return;
-            }
-        }
+        while self.turn(room)? {}
+        Ok(())
     }
 
     /// The completion enters the replay buffer. If it is refused, it is held.

@@ -25,7 +25,7 @@ use Rattle.endpoint_log.specs.LogView.{LogView}
 use Rattle.endpoint_log.specs.Steps.{new_log, came}
 use Rattle.endpoint_laws.specs.Runs.{logged, AreBytes}
 use Rattle.linked_endpoint.specs.LinkedView.{LinkedView}
-use Rattle.linked_endpoint.specs.Linked.{is_taken, after_arrival, may_act, is_last, given_back, entered_with, refusal_of}
+use Rattle.linked_endpoint.specs.Linked.{is_taken, after_arrival, may_act, turns_left, is_last, given_back, entered_with, refusal_of}
 use Rattle.linked_endpoint.specs.Runs.{Up, Down, ReceiveDllp, entered_unless}
 use Rattle.hex_text.specs.Line.{digits_of}
 use Rattle.text_lines.specs.Lines.{lines_of, bare, said, is_skipped}
@@ -134,7 +134,7 @@ module _ (law : Law) (s : SetupView) where
   either false x y p q = q
 
   arrival_traced : (u : LinkLines) (packet : List ℕ) (good : Bool) → IsBytes packet → IsTraced s u → IsTraced s (answer_arrival u packet good).state
-  arrival_traced u packet good bytes i = turns_traced law s 2048 (received u packet good) (received_traced law s u packet good bytes i)
+  arrival_traced u packet good bytes i = turns_traced law s (turns_left (received u packet good).linked) (received u packet good) (received_traced law s u packet good bytes i)
 
   checked_traced : (u : LinkLines) (k : LcrcCheck) (packet : List ℕ) → IsBytes packet → IsTraced s u → IsTraced s (answer_checked u k packet).state
   checked_traced u checks.Good packet bytes i = arrival_traced u packet true bytes i
@@ -152,7 +152,7 @@ module _ (law : Law) (s : SetupView) where
   packet_traced u (Some m) i = packet_bytes_traced u (decode_of (digits_of m.0)) m.1 (λ b e. (decode_of-ok (digits_of m.0) b e).3) i
 
   hearing_traced : (u : LinkLines) (bytes : List ℕ) (good : Bool) → IsTraced s u → IsTraced s (answer_hearing u bytes good).state
-  hearing_traced u bytes good i = turns_traced law s 2048 (called u (ReceiveDllp bytes good)) (kept s u (called u (ReceiveDllp bytes good)) refl refl i)
+  hearing_traced u bytes good i = turns_traced law s (turns_left (called u (ReceiveDllp bytes good)).linked) (called u (ReceiveDllp bytes good)) (kept s u (called u (ReceiveDllp bytes good)) refl refl i)
 
   dllp_bytes_traced : (u : LinkLines) (r : Result (List ℕ) FromHexError) (good : Bool) → IsTraced s u → IsTraced s (answer_dllp_bytes u r good).state
   dllp_bytes_traced u (Err e) good i = i

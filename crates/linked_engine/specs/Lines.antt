@@ -59,9 +59,9 @@ unfoldable pub turns : ℕ → LinkLines → LinkLines
 turns zero u = u
 turns (suc n) u = if link.may_act u.linked then turns n (turned u) else u
 
--- requests act as far as the peer's credits and the window of 2047 packets go
+-- requests act as far as the peer's credits and the window of 2047 packets go: there are no more turns to make than these
 abbrev pub settled : LinkLines → LinkLines
-settled u = turns 2048 u
+settled u = turns (link.turns_left u.linked) u
 
 -- ---- a packet arrives
 

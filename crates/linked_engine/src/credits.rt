@@ -8,7 +8,7 @@ use std::marker::Model;
 
 /// The credits that a device advertises, in header units and in data units of 16 bytes. They are finite, so what waits is
 /// bounded whatever the peer sends. Those of completions are infinite, since it has no requests.
-#[derive(Clone, Copy, Debug, PartialEq, Eq)]
+#[derive(Clone, Copy)]
 pub struct FiniteCredits {
     ours: LaneCredits,
 }

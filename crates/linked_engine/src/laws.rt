@@ -1,5 +1,5 @@
 //! What holds of the traces that `trace` prints.
-ghost use Rattle.std.specs.Prelude.{◌≡◌, ℕ, Bool, List, Some, IsSome, true, codes};
+ghost use Rattle.std.specs.Prelude.{◌≡◌, ℕ, Bool, List, Some, IsSome, true, false, codes};
 ghost use Rattle.fc_credit.specs.declared.limits.LaneCredits.{LaneCredits};
 ghost use Rattle.history_words.specs.Clocks.{IsClocked};
 ghost use Rattle.history_words.specs.Trace.{Explains};
@@ -9,6 +9,8 @@ ghost use Rattle.trace_text.specs.Tellable.{IsTellable};
 ghost use Rattle.trace_text.specs.Texts.{trace_text};
 ghost use Rattle.trace_engine.specs.Check.{out_check_clocked};
 ghost use Rattle.endpoint_engine.specs.Recorded.{IsCounted};
+ghost use Rattle.linked_endpoint.specs.Linked.{may_act, may_enter};
+ghost use Rattle.linked_engine.specs.Lines.{LinkLines, settled};
 ghost use Rattle.linked_engine.specs.Traces.{asked, trace_after};
 
 use endpoint_engine::laws::{a_recorded_trace_is_ok, each_call_is_recorded};
@@ -42,3 +44,10 @@ pub fn the_trace_behind_a_link_is_ok()
     each_call_is_recorded();
     a_recorded_trace_is_ok();
 }
+
+/// Behind a packet or a DLLP nothing that may act waits: if no completion that may enter the replay buffer is held before, no
+/// request may act afterwards, and no completion may enter.
+pub fn nothing_that_may_act_waits()
+    ensures acts { (u : LinkLines) → may_act (settled u).linked ≡ false }
+    ensures enters { (u : LinkLines) → may_enter u.linked ≡ false → may_enter (settled u).linked ≡ false }
+{}

@@ -24,9 +24,6 @@ use std::alloc::{AllocError, Global};
 use std::marker::Model;
 use trace_engine::tell_trace;
 
-/// The most requests that act behind one line: more than a replay buffer holds packets.
-const MOST_TURNS: u16 = 2048;
-
 /// A device behind its end of a link.
 #[derive(Drop)]
 pub(crate) struct Lines {
@@ -115,15 +112,13 @@ impl Lines {
         Ok(true)
     }
 
-    /// Requests act and their completions enter the replay buffer, as far as the peer's credits and the window go.
+    /// Requests act and their completions enter the replay buffer, until none that waits may act: as far as the peer's credits
+    /// and the window of 2047 packets go.
+    #[tactic(auto, using(crate::proofs::Turning::over, crate::proofs::Turning::more, crate::proofs::Turning::fewer))]
     fn settle(&mut self) -> Result<(), AllocError>
         ensures { OnOk result (self.new ≡ spec.settled self.old) }
     {
-        for _turn in 0..MOST_TURNS {
-            if !self.turn()? {
-                return Ok(());
-            }
-        }
+        while self.turn()? {}
         Ok(())
     }
 

@@ -3,7 +3,7 @@ use crate::credits::FiniteCredits;
 use endpoint_engine::EndpointOptions;
 
 /// Which device is made, what it advertises, and how packets and DLLPs stand in lines.
-#[derive(Clone, Copy, Debug, PartialEq, Eq)]
+#[derive(Clone, Copy)]
 pub struct LinkedOptions {
     pub device: EndpointOptions,
     pub credits: FiniteCredits,

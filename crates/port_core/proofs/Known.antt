@@ -10,7 +10,7 @@ use Rattle.dllp_core.specs.declared.packet.Dllp.{Dllp}
 use Rattle.dllp_core.specs.declared.packet.Dllp.TheVariants.{Ack, Nak, Update}
 use Rattle.dllp_core.specs.declared.fault.DllpFault.{DllpFault}
 use Rattle.dllp_core.specs.Layout.{Spells}
-use Rattle.tlp_core.specs.TlpView.{TlpView, IsPacket}
+use Rattle.tlp_core.specs.TlpView.{TlpView}
 use Rattle.fc_credit.specs.declared.needs.Need.{Need}
 use Rattle.fc_credit.specs.declared.limits.LaneCredits.{LaneCredits}
 use Rattle.fc_credit.specs.Limits.{least_units}
@@ -38,7 +38,7 @@ use Rattle.port_core.specs.Incoming.{is_good}
 use Rattle.port_core.specs.Outgoing.{leaves_at_most, may_learn, begun}
 use Rattle.port_core.specs.Dues.{due_all_init}
 use Rattle.port_core.specs.Port.{PortView, new_port, recorded, state_after, refusal_in, refusal_of, init_answer, after_init_in, up_answer, after_up, read_answer, after_read, is_inactive, choice_of, after_choice, refreshed_in}
-use Rattle.port_core.specs.Runs.{Call, Up, Down, Receive, ReceiveDllp, Free, Enter, Next, Refresh, Replay, Retrained, AreBytes, IsCall, AreCalls, IsOfPackets, AreOfPackets, Story, story_of, heard_if, without_held, with_entered, with_port, after_call, after_calls, advertised_by, advertised_in, limited_by, IsCovered, IsAllowance, CoversHeaders, CoversUnits, header_of, units_of, headers_in, units_in}
+use Rattle.port_core.specs.Runs.{Call, Up, Down, Receive, ReceiveDllp, Free, Enter, Next, Refresh, Replay, Retrained, AreBytes, IsCall, AreCalls, IsOfFewUnits, AreOfFewUnits, Story, story_of, heard_if, without_held, with_entered, with_port, after_call, after_calls, advertised_by, advertised_in, limited_by, IsCovered, IsAllowance, CoversHeaders, CoversUnits, header_of, units_of, headers_in, units_in}
 use Rattle.port_core.proofs.Dllps.{is_active, IsSpelled, is-read}
 use Rattle.port_core.proofs.Counts.{IsSmall, longer}
 use Rattle.port_core.proofs.Stories.{packet_by}
@@ -500,41 +500,36 @@ refreshed-known Init1 s k = k
 refreshed-known Init2 s k = k
 refreshed-known Active s k = k
 
--- a packet's need is small: a law of the credits' crate
-abbrev pub HasFewUnits : Type 0
-HasFewUnits = (t : TlpView) → IsPacket t → (need_of t).units ≤ least_units (need_of t).class
-
+-- a need of few data units is small
 few : (c : Class) → least_units c ≤ 2047
 few Posted = omega arith
 few NonPosted = omega arith
 few Completion = omega arith
 
-small-packet : HasFewUnits → ((t : TlpView) → (need_of t).header ≡ 1) → (t : TlpView) → IsPacket t → IsSmall (need_of t)
-small-packet units header t is =
-    let few_units = units t is in
+small-need : ((t : TlpView) → (need_of t).header ≡ 1) → (t : TlpView) → (need_of t).units ≤ least_units (need_of t).class → IsSmall (need_of t)
+small-need header t few_units =
     let least = few (need_of t).class in
     let one = header t in
     (omega (arith, one), omega (arith, few_units, least))
 
 pub record Believes : Type 0 where
   pub spelled : IsSpelled
-  pub units : HasFewUnits
   pub header : (t : TlpView) → (need_of t).header ≡ 1
 
-call-known : Believes → (s : Story) (call : Call) → IsCall call → IsOfPackets call → KnownIn s → KnownIn (after_call s call)
+call-known : Believes → (s : Story) (call : Call) → IsCall call → IsOfFewUnits call → KnownIn s → KnownIn (after_call s call)
 call-known b s Up is of k = init1-known _
 call-known b s Down is of k = inactive-known _
 call-known b s (Receive packet good) is of k = packet-known (is_up s.port.state) s packet good k
 call-known b s (ReceiveDllp bytes good) is of k =
     good-known (not good || is_inactive s.port.state) s.port (link_reading bytes) s.heard s.used (λ d e. has-credits bytes d is (b.spelled bytes d (is-read bytes d e))) k
 call-known b s (Free place) is of k = freed-known (slice_get s.held place) s place k
-call-known b s (Enter t) is of k = enter-known (refusal_of s.port (need_of t)) s t refl (small-packet b.units b.header t of) k
+call-known b s (Enter t) is of k = enter-known (refusal_of s.port (need_of t)) s t refl (small-need b.header t of) k
 call-known b s Next is of k = sent-known (choice_of s.port) s k
 call-known b s Refresh is of k = refreshed-known s.port.state s k
 call-known b s Replay is of k = k
 call-known b s Retrained is of k = k
 
-pub calls-known : Believes → (s : Story) (calls : List Call) → AreCalls calls → AreOfPackets calls → KnownIn s → KnownIn (after_calls s calls)
+pub calls-known : Believes → (s : Story) (calls : List Call) → AreCalls calls → AreOfFewUnits calls → KnownIn s → KnownIn (after_calls s calls)
 calls-known b s [] are of k = k
 calls-known b s (call ∷ calls) are of k = calls-known b (after_call s call) calls are.1 of.1 (call-known b s call are.0 of.0 k)
 

@@ -4,9 +4,10 @@ use Rattle.dllp_core.specs.declared.packet.Class.{Class}
 use Rattle.dllp_core.specs.declared.packet.Dllp.{Dllp}
 use Rattle.dllp_core.specs.declared.packet.Dllp.TheVariants.{Ack, Nak, Update}
 use Rattle.dllp_core.specs.declared.fault.DllpFault.{DllpFault}
-use Rattle.tlp_core.specs.TlpView.{TlpView, IsPacket}
+use Rattle.tlp_core.specs.TlpView.{TlpView}
 use Rattle.fc_credit.specs.declared.needs.Need.{Need}
 use Rattle.fc_credit.specs.declared.limits.LaneCredits.{LaneCredits}
+use Rattle.fc_credit.specs.Limits.{least_units}
 use Rattle.fc_credit.specs.Needs.{need_of}
 use Rattle.fc_credit.specs.Credits.{same, gate_of, ledger_of}
 use Rattle.replay_sender.specs.CargoView.{CargoView}
@@ -252,11 +253,11 @@ CoversUnits class s =
     let c = gate_of class s.port.sender.gate in
     IsAllowance 2047 4096 (first_from_peer class s).units (limit_from_peer class s).units c.units.first c.units.limit c.units.consumed (units_in class s.used)
 
--- what is entered is packets
-abbrev pub IsOfPackets : Call → Type 0
-IsOfPackets (Enter t) = IsPacket t
-IsOfPackets _ = Unit {0}
+-- what is entered takes no more data units than a packet of its class can
+abbrev pub IsOfFewUnits : Call → Type 0
+IsOfFewUnits (Enter t) = (need_of t).units ≤ least_units (need_of t).class
+IsOfFewUnits _ = Unit {0}
 
-abbrev pub AreOfPackets : List Call → Type 0
-AreOfPackets [] = Unit {0}
-AreOfPackets (call ∷ calls) = IsOfPackets call × AreOfPackets calls
+abbrev pub AreOfFewUnits : List Call → Type 0
+AreOfFewUnits [] = Unit {0}
+AreOfFewUnits (call ∷ calls) = IsOfFewUnits call × AreOfFewUnits calls

@@ -6,7 +6,7 @@ use crate::init::FirstCredits;
 use dllp_core::{Class, Dllp, DllpFault};
 
 /// Which of the two.
-#[derive(Clone, Copy, Debug, PartialEq, Eq)]
+#[derive(Clone, Copy, PartialEq)]
 pub enum InitStage {
     /// InitFC1, of FC_INIT1.
     First,
@@ -15,7 +15,7 @@ pub enum InitStage {
 }
 
 /// A DLLP of a link.
-#[derive(Clone, Copy, Debug, PartialEq, Eq)]
+#[derive(Clone, Copy, PartialEq)]
 pub enum LinkDllp {
     /// The credits of a class that a port advertises. The units are below 4096.
     Init(InitStage, Class, FirstCredits),

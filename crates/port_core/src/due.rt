@@ -8,7 +8,7 @@ use dllp_core::Class;
 use fc_credit::LaneCredits;
 
 /// A flag for each class.
-#[derive(Clone, Copy, Debug, PartialEq, Eq)]
+#[derive(Clone, Copy)]
 pub struct ClassFlags {
     pub posted: bool,
     pub non_posted: bool,
@@ -16,7 +16,7 @@ pub struct ClassFlags {
 }
 
 /// The DLLPs that are due. A Nak is due as the receiver says.
-#[derive(Clone, Copy, Debug, PartialEq, Eq)]
+#[derive(Clone, Copy)]
 pub struct Due {
     pub ack: bool,
     /// The InitFCs, InitFC1 in FC_INIT1 and afterwards InitFC2.

@@ -2,11 +2,11 @@
 ghost use Rattle.std.specs.Prelude.{◌≡◌};
 
 use dllp_core::{Class, DllpFault};
-use thiserror::Error;
+use std::error::Error;
+use std::fmt;
 
 /// Why a packet isn't taken to be sent, in the order in which it is looked for.
-#[derive(Clone, Copy, Debug, PartialEq, Eq, Error)]
-#[error("{}", self.name())]
+#[derive(Clone, Copy, Debug, PartialEq)]
 pub enum EnterRefusal {
     /// The link isn't initialized.
     NotActive,
@@ -18,9 +18,16 @@ pub enum EnterRefusal {
     Memory,
 }
 
+impl fmt::Display for EnterRefusal {
+    fn fmt<W: fmt::Write>(&self, f: &mut fmt::Formatter<W>) -> fmt::Result {
+        f.write_str(self.name())
+    }
+}
+
+impl Error for EnterRefusal {}
+
 /// What is wrong with a DLLP that arrived.
-#[derive(Clone, Copy, Debug, PartialEq, Eq, Error)]
-#[error("{}", self.name())]
+#[derive(Clone, Copy, Debug, PartialEq)]
 pub enum DllpRefusal {
     /// Its bytes are no DLLP that a port knows. The standard has no error for an unknown type.
     Bytes(DllpFault),
@@ -29,6 +36,14 @@ pub enum DllpRefusal {
     /// More than 127 headers or 2047 data units of a class would be unused: a Flow Control Protocol Error.
     CreditLimit,
 }
+
+impl fmt::Display for DllpRefusal {
+    fn fmt<W: fmt::Write>(&self, f: &mut fmt::Formatter<W>) -> fmt::Result {
+        f.write_str(self.name())
+    }
+}
+
+impl Error for DllpRefusal {}
 
 impl EnterRefusal {
     ghost use Rattle.port_core.specs.Refusals.{enter_number, enter_name};

@@ -10,7 +10,7 @@ use seq12::Seq12;
 use std::marker::Model;
 
 /// What becomes of a packet that arrived.
-#[derive(Clone, Copy, Debug, PartialEq, Eq)]
+#[derive(Clone, Copy, Debug, PartialEq)]
 pub enum Received {
     /// The link isn't up: the packet is discarded, and nothing changes.
     Dropped,
@@ -31,7 +31,7 @@ pub enum Received {
 }
 
 /// NEXT_RCV_SEQ and NAK_SCHEDULED, and the credits that were given.
-#[derive(Clone, Copy, Debug, PartialEq, Eq)]
+#[derive(Clone, Copy)]
 pub struct IncomingEnd {
     receiver: Receiver,
     ledger: CreditLedger,

@@ -6,7 +6,7 @@ use dllp_core::Class;
 use fc_credit::LaneCredits;
 
 /// The state of a port: the standard's DL_Inactive, DL_Init in its two parts, and DL_Active.
-#[derive(Clone, Copy, Debug, PartialEq, Eq)]
+#[derive(Clone, Copy, Debug, PartialEq)]
 pub enum LinkState {
     /// The physical layer reports that the link is down.
     Inactive,
@@ -19,7 +19,7 @@ pub enum LinkState {
 }
 
 /// The credits of a class that an InitFC advertises. 0 is infinite.
-#[derive(Clone, Copy, Debug, PartialEq, Eq)]
+#[derive(Clone, Copy, PartialEq)]
 pub struct FirstCredits {
     /// HdrFC, in header units.
     pub header: u8,
@@ -28,7 +28,7 @@ pub struct FirstCredits {
 }
 
 /// What the peer advertised so far.
-#[derive(Clone, Copy, Debug, PartialEq, Eq)]
+#[derive(Clone, Copy)]
 pub struct Advertised {
     pub posted: Option<FirstCredits>,
     pub non_posted: Option<FirstCredits>,

@@ -10,7 +10,7 @@ ghost use Rattle.replay_sender.specs.Runs.{KeepsTheLast};
 ghost use Rattle.port_core.specs.declared.init.FirstCredits.{FirstCredits};
 ghost use Rattle.port_core.specs.Init.{is_up, fi1, first_of};
 ghost use Rattle.port_core.specs.Dllps.{link_reading, link_bytes};
-ghost use Rattle.port_core.specs.Runs.{Call, AreCalls, AreOfPackets, IsEntered, CoversHeaders, CoversUnits, advertised_in, story_in, headers_in, units_in, allocated_headers, allocated_units};
+ghost use Rattle.port_core.specs.Runs.{Call, AreCalls, AreOfFewUnits, IsEntered, CoversHeaders, CoversUnits, advertised_in, story_in, headers_in, units_in, allocated_headers, allocated_units};
 ghost use Rattle.port_core.specs.Port.{PortView, received, after_receive, dllp_answer, after_dllp_received, outgoing_of, outgoing_bytes, after_next};
 
 use crate::dllp::{InitStage, LinkDllp};
@@ -97,7 +97,7 @@ pub fn what_is_sent_was_entered()
 /// InitFCs of all three classes took effect. It sends packets in DL_Active alone, InitFC1s alone in FC_INIT1, and
 /// nothing in DL_Inactive.
 pub fn initialization_comes_first()
-    ensures up { (ours : LaneCredits) (calls : List Call) → AreCalls calls → AreOfPackets calls →
+    ensures up { (ours : LaneCredits) (calls : List Call) → AreCalls calls → AreOfFewUnits calls →
         is_up (story_in ours calls).port.state ≡ fi1 (advertised_in (story_in ours calls).heard) }
     ensures active { (p : PortView) (number : ℕ) → outgoing_of p ≡ Outgoing.Packet number → p.state ≡ LinkState.Active }
     ensures init1 { (p : PortView) → p.state ≡ LinkState.Init1 →
@@ -112,9 +112,9 @@ pub fn initialization_comes_first()
 /// that of the peer's first InitFC, and CREDIT_LIMIT is what the last UpdateFC that took effect says. In whole numbers, all
 /// packets that were entered lie within it, and no more than 127 headers and 2047 data units of it are unused.
 pub fn no_more_is_sent_than_the_peer_advertised()
-    ensures headers { (ours : LaneCredits) (calls : List Call) (class : Class) → AreCalls calls → AreOfPackets calls →
+    ensures headers { (ours : LaneCredits) (calls : List Call) (class : Class) → AreCalls calls → AreOfFewUnits calls →
         is_up (story_in ours calls).port.state ≡ true → CoversHeaders class (story_in ours calls) }
-    ensures units { (ours : LaneCredits) (calls : List Call) (class : Class) → AreCalls calls → AreOfPackets calls →
+    ensures units { (ours : LaneCredits) (calls : List Call) (class : Class) → AreCalls calls → AreOfFewUnits calls →
         is_up (story_in ours calls).port.state ≡ true → CoversUnits class (story_in ours calls) }
 {
     bytes_spell_one_dllp();

@@ -20,7 +20,7 @@ use std::marker::Model;
 use tlp_core::TlpRef;
 
 /// What becomes of a DLLP that arrived.
-#[derive(Clone, Copy, Debug, PartialEq, Eq)]
+#[derive(Clone, Copy, Debug, PartialEq)]
 pub enum DllpReceived {
     /// It took effect.
     Took,
@@ -29,7 +29,7 @@ pub enum DllpReceived {
 }
 
 /// What a port sends.
-#[derive(Clone, Copy, Debug, PartialEq, Eq)]
+#[derive(Clone, Copy, PartialEq)]
 pub enum Outgoing {
     /// Nothing is to be sent.
     Nothing,
@@ -39,7 +39,7 @@ pub enum Outgoing {
 }
 
 /// What is sent next.
-#[derive(Clone, Copy, Debug, PartialEq, Eq)]
+#[derive(Clone, Copy)]
 pub(crate) enum Choice {
     Nothing,
     /// The Nak that is due, or else the Ack.

@@ -9,7 +9,7 @@ use Rattle.port_core.proofs.laws.initialization_comes_first.Goals as goal
 
 pub returns-clause-up : goal.returns-clause-up
 returns-clause-up c = λ ours calls are packets.
-    let believes : Believes = record { spelled = c.bytes_spell_one_dllp.ensures.spelled; units = c.limits_let_each_packet_go.ensures.units; header = c.limits_let_each_packet_go.ensures.header } in
+    let believes : Believes = record { spelled = c.bytes_spell_one_dllp.ensures.spelled; header = c.limits_let_each_packet_go.ensures.header } in
     let k = calls-known believes (story_of (new_port ours)) calls are packets (new-known ours) in
     k.up ∙ ap (λ (a : Advertised). fi1 a) k.peer_is
 

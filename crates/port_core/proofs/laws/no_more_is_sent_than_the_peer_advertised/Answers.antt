@@ -5,10 +5,10 @@ use Rattle.port_core.proofs.laws.no_more_is_sent_than_the_peer_advertised.Goals 
 
 pub returns-clause-headers : goal.returns-clause-headers
 returns-clause-headers c = λ ours calls class are packets up.
-    let believes : Believes = record { spelled = c.bytes_spell_one_dllp.ensures.spelled; units = c.limits_let_each_packet_go.ensures.units; header = c.limits_let_each_packet_go.ensures.header } in
+    let believes : Believes = record { spelled = c.bytes_spell_one_dllp.ensures.spelled; header = c.limits_let_each_packet_go.ensures.header } in
     (told (story_in ours calls) (calls-known believes (story_of (new_port ours)) calls are packets (new-known ours)) up class).0
 
 pub returns-clause-units : goal.returns-clause-units
 returns-clause-units c = λ ours calls class are packets up.
-    let believes : Believes = record { spelled = c.bytes_spell_one_dllp.ensures.spelled; units = c.limits_let_each_packet_go.ensures.units; header = c.limits_let_each_packet_go.ensures.header } in
+    let believes : Believes = record { spelled = c.bytes_spell_one_dllp.ensures.spelled; header = c.limits_let_each_packet_go.ensures.header } in
     (told (story_in ours calls) (calls-known believes (story_of (new_port ours)) calls are packets (new-known ours)) up class).1
