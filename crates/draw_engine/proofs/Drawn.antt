@@ -1,5 +1,5 @@
 -- What is written is a picture, and nothing before it.
-use Rattle.std.proofs.Common.{◌≡◌, ◌∙◌, ◌++◌, ℕ, Bool, true, false, List, [], ◌∷◌, length, sym, ap, subst, fold, cond, Result, Ok, Err, IfOk, OnOk}
+use Rattle.std.proofs.Common.{◌≡◌, ◌∙◌, ◌++◌, ℕ, Bool, true, false, List, [], ◌∷◌, length, sym, ap, ap₂, subst, fold, cond, Result, Ok, Err, IfOk, OnOk}
 use Rattle.std.proofs.lemmas.List.{append-nil}
 use Rattle.std.proofs.lemmas.Result.{IfOk-weaker}
 use Rattle.std.specs.Io.KnownBytes.{Appends}
@@ -17,7 +17,8 @@ use Rattle.svg_text.specs.Shapes.{Shape, page_text}
 use Rattle.svg_text.specs.Xml.{IsDocument}
 use Rattle.record_text.specs.declared.fault.ReadFault.{ReadFault}
 use Rattle.trace_text.specs.TraceReaderView.{nothing_read, at_end}
-use Rattle.draw_engine.specs.Draw.{DrawerView, flaw_of, shows, drawn, draw_responses, out_draw, WritesDocument}
+use Rattle.trace_diagnostics.specs.Told.{TraceLinesView}
+use Rattle.draw_engine.specs.Draw.{DrawerView, finding_at, flaw_of, shows, drawn, draw_responses, out_draw, start_of, WritesDocument}
 
 -- a line more, and nothing is written
 silent_line : (t : Bool) (run : Run DrawerView) (line : List ℕ) → run.text ≡ []
@@ -34,7 +35,7 @@ Pages = (width height : ℕ) (shapes : List Shape) → IsDocument (page_text wid
 
 -- a picture was written, and nothing is left of what was read
 as_shown : {E : Type 0} (r : Result Verdict E) (d new : DrawerView) (read : Result Claim ReadFault) (text : List ℕ) (fault : Bool) (o p : List ℕ)
-    → new ≡ record { window = d.window; reading = nothing_read } → drawn d read ≡ shows d text fault → OnOk r (p ≡ o ++ text) → IfOk r (λ verdict. is_fault verdict ≡ fault)
+    → new ≡ record { window = d.window; reading = nothing_read; lines = d.lines } → drawn d read ≡ shows d text fault → OnOk r (p ≡ o ++ text) → IfOk r (λ verdict. is_fault verdict ≡ fault)
     → IfOk r (λ verdict. IsAnswer new o p verdict (drawn d read))
 as_shown (Ok verdict) d new read text fault o p gone is written tells = record {
   state = gone ∙ ap (λ (a : Answer DrawerView). a.state) (sym is);
@@ -43,17 +44,17 @@ as_shown (Ok verdict) d new read text fault o p gone is written tells = record {
 }
 as_shown (Err e) d new read text fault o p gone is written tells = tt
 
-pub picture-shown : {E : Type 0} (r : Result Verdict E) (d new : DrawerView) (w : Window) (c : Claim) (o p : List ℕ)
-    → new ≡ record { window = d.window; reading = nothing_read } → w ≡ d.window → at_end d.reading ≡ Ok c
-    → OnOk r (p ≡ o ++ picture_text w c (flaw_of (first_flaw c))) → IfOk r (λ verdict. is_fault verdict ≡ is_some (first_flaw c))
+pub picture-shown : {E : Type 0} (r : Result Verdict E) (d new : DrawerView) (w : Window) (lines : TraceLinesView) (c : Claim) (o p : List ℕ)
+    → new ≡ record { window = d.window; reading = nothing_read; lines = d.lines } → w ≡ d.window → lines ≡ d.lines → at_end d.reading ≡ Ok c
+    → OnOk r (p ≡ o ++ picture_text w c (finding_at lines c (flaw_of (first_flaw c)))) → IfOk r (λ verdict. is_fault verdict ≡ is_some (first_flaw c))
     → IfOk r (λ verdict. IsAnswer new o p verdict (drawn d (at_end d.reading)))
-picture-shown r d new w c o p gone same read written tells =
-    as_shown r d new (at_end d.reading) (picture_text w c (flaw_of (first_flaw c))) (is_some (first_flaw c)) o p gone
-    (ap (drawn d) read ∙ sym (ap (λ (x : Window). shows d (picture_text x c (flaw_of (first_flaw c))) (is_some (first_flaw c))) same))
+picture-shown r d new w lines c o p gone same numbered read written tells =
+    as_shown r d new (at_end d.reading) (picture_text w c (finding_at lines c (flaw_of (first_flaw c)))) (is_some (first_flaw c)) o p gone
+    (ap (drawn d) read ∙ sym (ap₂ (λ (x : Window). λ (ls : TraceLinesView). shows d (picture_text x c (finding_at ls c (flaw_of (first_flaw c)))) (is_some (first_flaw c))) same numbered))
     written tells
 
 pub fault-shown : {E : Type 0} (r : Result Verdict E) (d new : DrawerView) (f : ReadFault) (o p : List ℕ)
-    → new ≡ record { window = d.window; reading = nothing_read } → at_end d.reading ≡ Err f → OnOk r (p ≡ o ++ line_text (fault_line f)) → IfOk r (λ verdict. verdict ≡ verdicts.Fault)
+    → new ≡ record { window = d.window; reading = nothing_read; lines = d.lines } → at_end d.reading ≡ Err f → OnOk r (p ≡ o ++ line_text (fault_line f)) → IfOk r (λ verdict. verdict ≡ verdicts.Fault)
     → IfOk r (λ verdict. IsAnswer new o p verdict (drawn d (at_end d.reading)))
 fault-shown r d new f o p gone read written tells = as_shown r d new (at_end d.reading) (line_text (fault_line f)) true o p gone (ap (drawn d) read) written
     (IfOk-weaker r _ _ (λ verdict is. ap is_fault is) tells)
@@ -64,12 +65,12 @@ shown pages d (Ok c) = pages _ _ _
 
 pub well_drawn : Pages → (window : Window) (input : List ℕ) → IsDocument (out_draw window input).text
 well_drawn pages window input =
-    let start : DrawerView = record { window = window; reading = nothing_read } in
+    let start : DrawerView = start_of window in
     let read : Run DrawerView = fold (after_line draw_responses) (new_run start) (lines_of input) in
     let quiet : read.text ≡ [] = silent (lines_of input) (new_run start) (λ i. []) in
     subst IsDocument (ap (λ (t : List ℕ). t ++ (drawn read.state (at_end read.state.reading)).text) (sym quiet)) (shown pages read.state (at_end read.state.reading))
 
-pub document-written : (window : Window) (start : DrawerView) (read : List ℕ) (out out' : Option (List ℕ)) → start ≡ record { window = window; reading = nothing_read }
+pub document-written : (window : Window) (start : DrawerView) (read : List ℕ) (out out' : Option (List ℕ)) → start ≡ start_of window
     → ((w : Window) (input : List ℕ) → IsDocument (out_draw w input).text) → Appends out out' (run_of draw_responses start read).text → WritesDocument out out'
 document-written window start read out out' is all written = record {
   text = (run_of draw_responses start read).text;

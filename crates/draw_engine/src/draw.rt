@@ -5,13 +5,13 @@ ghost use Rattle.history_picture.specs.Picture.{picture_text, line_text};
 ghost use Rattle.trace_text.specs.TraceReaderView.{nothing_read};
 ghost use Rattle.record_text.specs.Names.{fault_line};
 ghost use Rattle.line_loop.specs.Run.{IsWhole, IsPart, is_fault};
-ghost use Rattle.draw_engine.specs.Draw.{DrawerView, WritesDocument, flaw_of, out_draw};
+ghost use Rattle.draw_engine.specs.Draw.{DrawerView, WritesDocument, finding_at, flaw_of, out_draw, start_of};
 
 use crate::laws::pictures_are_well_formed;
 use arrayvec::ArrayString;
 use history_check::check_claim;
-use history_picture::{Window, put_line_picture, put_picture};
-use history_words::{Flaw, FlawKind};
+use history_picture::{Finding, Window, put_line_picture, put_picture};
+use history_words::{AsClaim, Claim, Flaw, FlawKind};
 use line_loop::{EngineFault, Responder, Verdict, run};
 use record_text::{ReadFault, write_fault};
 use std::alloc::{AllocError, Global};
@@ -32,21 +32,36 @@ fn flaw_in(alloc: Global, claim: &TraceStore) -> Result<Option<Flaw>, AllocError
     }
 }
 
-/// Adds the picture of a trace and its history, whose first flaw this is. The verdict tells whether there is one.
+/// A flaw with the line of the text on which it lies.
+fn finding_of(claim: &TraceStore, lines: &TraceLines, flaw: Option<Flaw>) -> Option<Finding>
+    ensures { result ≡ finding_at lines.now claim.now flaw }
+{
+    let flaw = flaw?;
+    Some(Finding {
+        flaw,
+        line: lines.of_flaw(claim.records(), flaw),
+    })
+}
+
+/// Adds the picture of a trace and its history, of which this is found. The verdict tells whether there is a flaw.
 fn show(
     alloc: Global,
     window: Window,
     claim: &TraceStore,
-    flaw: Option<Flaw>,
+    finding: Option<Finding>,
     out: &mut Vec<u8>,
 ) -> Result<Verdict, AllocError>
-    ensures text { OnOk result (out.new.items ≡ out.old.items ++ picture_text window claim.now flaw) }
-    ensures verdict { IfOk result (λ verdict. is_fault verdict ≡ is_some flaw) }
+    ensures text { OnOk result (out.new.items ≡ out.old.items ++ picture_text window claim.now finding) }
+    ensures verdict { IfOk result (λ verdict. is_fault verdict ≡ is_some finding) }
     ensures err { OnErr result (out.new.items ≡ out.old.items) }
 {
     let (trace, history) = claim.to_owned(alloc)?;
-    put_picture(alloc, &trace, history.as_slice(), flaw, window, out)?;
-    match flaw {
+    let drawn = Claim {
+        trace: &trace,
+        history: history.as_slice(),
+    };
+    put_picture(alloc, &drawn, finding, window, out)?;
+    match finding {
         None => Ok(Verdict::Fine),
         Some(_) => Ok(Verdict::Fault),
     }
@@ -77,12 +92,12 @@ impl<E: Write> Model for Drawer<E> {
 
     ghost Value = { DrawerView };
 
-    ghost view = { λ d. record { window = d.window; reading = d.input } };
+    ghost view = { λ d. record { window = d.window; reading = d.input; lines = d.lines } };
 }
 
 impl<E: Write + Drop> Drawer<E> {
     fn new(alloc: Global, window: Window, errors: E) -> Drawer<E>
-        ensures { result ≡ record { window = window; reading = nothing_read } }
+        ensures { result ≡ start_of window }
     {
         Drawer {
             window,
@@ -91,20 +106,28 @@ impl<E: Write + Drop> Drawer<E> {
         }
     }
 
+    /// Tells the reason of a flaw, if there is one.
+    fn tell(&mut self, claim: &TraceStore, flaw: Option<Flaw>)
+        ensures { self.new ≡ self.old }
+    {
+        if let Some(flaw) = flaw {
+            self.input.tell_flaw(claim, flaw, &self.lines);
+        }
+    }
+
     /// Adds the picture of what was read, and tells the reason of its first flaw.
     fn draw(&mut self, claim: &TraceStore, out: &mut Vec<u8>) -> Result<Verdict, AllocError>
         ensures same { self.new ≡ self.old }
         ensures text { OnOk result (out.new.items ≡ out.old.items
-            ++ picture_text self.old.window claim.now (flaw_of (first_flaw claim.now))) }
+            ++ picture_text self.old.window claim.now (finding_at self.old.lines claim.now (flaw_of (first_flaw claim.now)))) }
         ensures verdict { IfOk result (λ verdict. is_fault verdict ≡ is_some (first_flaw claim.now)) }
         ensures err { OnErr result (out.new.items ≡ out.old.items) }
     {
-        let alloc = self.input.alloc();
+        let (alloc, window) = (self.input.alloc(), self.window);
         let flaw = flaw_in(alloc, claim)?;
-        if let Some(flaw) = flaw {
-            self.input.tell_flaw(claim, flaw, &self.lines);
-        }
-        show(alloc, self.window, claim, flaw, out)
+        let finding = finding_of(claim, &self.lines, flaw);
+        self.tell(claim, flaw);
+        show(alloc, window, claim, finding, out)
     }
 }
 

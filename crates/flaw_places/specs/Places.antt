@@ -1,7 +1,10 @@
 -- What the first flaw of a trace is found at, which request it names, and the line that tells it.
-use Rattle.std.specs.Prelude.{ℕ, ◌∷◌, ◌++◌, Bool, true, false, codes, if◌then◌else◌, List, slice_get, Option, Some, None, option_map}
+use Rattle.std.specs.Prelude.{ℕ, ◌∷◌, ◌++◌, Bool, true, false, codes, if◌then◌else◌, List, slice_get, Option, Some, None, option_map, option_and_then}
 use Rattle.std.specs.Fmt.{decimal}
-use Rattle.seq_memory.specs.Entries.{Entry}
+use Rattle.seq_memory.specs.Entries.{Entry, Reply}
+use Rattle.seq_memory.specs.History.{extent_of, reply_at}
+use Rattle.history_words.specs.Claim.{Claim}
+use Rattle.history_words.specs.Flaws.{place_of}
 use Rattle.history_words.specs.Records.{Record}
 use Rattle.history_words.specs.declared.record.RecordOf.TheVariants as records
 use Rattle.history_words.specs.declared.flaws.Flaw.{Flaw}
@@ -31,3 +34,15 @@ flawed_request rs h (Some f) = if is_of_entry f.kind then option_map request_of_
 
 abbrev pub flaw_line : FlawKind → ℕ → List ℕ
 flaw_line kind place = codes "flaw " ++ decimal (number_of kind) ++ 32 ∷ name_of kind ++ 32 ∷ decimal place
+
+abbrev pub is_of_reply : FlawKind → Bool
+is_of_reply flaws.Reply = true
+is_of_reply _ = false
+
+-- what the memory replies to the request where it stands in the history
+abbrev pub reply_to : Claim → ℕ × ℕ → Option Reply
+reply_to x q = option_and_then (reply_at (extent_of x.memory) x.memory.entries) (place_of x.memory.entries q.0 q.1)
+
+-- of a flaw of a reply: the reply that is expected in its place
+abbrev pub expected_reply : Claim → Flaw → Option Reply
+expected_reply x f = if is_of_reply f.kind then option_and_then (reply_to x) (flawed_request x.records x.memory.entries (Some f)) else None

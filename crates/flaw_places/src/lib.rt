@@ -1,13 +1,17 @@
-//! What the first flaw of a trace is found at, which request it names, and the line that tells it.
+//! What the first flaw of a trace is found at, which request it names, the reply that is expected there, and the line that
+//! tells it.
 #![tactic(auto)]
 
 ghost use Rattle.std.specs.Prelude.{◌≡◌, ◌≤◌, ◌+◌, ◌++◌};
 ghost use Rattle.arrayvec.specs.ArrayString.{array_string_len};
 ghost use Rattle.flaw_places.specs.Places as spec;
 
+mod replies;
+
 use arrayvec::ArrayString;
 use history_words::{AsClaim, Flaw, FlawKind};
 use operation_text::write_decimal;
+pub use replies::{expected_reply, point_of};
 
 /// Whether a flaw of this kind is found at an entry of the history: then its place is the entry's index.
 /// Else it is found at a record.

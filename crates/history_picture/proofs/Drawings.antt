@@ -17,7 +17,9 @@ use Rattle.history_picture.specs.declared.bars.Bar.{Bar}
 use Rattle.history_picture.specs.declared.marks.View.{View}
 use Rattle.history_picture.specs.Layout.{scale_of, x_at, acted_in, answer_in, bar_of, dot_at, row_for}
 use Rattle.history_picture.specs.Words.{answer_at, moment_of}
-use Rattle.history_picture.specs.Picture.{bar_for, bar_shapes, dot_shapes, placed_shapes, record_shapes, record_ends, bars, frame_of, row_ends, row, row_height, rows, requesters, view_of, width_of, bottom_of, entries, shown_entries, mark_shapes, body, captions, kinds, signs}
+use Rattle.history_picture.specs.Picture.{bar_for, bar_shapes, dot_shapes, placed_shapes, record_shapes, record_ends, bars, frame_of, row_ends, row, row_height, rows, requesters, view_of, width_of, bottom_of, entries, shown_entries, mark_shapes, body, captions, kinds, signs, flaw_of}
+use Rattle.history_picture.specs.Said.{said_of}
+use Rattle.history_picture.specs.Notes.{note_shapes}
 use Rattle.history_picture.specs.Shown.{Has, IsSubmitted, IsWholeHistory, EachRequestHasItsBar, BarsGoFromSubmissionToAnswer, DotsStandAtEntries, request_in}
 
 -- ---- parts of lists
@@ -79,20 +81,20 @@ place (suc (suc (suc (suc (suc (suc (suc zero))))))) a b = (6, refl)
 place (suc (suc (suc (suc (suc (suc (suc (suc n)))))))) a b = absurd (omega arith)
 
 of_record : (v : View) (rs : List Record) (h : List Entry) (i k n top : ℕ) (op : Op) (bar : Bar) (ends : List ℕ) → bar_for v rs op (request_in rs h i k n) ≡ Some bar
-    → record_shapes v rs (acted_in h i) (answer_in rs i) i top ends (records.Sub i k op n) ≡ bar_shapes v rs op (request_in rs h i k n) bar (top + 28 * row_for ends bar.start)
+    → record_shapes v rs (acted_in h i) (answer_in rs i) i top ends (records.Sub i k op n) ≡ bar_shapes v rs op (request_in rs h i k n) (said_of v rs op (request_in rs h i k n)) bar (top + 40 * row_for ends bar.start)
 of_record v rs h i k n top op bar ends e =
     let q = request_in rs h i k n in
     ap (λ (b : Bool). cond b (placed_shapes v rs op q top ends (bar_for v rs op q)) []) (eq-eqb i i refl) ∙ ap (placed_shapes v rs op q top ends) e
 
 in_row : (v : View) (width : ℕ) (rs : List Record) (h : List Entry) (i k n top : ℕ) (op : Op) (bar : Bar) → IsSubmitted rs i k op n → bar_for v rs op (request_in rs h i k n) ≡ Some bar
-    → (at : ℕ) × Has (row v width rs h i top) (bar_shapes v rs op (request_in rs h i k n) bar at)
+    → (at : ℕ) × Has (row v width rs h i top) (bar_shapes v rs op (request_in rs h i k n) (said_of v rs op (request_in rs h i k n)) bar at)
 unfolding row
 in_row v width rs h i k n top op bar submitted e =
     let all = bars v rs (acted_in h i) (answer_in rs i) i top [] rs in
     let found : (at : List ℕ) × Has all (record_shapes v rs (acted_in h i) (answer_in rs i) i top at (records.Sub i k op n)) =
     in_bars v rs (acted_in h i) (answer_in rs i) i top [] rs submitted.0 (records.Sub i k op n) submitted.1 in
-    let at = top + 28 * row_for found.0 bar.start in
-    let part = bar_shapes v rs op (request_in rs h i k n) bar at in
+    let at = top + 40 * row_for found.0 bar.start in
+    let part = bar_shapes v rs op (request_in rs h i k n) (said_of v rs op (request_in rs h i k n)) bar at in
     (at, has_before all (frame_of width i top (row_ends v rs h i)) part (subst (λ (ss : List Shape). Has all ss) (of_record v rs h i k n top op bar found.0 e) found.1))
 
 within : (all part part' : List Shape) → Has all part → Has part part' → Has all part'
@@ -103,19 +105,20 @@ within all part part' s t = record {
 }
 
 pub each : EachRequestHasItsBar
-each v rs h flaw i k n op bar low high submitted e =
-    let width = width_of v.scale in
+each v rs h f i k n op bar low high submitted e =
+    let width = width_of v in
     let known : (p : ℕ) × (slice_get requesters p ≡ Some i) = place i low high in
-    let found : (at : ℕ) × Has (rows v width rs h 116 requesters) (row v width rs h i at) = in_rows v width rs h 116 requesters known.0 i known.1 in
-    let bar_is : (at : ℕ) × Has (row v width rs h i found.0) (bar_shapes v rs op (request_in rs h i k n) bar at) = in_row v width rs h i k n found.0 op bar submitted e in
-    let part = bar_shapes v rs op (request_in rs h i k n) bar bar_is.0 in
-    let all = rows v width rs h 116 requesters in
-    let last = mark_shapes v.scale rs flaw (bottom_of v rs h) in
+    let found : (at : ℕ) × Has (rows v width rs h 130 requesters) (row v width rs h i at) = in_rows v width rs h 130 requesters known.0 i known.1 in
+    let bar_is : (at : ℕ) × Has (row v width rs h i found.0) (bar_shapes v rs op (request_in rs h i k n) (said_of v rs op (request_in rs h i k n)) bar at) = in_row v width rs h i k n found.0 op bar submitted e in
+    let part = bar_shapes v rs op (request_in rs h i k n) (said_of v rs op (request_in rs h i k n)) bar bar_is.0 in
+    let all = rows v width rs h 130 requesters in
+    let last = mark_shapes v.scale rs (flaw_of f) (bottom_of v rs h) in
     let first = entries v (bottom_of v rs h) 0 (shown_entries v.scale h) in
     let in_all : Has all part = within all (row v width rs h i found.0) part found.1 bar_is.1 in (
       bar_is.0,
-      has_after (captions v.scale (length h) flaw) (kinds ++ (signs ++ body v rs h flaw)) part
-          (has_after kinds (signs ++ body v rs h flaw) part (has_after signs (body v rs h flaw) part (has_after first (all ++ last) part (has_before all last part in_all)))),
+      has_after (captions v.scale (length h) f) (note_shapes v rs f ++ (kinds ++ (signs ++ body v rs h f))) part
+          (has_after (note_shapes v rs f) (kinds ++ (signs ++ body v rs h f)) part
+          (has_after kinds (signs ++ body v rs h f) part (has_after signs (body v rs h f) part (has_after first (all ++ last) part (has_before all last part in_all))))),
     )
 
 -- ---- the whole history
@@ -150,14 +153,17 @@ answer_known : (rs : List Record) (i k m a : ℕ) (reply : Reply) → answer_in 
 answer_known rs i k m a reply first found = ap (λ (o : Option ℕ). moment_of (answer_at rs o)) first ∙ ap moment_of found
 
 pub answered : BarsGoFromSubmissionToAnswer
-answered w rs h flaw i k n m a op reply whole low high posted submitted first found before within =
+answered w c f i k n m a op reply whole low high posted submitted first found before within =
+    let rs = c.records in
+    let h = c.memory.entries in
+    let v = view_of w c (flaw_of f) in
     let q = request_in rs h i k n in
     let bar : Bar = record { start = n; end = m; is_open = false } in
-    let known : bar_for (view_of w rs h flaw) rs op q ≡ Some bar =
+    let known : bar_for v rs op q ≡ Some bar =
     ap₂ (λ (s : Scale). λ (b : Bool). bar_of s b n (moment_of (answer_at rs (answer_in rs i k))) (acted_in h i k)) (whole_scale w h whole) posted
     ∙ ap (λ (o : Option ℕ). bar_of (make_scale 0 (length h)) false n o (acted_in h i k)) (answer_known rs i k m a reply first found)
     ∙ whole_bar (length h) n m (acted_in h i k) before within in
-    each (view_of w rs h flaw) rs h flaw i k n op bar low high submitted known
+    each v rs h f i k n op bar low high submitted known
 
 -- ---- dots
 
@@ -176,13 +182,13 @@ first_within t [] p e = absurd cc
 first_within t (x ∷ xs) p e = by_first (t x) (first_place t xs) (length xs) p e (first_within t xs)
 
 whole_dot : (count e top : ℕ) (words : List ℕ) → e < count
-    → dot_shapes (dot_at (record { from = 0; span = count }) (Some (e + 1))) top words ≡ Shape.Dotted (record { x = x_at e + 36; y = top + 18 }) words ∷ []
+    → dot_shapes (dot_at (record { from = 0; span = count }) (Some (e + 1))) top words ≡ Shape.Dotted (record { x = x_at e + 48; y = top + 34 }) words ∷ []
 whole_dot count e top words lt =
     let after : nat_lt 0 (e + 1) ≡ true = lt-ltb 0 (e + 1) (omega arith) in
     let before : nat_le (e + 1 - 0) count ≡ true = le-leb (e + 1 - 0) count (omega arith) in
-    let x : 120 + 72 * (e + 1 - 0) - 36 ≡ 120 + 72 * e + 36 = omega arith in
+    let x : 120 + 96 * (e + 1 - 0) - 48 ≡ 120 + 96 * e + 48 = omega arith in
     ap₂ (λ (a : Bool). λ (b : Bool). dot_shapes (cond (a && b) (Some (e + 1 - 0)) None) top words) after before
-    ∙ ap (λ (at : ℕ). Shape.Dotted (make_dot at (top + 18)) words ∷ []) x
+    ∙ ap (λ (at : ℕ). Shape.Dotted (make_dot at (top + 34)) words ∷ []) x
 
 pub dots : DotsStandAtEntries
 dots w h i k e top words whole acted =

@@ -1,6 +1,6 @@
 -- Where the parts of a picture stand. A point is a length of the history; an offset counts points from the first that
 -- is shown.
-use Rattle.std.specs.Prelude.{ℕ, ◌+◌, ◌-◌, ◌*◌, ◌&&◌, ◌||◌, nat_le, nat_lt, min, max, Bool, if◌then◌else◌, List, [], ◌∷◌, ◌++◌, length, set, Option, Some, None, option_map, is_none}
+use Rattle.std.specs.Prelude.{ℕ, ◌+◌, ◌-◌, ◌*◌, ◌/◌, ◌&&◌, ◌||◌, nat_le, nat_lt, min, max, Bool, if◌then◌else◌, List, [], ◌∷◌, ◌++◌, length, set, Option, Some, None, option_map, is_none}
 use Rattle.seq_memory.specs.Entries.{Entry}
 use Rattle.history_words.specs.Records.{Record}
 use Rattle.history_words.specs.Flaws.{first_place, place_of}
@@ -18,9 +18,9 @@ scale_of w count = record {
   span = min (min w.to count - min w.from (min w.to count)) 4294967295;
 }
 
--- pixels from the left, 72 for each point
+-- pixels from the left, 96 for each point
 abbrev pub x_at : ℕ → ℕ
-x_at offset = 120 + 72 * offset
+x_at offset = 120 + 96 * offset
 
 -- ---- what is known of a request
 
@@ -55,6 +55,23 @@ bar_of s is_posted n answered acted =
     then Some (record { start = n - s.from; end = end_of s (n - s.from) (reach is_posted answered acted); is_open = is_posted || is_none answered })
     else None
 
+-- there is room in the bar for texts of so many characters, 8 pixels each
+abbrev pub fits : Bar → ℕ → Bool
+fits bar count = nat_le (x_at bar.start + 8 + 8 * count) (x_at bar.end)
+
+-- its texts stand in the bar, if there is room, and else behind it
+abbrev pub text_x : Bar → ℕ → ℕ
+text_x bar count = if fits bar count then x_at bar.start + 5 else x_at bar.end + 5
+
+-- how far below the bar's upper edge the white begins that is behind the texts: behind both lines where they stand behind
+-- the bar, and in the bar behind a reply alone that isn't the expected one
+abbrev pub white_from : Bar → ℕ → Bool → Option ℕ
+white_from bar count is_wrong = if fits bar count then (if is_wrong then Some 18 else None) else Some 2
+
+-- the point where the bar and its texts have ended
+abbrev pub taken : Bar → ℕ → ℕ
+taken bar count = if fits bar count then bar.end else bar.end + 1 + count / 12
+
 -- where the dot stands of a request that had acted at that length
 abbrev pub dot_at : Scale → Option ℕ → Option ℕ
 dot_at s None = None
@@ -62,7 +79,7 @@ dot_at s (Some acted) = if nat_lt s.from acted && nat_le (acted - s.from) s.span
 
 -- ---- sub-rows
 
--- the first sub-row whose last bar has ended
+-- the first sub-row in which the last bar and its texts have ended
 abbrev pub free_row : List ℕ → ℕ → ℕ
 free_row [] start = 0
 free_row (end ∷ ends) start = if nat_le end start then 0 else free_row ends start + 1
@@ -75,6 +92,6 @@ row_for ends start = min (free_row ends start) 255
 abbrev pub with_bar : List ℕ → ℕ → ℕ → List ℕ
 with_bar ends row end = if nat_lt row (length ends) then set ends row end else ends ++ end ∷ []
 
--- 28 pixels for each sub-row
+-- 40 pixels for each sub-row
 abbrev pub rows_height : List ℕ → ℕ
-rows_height ends = 28 * min (length ends) 256 + 16
+rows_height ends = 40 * min (length ends) 256 + 10

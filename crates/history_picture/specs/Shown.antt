@@ -6,7 +6,7 @@ use Rattle.seq_memory.specs.Entries.{Entry}
 use Rattle.seq_memory.specs.Entries.{Reply}
 use Rattle.history_words.specs.Records.{Record}
 use Rattle.history_words.specs.declared.record.RecordOf.TheVariants as records
-use Rattle.history_words.specs.declared.flaws.Flaw.{Flaw}
+use Rattle.history_words.specs.Claim.{Claim}
 use Rattle.history_words.specs.Flaws.{place_of}
 use Rattle.svg_text.specs.declared.shapes.Block.{Block}
 use Rattle.svg_text.specs.Shapes.{Shape}
@@ -14,8 +14,10 @@ use Rattle.history_picture.specs.declared.scale.Window.{Window}
 use Rattle.history_picture.specs.declared.bars.Bar.{Bar}
 use Rattle.history_picture.specs.declared.words.Request.{Request}
 use Rattle.history_picture.specs.declared.marks.View.{View}
+use Rattle.history_picture.specs.declared.flaws.Finding.{Finding}
+use Rattle.history_picture.specs.Said.{said_of}
 use Rattle.history_picture.specs.Layout.{scale_of, x_at, acted_in, answer_in, dot_at}
-use Rattle.history_picture.specs.Picture.{bar_for, bar_shapes, bars, dot_shapes, request_of, view_of, drawn}
+use Rattle.history_picture.specs.Picture.{bar_for, bar_shapes, bars, dot_shapes, flaw_of, request_of, view_of, drawn}
 
 -- these shapes are among all of them, one after the other
 pub record Has (all part : List Shape) : Type 0 where
@@ -31,9 +33,9 @@ IsSubmitted rs i k op n = (p : ℕ) × (slice_get rs p ≡ Some (records.Sub i k
 abbrev pub request_in : List Record → List Entry → ℕ → ℕ → ℕ → Request
 request_in rs h i k n = request_of i (acted_in h i) (answer_in rs i) k n
 
--- the picture has a bar of that request, with its label, its whole text and its dot
-abbrev pub HasBar : View → List Record → List Entry → Option Flaw → Op → Request → Bar → Type 0
-HasBar v rs h flaw op q bar = (top : ℕ) × Has (drawn v rs h flaw) (bar_shapes v rs op q bar top)
+-- the picture has a bar of that request, with its title, what was asked and answered, and its dot
+abbrev pub HasBar : View → List Record → List Entry → Option Finding → Op → Request → Bar → Type 0
+HasBar v rs h f op q bar = (top : ℕ) × Has (drawn v rs h f) (bar_shapes v rs op q (said_of v rs op q) bar top)
 
 -- the whole history is shown
 pub record IsWholeHistory (w : Window) (h : List Entry) : Type 0 where
@@ -43,30 +45,30 @@ pub record IsWholeHistory (w : Window) (h : List Entry) : Type 0 where
 
 -- each request that was submitted has its bar, where part of it is within the window
 abbrev pub EachRequestHasItsBar : Type 0
-EachRequestHasItsBar = (v : View) (rs : List Record) (h : List Entry) (flaw : Option Flaw) (i k n : ℕ) (op : Op) (bar : Bar)
+EachRequestHasItsBar = (v : View) (rs : List Record) (h : List Entry) (f : Option Finding) (i k n : ℕ) (op : Op) (bar : Bar)
     → 1 ≤ i → i ≤ 7 → IsSubmitted rs i k op n → bar_for v rs op (request_in rs h i k n) ≡ Some bar
-    → HasBar v rs h flaw op (request_in rs h i k n) bar
+    → HasBar v rs h f op (request_in rs h i k n) bar
 
 -- in a picture of the whole history the bar of an answered request goes from the n of its submission to that of its
 -- answer
 abbrev pub BarsGoFromSubmissionToAnswer : Type 0
-BarsGoFromSubmissionToAnswer = (w : Window) (rs : List Record) (h : List Entry) (flaw : Option Flaw) (i k n m a : ℕ) (op : Op) (reply : Reply)
-    → IsWholeHistory w h → 1 ≤ i → i ≤ 7 → is_posted op ≡ false → IsSubmitted rs i k op n
-    → answer_in rs i k ≡ Some a → slice_get rs a ≡ Some (records.Ans i k reply m) → n < m → m ≤ length h
-    → HasBar (view_of w rs h flaw) rs h flaw op (request_in rs h i k n) (record { start = n; end = m; is_open = false })
+BarsGoFromSubmissionToAnswer = (w : Window) (c : Claim) (f : Option Finding) (i k n m a : ℕ) (op : Op) (reply : Reply)
+    → IsWholeHistory w c.memory.entries → 1 ≤ i → i ≤ 7 → is_posted op ≡ false → IsSubmitted c.records i k op n
+    → answer_in c.records i k ≡ Some a → slice_get c.records a ≡ Some (records.Ans i k reply m) → n < m → m ≤ length c.memory.entries
+    → HasBar (view_of w c (flaw_of f)) c.records c.memory.entries f op (request_in c.records c.memory.entries i k n) (record { start = n; end = m; is_open = false })
 
 -- the dot of a request stands in the middle of its entry
 abbrev pub DotsStandAtEntries : Type 0
 DotsStandAtEntries = (w : Window) (h : List Entry) (i k e top : ℕ) (words : List ℕ) → IsWholeHistory w h → place_of h i k ≡ Some e
-    → dot_shapes (dot_at (scale_of w (length h)) (acted_in h i k)) top words ≡ Shape.Dotted (record { x = x_at e + 36; y = top + 18 }) words ∷ []
+    → dot_shapes (dot_at (scale_of w (length h)) (acted_in h i k)) top words ≡ Shape.Dotted (record { x = x_at e + 48; y = top + 34 }) words ∷ []
 
 -- the bars of requester i, in a row whose first sub-row begins at top
 abbrev pub bars_of : View → List Record → List Entry → ℕ → ℕ → List Shape
 bars_of v rs h i top = bars v rs (acted_in h i) (answer_in rs i) i top [] rs
 
 -- of two bars of a requester in one sub-row, but for the last, the later one begins to the right of the earlier one's
--- end
+-- end; white behind a text is no bar, and has no title
 abbrev pub BarsDoNotOverlap : Type 0
-BarsDoNotOverlap = (v : View) (rs : List Record) (h : List Entry) (i top p q : ℕ) (a b : Block) (text words : List ℕ)
-    → slice_get (bars_of v rs h i top) p ≡ Some (Shape.Filled a text) → slice_get (bars_of v rs h i top) q ≡ Some (Shape.Filled b words)
-    → p < q → a.top ≡ b.top → a.top < top + 28 * 255 → a.right < b.left
+BarsDoNotOverlap = (v : View) (rs : List Record) (h : List Entry) (i top p q x y : ℕ) (a b : Block) (text words : List ℕ)
+    → slice_get (bars_of v rs h i top) p ≡ Some (Shape.Filled a (x ∷ text)) → slice_get (bars_of v rs h i top) q ≡ Some (Shape.Filled b (y ∷ words))
+    → p < q → a.top ≡ b.top → a.top < top + 40 * 255 → a.right < b.left

@@ -15,27 +15,12 @@ use Rattle.svg_text.specs.declared.colour.Colour.{Colour}
 use Rattle.svg_text.specs.declared.colour.Colour.TheVariants as colours
 use Rattle.history_picture.specs.declared.words.Request.{Request}
 
-abbrev pub kind_name : Op → List ℕ
-kind_name (ops.Read a dw f l) = codes "read"
-kind_name (ops.Write a f l bytes) = codes "write"
-kind_name (ops.FetchAdd a w x) = codes "add"
-kind_name (ops.Swap a w x) = codes "swap"
-kind_name (ops.Cas a w x y) = codes "cas"
-
 abbrev pub kind_colour : Op → Colour
 kind_colour (ops.Read a dw f l) = colours.SkyBlue
 kind_colour (ops.Write a f l bytes) = colours.Orange
 kind_colour (ops.FetchAdd a w x) = colours.Green
 kind_colour (ops.Swap a w x) = colours.Yellow
 kind_colour (ops.Cas a w x y) = colours.Purple
-
--- the kind and the address
-abbrev pub short_op : Op → List ℕ
-short_op op = kind_name op ++ (32 ∷ hexadecimal (address_of op))
-
--- where there is room for so many characters, and else the kind
-abbrev pub op_label : ℕ → Op → List ℕ
-op_label room op = if nat_lt room (length (short_op op)) then kind_name op else short_op op
 
 -- request k of requester i
 abbrev pub pair_words : ℕ → ℕ → List ℕ
@@ -83,13 +68,6 @@ entry_words p i k op = codes "entry " ++ (decimal p ++ (codes ": " ++ request_wo
 
 abbrev pub requester_words : ℕ → List ℕ
 requester_words i = codes "requester " ++ decimal i
-
-abbrev pub flaw_words : Flaw → List ℕ
-flaw_words f = flaw_line f.kind f.place
-
-abbrev pub verdict_words : Option Flaw → List ℕ
-verdict_words None = codes "ok"
-verdict_words (Some f) = flaw_words f
 
 abbrev pub window_words : ℕ → ℕ → ℕ → List ℕ
 window_words from to count = codes "points " ++ (decimal from ++ (codes " to " ++ (decimal to ++ (codes " of " ++ decimal count))))

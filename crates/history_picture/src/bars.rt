@@ -2,11 +2,11 @@
 ghost use Rattle.std.specs.Prelude.{◌≡◌, ◌≤◌, IfSome, OnOk};
 ghost use Rattle.history_picture.specs.Layout as layout;
 
-use crate::scale::Scale;
+use crate::scale::{Scale, x_at};
 use std::alloc::AllocError;
 
 /// From where to where a bar reaches, in points from the first that is shown.
-#[derive(Clone, Copy, Debug, PartialEq, Eq)]
+#[derive(Clone, Copy)]
 pub(crate) struct Bar {
     pub(crate) start: u64,
     pub(crate) end: u64,
@@ -68,6 +68,64 @@ pub(crate) fn bar_of(
     })
 }
 
+/// There is room in the bar for texts of so many characters.
+fn fits(bar: Bar, count: u64) -> bool
+    requires start { bar.start ≤ 4294967295 }
+    requires end { bar.end ≤ 4294967296 }
+    requires count { count ≤ 80 }
+    ensures { result ≡ layout.fits bar count }
+{
+    x_at(bar.start) + 8 + 8 * count <= x_at(bar.end)
+}
+
+/// Where the texts of a bar stand: in it, if there is room, and else behind it.
+pub(crate) fn text_x(bar: Bar, count: u64) -> u64
+    requires start { bar.start ≤ 4294967295 }
+    requires end { bar.end ≤ 4294967296 }
+    requires count { count ≤ 80 }
+    ensures at { result ≡ layout.text_x bar count }
+    ensures least { 125 ≤ result }
+    ensures most { result ≤ 500000000000 }
+{
+    if fits(bar, count) {
+        x_at(bar.start) + 5
+    } else {
+        x_at(bar.end) + 5
+    }
+}
+
+/// Where the white begins that is behind the texts of a bar: in the bar it is behind a reply alone that isn't the expected
+/// one, if there is one.
+pub(crate) fn white_from(bar: Bar, count: u64, is_wrong: bool) -> Option<u64>
+    requires start { bar.start ≤ 4294967295 }
+    requires end { bar.end ≤ 4294967296 }
+    requires count { count ≤ 80 }
+    ensures from { result ≡ layout.white_from bar count is_wrong }
+    ensures range { IfSome result (λ y. y ≤ 18) }
+{
+    if !fits(bar, count) {
+        Some(2)
+    } else if is_wrong {
+        Some(18)
+    } else {
+        None
+    }
+}
+
+/// The point where the bar and its texts have ended.
+pub(crate) fn taken(bar: Bar, count: u64) -> u64
+    requires start { bar.start ≤ 4294967295 }
+    requires end { bar.end ≤ 4294967296 }
+    requires count { count ≤ 80 }
+    ensures { result ≡ layout.taken bar count }
+{
+    if fits(bar, count) {
+        bar.end
+    } else {
+        bar.end + 1 + count / 12
+    }
+}
+
 /// Where the dot stands of a request that had acted at that length, if it is shown.
 pub(crate) fn dot_at(scale: Scale, acted: Option<u64>) -> Option<u64>
     ensures dot { result ≡ layout.dot_at scale acted }
@@ -82,7 +140,7 @@ pub(crate) fn dot_at(scale: Scale, acted: Option<u64>) -> Option<u64>
     }
 }
 
-/// The first sub-row whose last bar has ended.
+/// The first sub-row in which the last bar and its texts have ended.
 fn free_row(ends: &[u64], start: u64) -> usize
     ensures { result ≡ layout.free_row ends.now start }
 {

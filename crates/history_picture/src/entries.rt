@@ -21,11 +21,11 @@ fn put_tick(from: u64, offset: u64, bottom: u64, out: &mut Vec<u8>) -> Result<()
 {
     let mut number = ArrayString::new();
     write_decimal(from + offset, &mut number);
-    let place = centred_label(x_at(offset), 72, Colour::Grey);
+    let place = centred_label(x_at(offset), 88, Colour::Grey);
     put_label(&place, number.as_bytes(), out)?;
     let line = Rule {
         left: x_at(offset),
-        top: 78,
+        top: 93,
         right: x_at(offset),
         bottom,
         colour: Colour::Grey,
@@ -38,16 +38,16 @@ fn put_tick(from: u64, offset: u64, bottom: u64, out: &mut Vec<u8>) -> Result<()
 }
 
 /// The block of an entry.
-fn entry_block(view: View, offset: u64, entry: &Entry) -> Block
+fn entry_block(view: &View, offset: u64, entry: &Entry) -> Block
     requires { offset ≤ 4294967295 }
-    ensures { result ≡ spec.entry_block view offset entry.now }
+    ensures { result ≡ spec.entry_block view.now offset entry.now }
 {
     let is_flawed = view.is_flawed(entry.requester, entry.number);
     Block {
         left: x_at(offset) + 1,
-        top: 80,
-        right: x_at(offset) + 71,
-        bottom: 102,
+        top: 94,
+        right: x_at(offset) + 95,
+        bottom: 116,
         fill: kind_colour(&entry.op),
         edge: edge_of(is_flawed),
         thickness: thickness_of(is_flawed),
@@ -57,10 +57,10 @@ fn entry_block(view: View, offset: u64, entry: &Entry) -> Block
 
 /// Adds an entry.
 #[tactic(auto, unfolding(svg_text::specs::Shapes::shapes_text))]
-fn put_entry(view: View, offset: u64, entry: &Entry, out: &mut Vec<u8>) -> Result<(), AllocError>
+fn put_entry(view: &View, offset: u64, entry: &Entry, out: &mut Vec<u8>) -> Result<(), AllocError>
     requires offset { offset ≤ 4294967295 }
-    requires point { view.scale.from + offset < 2 ^ 64 }
-    ensures { OnOk result (out.new.items ≡ out.old.items ++ shapes_text (spec.entry_shapes view offset entry.now)) }
+    requires point { view.now.scale.from + offset < 2 ^ 64 }
+    ensures { OnOk result (out.new.items ≡ out.old.items ++ shapes_text (spec.entry_shapes view.now offset entry.now)) }
 {
     let mut text = ArrayString::new();
     put_entry_words(
@@ -73,20 +73,20 @@ fn put_entry(view: View, offset: u64, entry: &Entry, out: &mut Vec<u8>) -> Resul
     put_block(&entry_block(view, offset, entry), text.as_bytes(), out)?;
     text.clear();
     put_pair(entry.requester, entry.number, &mut text);
-    let place = centred_label(x_at(offset) + 36, 95, Colour::Black);
+    let place = centred_label(x_at(offset) + 48, 109, Colour::Black);
     put_label(&place, text.as_bytes(), out)
 }
 
 /// Adds the entries that are shown, each after its point.
 pub(crate) fn put_entries(
-    view: View,
+    view: &View,
     bottom: u64,
     shown: &[Entry],
     out: &mut Vec<u8>,
 ) -> Result<(), AllocError>
     requires span { length shown.now ≤ 4294967295 }
-    requires point { view.scale.from + length shown.now < 2 ^ 64 }
-    ensures { OnOk result (out.new.items ≡ out.old.items ++ shapes_text (spec.entries view bottom 0 shown.now)) }
+    requires point { view.now.scale.from + length shown.now < 2 ^ 64 }
+    ensures { OnOk result (out.new.items ≡ out.old.items ++ shapes_text (spec.entries view.now bottom 0 shown.now)) }
 {
     let mut offset = 0;
     for entry in shown {

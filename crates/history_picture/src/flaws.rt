@@ -16,7 +16,7 @@ fn entry_mark(scale: Scale, place: u64) -> Option<u64>
 {
     let offset = place.saturating_sub(scale.from);
     if scale.from <= place && offset < u64::from(scale.span) {
-        Some(x_at(offset) + 36)
+        Some(x_at(offset) + 48)
     } else {
         None
     }
@@ -45,6 +45,20 @@ fn mark_of(scale: Scale, records: &[Record], flaw: Flaw) -> Option<u64>
     }
 }
 
+/// The first flaw of a trace, and the line of its text on which it lies.
+#[derive(Clone, Copy)]
+pub struct Finding {
+    pub flaw: Flaw,
+    pub line: u64,
+}
+
+/// The flaw, if there is one.
+pub(crate) fn flaw_of(finding: Option<Finding>) -> Option<Flaw>
+    ensures { result ≡ spec.flaw_of finding }
+{
+    Some(finding?.flaw)
+}
+
 /// Adds a red line at a place, and the name below it.
 #[tactic(auto, unfolding(svg_text::specs::Shapes::shapes_text))]
 fn put_mark_at(
@@ -61,7 +75,7 @@ fn put_mark_at(
     };
     let line = Rule {
         left: x,
-        top: 76,
+        top: 92,
         right: x,
         bottom: bottom + 4,
         colour: Colour::Red,

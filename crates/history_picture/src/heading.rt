@@ -1,13 +1,16 @@
 //! What stands above a picture.
-ghost use Rattle.std.specs.Prelude.{◌≡◌, ◌≤◌, ◌+◌, ◌++◌, OnOk};
+ghost use Rattle.std.specs.Prelude.{◌≡◌, ◌≤◌, ◌+◌, ◌++◌, [], OnOk};
 ghost use Rattle.svg_text.specs.Shapes.{shapes_text};
+ghost use Rattle.history_picture.specs.Notes.{verdict_words};
 ghost use Rattle.history_picture.specs.Picture as spec;
 
+use crate::flaws::Finding;
 use crate::marks::{edge_of, plain_label};
 use crate::scale::Scale;
-use crate::words::{put_verdict, put_window};
+use crate::words::put_window;
 use arrayvec::ArrayString;
-use history_words::Flaw;
+use flaw_places::write_flaw;
+use operation_text::write_decimal;
 use std::alloc::AllocError;
 use svg_text::{Block, Colour, Dot, Label, put_block, put_dot, put_label};
 
@@ -29,9 +32,9 @@ fn swatch_block(left: u64, right: u64, colour: Colour, is_open: bool) -> Block
 {
     Block {
         left,
-        top: 34,
+        top: 52,
         right,
-        bottom: 48,
+        bottom: 66,
         fill: colour,
         edge: Colour::Black,
         thickness: 1,
@@ -46,7 +49,7 @@ fn put_swatch(block: &Block, name: &str, out: &mut Vec<u8>) -> Result<(), AllocE
     ensures { OnOk result (out.new.items ≡ out.old.items ++ shapes_text (spec.swatch block.now name.now)) }
 {
     put_block(block, name.as_bytes(), out)?;
-    put_label(&plain_label(block.right + 6, 46), name.as_bytes(), out)
+    put_label(&plain_label(block.right + 6, 64), name.as_bytes(), out)
 }
 
 /// Adds the colour of a kind of operations.
@@ -74,8 +77,8 @@ pub(crate) fn put_kinds(out: &mut Vec<u8>) -> Result<(), AllocError>
 fn put_dot_sign(out: &mut Vec<u8>) -> Result<(), AllocError>
     ensures { OnOk result (out.new.items ≡ out.old.items ++ shapes_text spec.dot_sign) }
 {
-    put_dot(&Dot { x: 354, y: 41 }, b"acted", out)?;
-    put_label(&plain_label(364, 46), b"acted", out)
+    put_dot(&Dot { x: 354, y: 59 }, b"acted", out)?;
+    put_label(&plain_label(364, 64), b"acted", out)
 }
 
 /// Adds an open bar, and what it means.
@@ -95,20 +98,36 @@ pub(crate) fn put_signs(out: &mut Vec<u8>) -> Result<(), AllocError>
     Ok(())
 }
 
+/// Writes the first flaw and its line, or that there is none.
+fn put_verdict(finding: Option<Finding>, text: &mut ArrayString<512>)
+    requires { text.old.bytes ≡ [] }
+    ensures { text.new.bytes ≡ verdict_words finding }
+{
+    match finding {
+        None => text.push_str("ok"),
+        Some(finding) => {
+            write_flaw(finding.flaw, text);
+            text.push_str(" (line ");
+            write_decimal(finding.line, text);
+            text.push_str(")");
+        }
+    }
+}
+
 /// Adds the first flaw, the window, and the names of the axis.
 #[tactic(auto, unfolding(svg_text::specs::Shapes::shapes_text))]
 pub(crate) fn put_captions(
     scale: Scale,
     count: u64,
-    flaw: Option<Flaw>,
+    finding: Option<Finding>,
     out: &mut Vec<u8>,
 ) -> Result<(), AllocError>
     requires { scale.from + scale.span ≤ count }
-    ensures { OnOk result (out.new.items ≡ out.old.items ++ shapes_text (spec.captions scale count flaw)) }
+    ensures { OnOk result (out.new.items ≡ out.old.items ++ shapes_text (spec.captions scale count finding)) }
 {
     let mut text = ArrayString::new();
-    put_verdict(flaw, &mut text);
-    put_label(&title_label(has_flaw(flaw)), text.as_bytes(), out)?;
+    put_verdict(finding, &mut text);
+    put_label(&title_label(has_flaw(finding)), text.as_bytes(), out)?;
     text.clear();
     put_window(
         scale.from,
@@ -116,13 +135,13 @@ pub(crate) fn put_captions(
         count,
         &mut text,
     );
-    put_label(&plain_label(300, 22), text.as_bytes(), out)?;
-    put_label(&plain_label(10, 72), b"points", out)?;
-    put_label(&plain_label(10, 95), b"history", out)
+    put_label(&plain_label(420, 22), text.as_bytes(), out)?;
+    put_label(&plain_label(10, 88), b"points", out)?;
+    put_label(&plain_label(10, 109), b"history", out)
 }
 
-fn has_flaw(flaw: Option<Flaw>) -> bool
-    ensures { result ≡ spec.has_flaw flaw }
+fn has_flaw(finding: Option<Finding>) -> bool
+    ensures { result ≡ spec.has_flaw finding }
 {
-    flaw.is_some()
+    finding.is_some()
 }

@@ -1,20 +1,23 @@
 //! What is marked, and how marks look.
 ghost use Rattle.std.specs.Prelude.{◌≡◌};
-ghost use Rattle.history_picture.specs.Picture as spec;
+ghost use Rattle.history_picture.specs.Marks as spec;
+ghost use Rattle.history_picture.specs.Said.{is_flawed};
 
 use crate::scale::Scale;
+use seq_memory::Reply;
 use svg_text::{Colour, Label};
 
-/// The points that are shown, and the request that the first flaw names.
-#[derive(Clone, Copy, Debug, PartialEq, Eq)]
+/// The points that are shown, the request that the first flaw names, and the reply that is expected there.
+#[derive(Drop)]
 pub(crate) struct View {
     pub(crate) scale: Scale,
     pub(crate) flawed: Option<(u8, u32)>,
+    pub(crate) expected: Option<Reply>,
 }
 
 impl View {
-    pub(crate) fn is_flawed(self, requester: u8, number: u32) -> bool
-        ensures { result ≡ spec.is_flawed self.flawed requester number }
+    pub(crate) fn is_flawed(&self, requester: u8, number: u32) -> bool
+        ensures { result ≡ is_flawed self.now.flawed requester number }
     {
         match self.flawed {
             None => false,
@@ -39,16 +42,22 @@ pub(crate) fn thickness_of(is_flawed: bool) -> u64
     if is_flawed { 3 } else { 1 }
 }
 
-pub(crate) fn plain_label(x: u64, y: u64) -> Label
-    ensures { result ≡ spec.plain_label x y }
+pub(crate) fn label_at(x: u64, y: u64, colour: Colour) -> Label
+    ensures { result ≡ spec.label_at x y colour }
 {
     Label {
         x,
         y,
         size: 12,
-        colour: Colour::Black,
+        colour,
         is_centred: false,
     }
+}
+
+pub(crate) fn plain_label(x: u64, y: u64) -> Label
+    ensures { result ≡ spec.plain_label x y }
+{
+    label_at(x, y, Colour::Black)
 }
 
 pub(crate) fn centred_label(x: u64, y: u64, colour: Colour) -> Label

@@ -5,7 +5,7 @@ ghost use Rattle.history_picture.specs.Picture as spec;
 
 use crate::lookup::{acted_by, answers_by};
 use crate::marks::{View, plain_label};
-use crate::requests::{Row, put_bars};
+use crate::requests::{Drawing, Row};
 use crate::words::put_requester_words;
 use arrayvec::ArrayString;
 use history_words::Record;
@@ -16,7 +16,7 @@ use svg_text::{Colour, Rule, put_label, put_lines};
 /// What the rows are drawn of.
 #[derive(Clone, Copy)]
 pub(crate) struct Shown<'a> {
-    pub(crate) view: View,
+    pub(crate) view: &'a View,
     /// Of the page, in pixels.
     pub(crate) width: u64,
     pub(crate) records: &'a [Record],
@@ -38,12 +38,12 @@ fn put_frame(
 {
     let mut name = ArrayString::new();
     put_requester_words(requester, &mut name);
-    put_label(&plain_label(10, top + 16), name.as_bytes(), out)?;
+    put_label(&plain_label(10, top + 18), name.as_bytes(), out)?;
     let line = Rule {
         left: 0,
-        top: top + height.saturating_sub(10),
+        top: top + height.saturating_sub(6),
         right: width,
-        bottom: top + height.saturating_sub(10),
+        bottom: top + height.saturating_sub(6),
         colour: Colour::Grey,
         thickness: 1,
         dash: 0,
@@ -54,12 +54,12 @@ fn put_frame(
 /// How high the sub-rows are that have these ends.
 fn height_of(ends: &[u64]) -> u64
     ensures height { result ≡ spec.height_of ends.now }
-    ensures range { result ≤ 7184 }
+    ensures range { result ≤ 10250 }
 {
     if ends.is_empty() {
         return 0;
     }
-    28 * (ends.len().min(256) as u64) + 16
+    40 * (ends.len().min(256) as u64) + 10
 }
 
 /// Adds a requester's name and the line below its bars, if there are any.
@@ -87,18 +87,17 @@ fn put_row(
     shown: &Shown<'_>,
     requester: u8,
     top: u64,
-    out: &mut Vec<u8>,
+    drawing: &mut Drawing,
 ) -> Result<u64, AllocError>
     requires { top ≤ 900000 }
-    ensures shapes { OnOk result (out.new.items ≡ out.old.items ++
-        shapes_text (spec.row shown.now.view shown.now.width shown.now.records.now shown.now.history.now requester top)) }
-    ensures height { IfOk result (λ height. height ≡ spec.row_height shown.now.view shown.now.records.now shown.now.history.now requester) }
-    ensures range { IfOk result (λ height. height ≤ 7184) }
+    ensures shapes { OnOk result (drawing.new.out.items ≡ drawing.old.out.items ++
+        shapes_text (spec.row shown.now.view.now shown.now.width shown.now.records.now shown.now.history.now requester top)) }
+    ensures height { IfOk result (λ height. height ≡ spec.row_height shown.now.view.now shown.now.records.now shown.now.history.now requester) }
+    ensures range { IfOk result (λ height. height ≤ 10250) }
 {
     let acted = acted_by(alloc, shown.history, requester)?;
     let answers = answers_by(alloc, shown.records, requester)?;
-    let mut ends = Vec::new(alloc);
-    let mut words = Vec::new(alloc);
+    drawing.ends.clear();
     let row = Row {
         view: shown.view,
         records: shown.records,
@@ -107,9 +106,15 @@ fn put_row(
         requester,
         top,
     };
-    put_bars(row, &mut ends, &mut words, out)?;
-    put_frame_of(shown.width, requester, top, ends.as_slice(), out)?;
-    Ok(height_of(ends.as_slice()))
+    drawing.put_bars(row)?;
+    put_frame_of(
+        shown.width,
+        requester,
+        top,
+        drawing.ends.as_slice(),
+        &mut drawing.out,
+    )?;
+    Ok(height_of(drawing.ends.as_slice()))
 }
 
 /// Adds the rows of these requesters, and gives where the last one ends.
@@ -117,17 +122,18 @@ fn put_rows_of(
     alloc: Global,
     shown: &Shown<'_>,
     requesters: &[u8],
-    out: &mut Vec<u8>,
+    drawing: &mut Drawing,
 ) -> Result<u64, AllocError>
     requires { length requesters.now ≤ 7 }
-    ensures shapes { OnOk result (out.new.items ≡ out.old.items ++
-        shapes_text (spec.rows shown.now.view shown.now.width shown.now.records.now shown.now.history.now 116 requesters.now)) }
-    ensures bottom { IfOk result (λ bottom. bottom ≡ spec.rows_bottom shown.now.view shown.now.records.now shown.now.history.now 116 requesters.now) }
+    ensures shapes { OnOk result (drawing.new.out.items ≡ drawing.old.out.items ++
+        shapes_text (spec.rows shown.now.view.now shown.now.width shown.now.records.now shown.now.history.now 130 requesters.now)) }
+    ensures bottom { IfOk result (λ bottom. bottom
+        ≡ spec.rows_bottom shown.now.view.now shown.now.records.now shown.now.history.now 130 requesters.now) }
     ensures range { IfOk result (λ bottom. bottom ≤ 100000) }
 {
-    let mut top = 116;
+    let mut top = 130;
     for requester in requesters {
-        let height = put_row(alloc, shown, *requester, top, out)?;
+        let height = put_row(alloc, shown, *requester, top, drawing)?;
         top += height;
     }
     Ok(top)
@@ -137,12 +143,12 @@ fn put_rows_of(
 pub(crate) fn put_rows(
     alloc: Global,
     shown: &Shown<'_>,
-    out: &mut Vec<u8>,
+    drawing: &mut Drawing,
 ) -> Result<u64, AllocError>
-    ensures shapes { OnOk result (out.new.items ≡ out.old.items ++
-        shapes_text (spec.rows shown.now.view shown.now.width shown.now.records.now shown.now.history.now 116 spec.requesters)) }
-    ensures bottom { IfOk result (λ bottom. bottom ≡ spec.bottom_of shown.now.view shown.now.records.now shown.now.history.now) }
+    ensures shapes { OnOk result (drawing.new.out.items ≡ drawing.old.out.items ++
+        shapes_text (spec.rows shown.now.view.now shown.now.width shown.now.records.now shown.now.history.now 130 spec.requesters)) }
+    ensures bottom { IfOk result (λ bottom. bottom ≡ spec.bottom_of shown.now.view.now shown.now.records.now shown.now.history.now) }
     ensures range { IfOk result (λ bottom. bottom ≤ 100000) }
 {
-    put_rows_of(alloc, shown, &[1, 2, 3, 4, 5, 6, 7], out)
+    put_rows_of(alloc, shown, &[1, 2, 3, 4, 5, 6, 7], drawing)
 }

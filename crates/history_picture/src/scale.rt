@@ -3,14 +3,14 @@ ghost use Rattle.std.specs.Prelude.{◌≡◌, ◌≤◌, ◌+◌};
 ghost use Rattle.history_picture.specs.Layout as layout;
 
 /// The first and the last point that are to be shown. A point is a length of the history.
-#[derive(Clone, Copy, Debug, PartialEq, Eq)]
+#[derive(Clone, Copy)]
 pub struct Window {
     pub from: u64,
     pub to: u64,
 }
 
 /// The points that are shown: so many after one.
-#[derive(Clone, Copy, Debug, PartialEq, Eq)]
+#[derive(Clone, Copy)]
 pub(crate) struct Scale {
     pub(crate) from: u64,
     pub(crate) span: u32,
@@ -35,5 +35,5 @@ pub(crate) fn x_at(offset: u64) -> u64
     requires { offset ≤ 4294967296 }
     ensures { result ≡ layout.x_at offset }
 {
-    120 + 72 * offset
+    120 + 96 * offset
 }

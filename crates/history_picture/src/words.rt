@@ -1,12 +1,11 @@
 //! The words in a picture.
-ghost use Rattle.std.specs.Prelude.{◌≡◌, ◌≤◌, ◌+◌, ◌++◌, [], length, option_map, OnOk};
+ghost use Rattle.std.specs.Prelude.{◌≡◌, ◌≤◌, ◌+◌, ◌++◌, [], option_map, OnOk};
 ghost use Rattle.arrayvec.specs.ArrayString.{array_string_len};
 ghost use Rattle.history_picture.specs.Words as said;
 
 use arrayvec::ArrayString;
-use flaw_places::write_flaw;
-use history_words::{Flaw, Record};
-use operation_text::{write_decimal, write_hexadecimal, write_op, write_reply};
+use history_words::Record;
+use operation_text::{write_decimal, write_op, write_reply};
 use seq_memory::Reply;
 use std::alloc::AllocError;
 use svg_text::Colour;
@@ -14,26 +13,13 @@ use tlp_core::Op;
 
 /// A request, when it was submitted, how long the history was once it had acted, and the place of its
 /// answer among the records.
-#[derive(Clone, Copy, Debug, PartialEq, Eq)]
+#[derive(Clone, Copy, PartialEq)]
 pub(crate) struct Request {
     pub(crate) requester: u8,
     pub(crate) number: u32,
     pub(crate) n: u64,
     pub(crate) acted: Option<u64>,
     pub(crate) answer: Option<u64>,
-}
-
-fn kind_name(op: &Op) -> &'static str
-    ensures name { result.now ≡ said.kind_name op.now }
-    ensures length { length result.now ≤ 5 }
-{
-    match op {
-        Op::Read { .. } => "read",
-        Op::Write { .. } => "write",
-        Op::FetchAdd { .. } => "add",
-        Op::Swap { .. } => "swap",
-        Op::Cas { .. } => "cas",
-    }
 }
 
 pub(crate) fn kind_colour(op: &Op) -> Colour
@@ -45,28 +31,6 @@ pub(crate) fn kind_colour(op: &Op) -> Colour
         Op::FetchAdd { .. } => Colour::Green,
         Op::Swap { .. } => Colour::Yellow,
         Op::Cas { .. } => Colour::Purple,
-    }
-}
-
-/// Writes the kind and the address.
-fn put_short_op(op: &Op, text: &mut ArrayString<512>)
-    requires { text.old.bytes ≡ [] }
-    ensures { text.new.bytes ≡ said.short_op op.now }
-{
-    text.push_str(kind_name(op));
-    text.push_str(" ");
-    write_hexadecimal(op.address(), text);
-}
-
-/// Writes the operation in so many characters, or its kind.
-pub(crate) fn put_op_label(room: u64, op: &Op, text: &mut ArrayString<512>)
-    requires { text.old.bytes ≡ [] }
-    ensures { text.new.bytes ≡ said.op_label room op.now }
-{
-    put_short_op(op, text);
-    if room < text.len() as u64 {
-        text.clear();
-        text.push_str(kind_name(op));
     }
 }
 
@@ -215,17 +179,6 @@ pub(crate) fn put_requester_words(requester: u8, text: &mut ArrayString<512>)
 {
     text.push_str("requester ");
     write_decimal(u64::from(requester), text);
-}
-
-/// Writes the first flaw, or that there is none.
-pub(crate) fn put_verdict(flaw: Option<Flaw>, text: &mut ArrayString<512>)
-    requires { text.old.bytes ≡ [] }
-    ensures { text.new.bytes ≡ said.verdict_words flaw }
-{
-    match flaw {
-        None => text.push_str("ok"),
-        Some(flaw) => write_flaw(flaw, text),
-    }
 }
 
 /// Writes which points of how many are shown.

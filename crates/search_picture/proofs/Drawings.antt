@@ -4,7 +4,7 @@ use Rattle.std.specs.Prelude.{slice_get}
 use Rattle.svg_text.specs.Shapes.{Shape}
 use Rattle.search_picture.specs.declared.scene.Request.{Request}
 use Rattle.search_picture.specs.Laws.{Has, EachRequestHasItsBar}
-use Rattle.search_picture.specs.Picture.{arrows_of, bottom_of, columns_of, ground, lines_of, request_shapes, requests_of, rows, signs, titles, told, whys}
+use Rattle.search_picture.specs.Picture.{arrows_of, bottom_of, columns_of, ground, lines_of, marks_of, request_shapes, requests_of, rows, signs, titles, told, whys}
 
 at_first : (part rest : List Shape) → Has (part ++ rest) part
 at_first part rest = record { before = []; after = rest; is = refl }
@@ -45,4 +45,4 @@ each s k r e =
     let found : Has (rows 0 rs) part = subst (λ (n : ℕ). Has (rows 0 rs) (request_shapes n r)) from_first (in_rows 0 rs k r e) in
     let rest = whys rs (arrows_of s) ++ told (bottom_of rs + 24) (lines_of s) in
     has_after (titles s.title.items s.note.items) _ part
-    (has_after signs _ part (has_after (ground (columns_of s) rs (arrows_of s)) _ part (has_before (rows 0 rs) rest part found)))
+    (has_after (signs (marks_of rs (arrows_of s)) s.places.items) _ part (has_after (ground (columns_of s) rs (arrows_of s)) _ part (has_before (rows 0 rs) rest part found)))

@@ -1,5 +1,7 @@
 -- Shapes that are added one after the other.
-use Rattle.std.proofs.Common.{◌≡◌, ◌∙◌, ◌+◌, ◌∷◌, ◌++◌, ◌<◌, ◌≤◌, List, ℕ, [], zero, suc, Option, Some, ap, sym, refl, drop, length, get_or, append_assoc, drop-cons, arith}
+use Rattle.std.proofs.Common.{◌≡◌, ◌∙◌, ◌+◌, ◌∷◌, ◌++◌, ◌<◌, ◌≤◌, List, ℕ, [], zero, suc, Option, Some, ap, sym, refl, drop, length, get_or, append_assoc, drop-cons, arith, Bool, true, false}
+use Rattle.std.specs.Prelude.{◌||◌}
+use Rattle.std.specs.List.{list_any}
 use Rattle.std.proofs.lemmas.Grind.{flat_map-append}
 use Rattle.std.proofs.lemmas.List.{append-nil}
 use Rattle.svg_text.specs.Shapes.{Shape, shape_text, shapes_text}
@@ -99,3 +101,21 @@ whys-past rs all i o p le e = ended o p (whys rs (drop i all)) (ap (whys rs) (pa
 
 pub told-past : (y : ℕ) (all : List Line) (i : ℕ) (o p : List ℕ) → length all ≤ i → p ++ shapes_text (told y (drop i all)) ≡ o → p ≡ o
 told-past y all i o p le e = ended o p (told y (drop i all)) (ap (told y) (past all i le)) e
+
+-- ---- whether one passes
+
+any_by : (any a b : Bool) → ((any || a) || b) ≡ (any || (a || b))
+any_by true a b = refl
+any_by false a b = refl
+
+or_none : (any : Bool) → any ≡ (any || false)
+or_none true = refl
+or_none false = refl
+
+pub any-next : {X : Type 0} (t : X → Bool) (all : List X) (i : ℕ) (x : X) (any any' : Bool) → i < length all → x ≡ get_or all i x → any' ≡ (any || t x)
+    → (any' || list_any t (drop (i + 1) all)) ≡ (any || list_any t (drop i all))
+any-next {X = X} t all i x any any' lt is e =
+    ap (λ (b : Bool). b || list_any t (drop (i + 1) all)) e ∙ any_by any (t x) (list_any t (drop (i + 1) all)) ∙ ap (λ (l : List X). any || list_any t l) (sym (cut all i x lt is))
+
+pub any-past : {X : Type 0} (t : X → Bool) (all : List X) (i : ℕ) (any : Bool) → length all ≤ i → any ≡ (any || list_any t (drop i all))
+any-past {X = X} t all i any le = or_none any ∙ ap (λ (l : List X). any || list_any t l) (sym (past all i le))

@@ -1,5 +1,6 @@
 -- The shapes of a picture of a scene.
-use Rattle.std.specs.Prelude.{ℕ, ◌+◌, ◌-◌, ◌*◌, ◌==◌, nat_le, nat_lt, max, Bool, true, false, if◌then◌else◌, List, [], ◌∷◌, ◌++◌, length, take, codes, slice_get, Option, Some, None}
+use Rattle.std.specs.Prelude.{ℕ, ◌+◌, ◌-◌, ◌*◌, ◌==◌, ◌&&◌, ◌||◌, nat_le, nat_lt, max, Bool, true, false, if◌then◌else◌, List, [], ◌∷◌, ◌++◌, length, take, codes, slice_get, Option, Some, None, is_some}
+use Rattle.std.specs.List.{list_any}
 use Rattle.std.specs.Fmt.{decimal}
 use Rattle.svg_text.specs.declared.colour.Colour.{Colour}
 use Rattle.svg_text.specs.declared.colour.Colour.TheVariants as colours
@@ -14,6 +15,7 @@ use Rattle.search_picture.specs.declared.scene.Arrow.{Arrow}
 use Rattle.search_picture.specs.declared.scene.Line.{Line}
 use Rattle.search_picture.specs.declared.scene.Scene.{Scene}
 use Rattle.search_picture.specs.declared.arrows.End.{End}
+use Rattle.search_picture.specs.declared.signs.Marks.{Marks}
 
 -- ---- places and marks
 
@@ -70,15 +72,97 @@ swatch left role is_open = record { left = left; top = 52; right = left + 30; bo
 abbrev pub sign : ℕ → Role → Bool → List ℕ → List Shape
 sign left role is_open words = Shape.Filled (swatch left role is_open) words ∷ Shape.Written (label_at (left + 36) 64 colours.Black) words ∷ []
 
--- what arrows mean
-abbrev pub arrow_sign : List ℕ → List Shape
-arrow_sign words = Shape.Written (label_at 570 64 colours.Red) words ∷ []
+-- the place of a request in a history, as a sign
+abbrev pub place_mark : ℕ → Block
+place_mark left = record { left = left; top = 51; right = left + 16; bottom = 67; fill = colours.White; edge = colours.Black; thickness = 1; is_open = false }
 
--- what the bars and arrows mean
-abbrev pub signs : List Shape
-signs =
-    sign 10 roles.Last false (codes "the last answer")
-    ++ (sign 176 roles.Against false (codes "answers against it") ++ (sign 364 roles.Other true (codes "posted, or no answer") ++ arrow_sign (codes "an arrow leads to what acts later")))
+abbrev pub place_sign : ℕ → List ℕ → List Shape
+place_sign left words =
+    Shape.Filled (place_mark left) words
+    ∷ Shape.Written (middle_at (left + 8) 64 colours.Black) (codes "0")
+    ∷ Shape.Written (label_at (left + 22) 64 colours.Black) words
+    ∷ []
+
+-- what arrows mean
+abbrev pub arrow_sign : ℕ → List ℕ → List Shape
+arrow_sign left words = Shape.Written (label_at left 64 colours.Red) words ∷ []
+
+abbrev pub is_last : Role → Bool
+is_last roles.Last = true
+is_last roles.Against = false
+is_last roles.Other = false
+
+abbrev pub is_against : Role → Bool
+is_against roles.Last = false
+is_against roles.Against = true
+is_against roles.Other = false
+
+abbrev pub is_drawn : List Request → Arrow → Bool
+is_drawn rs a = is_some (slice_get rs a.from) && is_some (slice_get rs a.to)
+
+-- what occurs among the requests and the arrows that are shown
+abbrev pub marks_of : List Request → List Arrow → Marks
+marks_of rs ps = record {
+  last = list_any (λ r. is_last r.role) rs;
+  against = list_any (λ r. is_against r.role) rs;
+  opens = list_any (λ r. r.is_open) rs;
+  places = list_any (λ r. is_some r.place) rs;
+  arrows = list_any (is_drawn rs) ps;
+}
+
+-- with a request more
+abbrev pub with_request : Marks → Request → Marks
+with_request m r = record {
+  last = m.last || is_last r.role;
+  against = m.against || is_against r.role;
+  opens = m.opens || r.is_open;
+  places = m.places || is_some r.place;
+  arrows = m.arrows;
+}
+
+-- a sign, if what it stands for is there
+abbrev pub only_if : Bool → List Shape → List Shape
+only_if there shapes = if there then shapes else []
+
+-- where the next sign stands, behind one of that width that may be there
+abbrev pub behind : Bool → ℕ → ℕ → ℕ
+behind there width left = if there then left + width else left
+
+abbrev pub second_of : Marks → ℕ
+second_of m = behind m.last 172 10
+
+abbrev pub third_of : Marks → ℕ
+third_of m = behind m.against 132 (second_of m)
+
+abbrev pub fourth_of : Marks → ℕ
+fourth_of m = behind m.opens 236 (third_of m)
+
+abbrev pub fifth_of : Marks → ℕ → ℕ
+fifth_of m count = behind m.places (40 + 8 * count) (fourth_of m)
+
+abbrev pub last_signs : Marks → List Shape
+last_signs m = only_if m.last (sign 10 roles.Last false (codes "the last answer"))
+
+abbrev pub against_signs : Marks → List Shape
+against_signs m = only_if m.against (sign (second_of m) roles.Against false (codes "against it"))
+
+abbrev pub open_signs : Marks → List Shape
+open_signs m = only_if m.opens (sign (third_of m) roles.Other true (codes "posted, or not answered"))
+
+abbrev pub places_signs : Marks → List ℕ → List Shape
+places_signs m words = only_if m.places (place_sign (fourth_of m) words)
+
+abbrev pub arrows_signs : Marks → ℕ → List Shape
+arrows_signs m left = only_if m.arrows (arrow_sign left (codes "an arrow leads to what acts later"))
+
+-- what is there of the bars, the numbers on them and the arrows, in this order, and what it means
+abbrev pub signs : Marks → List ℕ → List Shape
+signs m words =
+    last_signs m ++ (against_signs m ++ (open_signs m ++ (places_signs m (take 80 words) ++ arrows_signs m (fifth_of m (length (take 80 words))))))
+
+-- how far they reach
+abbrev pub signs_end : Marks → ℕ → ℕ
+signs_end m count = fifth_of m count + (if m.arrows then 280 else 10)
 
 -- ---- the columns and the names of requesters
 
@@ -257,6 +341,10 @@ lines_of s = take 40 s.lines.items
 abbrev pub width_of : List ℕ → ℕ
 width_of lines = max (x_at (length lines) + 400) 840
 
+-- at least as wide as the signs
+abbrev pub page_width : List ℕ → Marks → ℕ → ℕ
+page_width lines m count = max (width_of lines) (signs_end m count)
+
 abbrev pub bottom_of : List Request → ℕ
 bottom_of rs = top_of (length rs)
 
@@ -268,16 +356,17 @@ ground cs rs ps = columns (bottom_of rs) 0 cs ++ (frames (width_of cs) None 0 rs
 abbrev pub bars : List Request → List Arrow → List Line → List Shape
 bars rs ps ls = rows 0 rs ++ (whys rs ps ++ told (bottom_of rs + 24) ls)
 
-abbrev pub shapes_of : List ℕ → List ℕ → List ℕ → List Request → List Arrow → List Line → List Shape
-shapes_of title note cs rs ps ls = titles title note ++ (signs ++ (ground cs rs ps ++ bars rs ps ls))
+abbrev pub shapes_of : List ℕ → List ℕ → List ℕ → List ℕ → List Request → List Arrow → List Line → List Shape
+shapes_of title note places cs rs ps ls = titles title note ++ (signs (marks_of rs ps) places ++ (ground cs rs ps ++ bars rs ps ls))
 
 abbrev pub height_of : List Request → List Line → ℕ
 height_of rs ls = bottom_of rs + 16 * length ls + 30
 
 -- all shapes of a scene
 abbrev pub drawn : Scene → List Shape
-drawn s = shapes_of s.title.items s.note.items (columns_of s) (requests_of s) (arrows_of s) (lines_of s)
+drawn s = shapes_of s.title.items s.note.items s.places.items (columns_of s) (requests_of s) (arrows_of s) (lines_of s)
 
 -- the text of its picture
 abbrev pub scene_text : Scene → List ℕ
-scene_text s = page_text (width_of (columns_of s)) (height_of (requests_of s) (lines_of s)) (drawn s)
+scene_text s =
+    page_text (page_width (columns_of s) (marks_of (requests_of s) (arrows_of s)) (length (take 80 s.places.items))) (height_of (requests_of s) (lines_of s)) (drawn s)

@@ -24,7 +24,7 @@ fn leg(from: (u64, u64), to: (u64, u64)) -> Rule
 }
 
 /// A bar that an arrow begins or ends at: its left edge, and where its row begins.
-#[derive(Clone, Copy, Debug, PartialEq, Eq)]
+#[derive(Clone, Copy)]
 pub(crate) struct End {
     pub(crate) x: u64,
     pub(crate) top: u64,

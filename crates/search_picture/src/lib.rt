@@ -16,6 +16,7 @@ mod parts;
 mod picture;
 mod requests;
 mod scene;
+mod signs;
 
 pub use picture::put_scene;
 pub use scene::{Arrow, Line, Request, Role, Scene};

@@ -1,14 +1,15 @@
 //! Whole pictures.
-ghost use Rattle.std.specs.Prelude.{◌≡◌, ◌≤◌, ◌+◌, ◌++◌, OnErr, OnOk, length};
+ghost use Rattle.std.specs.Prelude.{◌≡◌, ◌≤◌, ◌+◌, ◌++◌, OnErr, OnOk, length, take};
 ghost use Rattle.svg_text.specs.Shapes.{shapes_text};
 ghost use Rattle.search_picture.specs.Picture as spec;
 
 use crate::arrows::{put_arrows, put_whys};
 use crate::axis::{put_columns, put_frames};
-use crate::heading::{put_signs, put_titles};
+use crate::heading::put_titles;
 use crate::parts::{label_at, shown, top_of, x_at};
 use crate::requests::put_requests;
 use crate::scene::{Arrow, Line, Request, Scene};
+use crate::signs::{Marks, marks_of, put_signs};
 use std::alloc::{AllocError, Global};
 use svg_text::{Colour, put_label, put_page};
 
@@ -39,12 +40,21 @@ fn shown_of(scene: &Scene) -> Shown<'_>
     }
 }
 
-/// How wide a picture of these columns is.
+/// How wide the rows are of a picture of these columns.
 fn width_of(columns: &[u64]) -> u64
     requires { length columns.now ≤ 40 }
     ensures { result ≡ spec.width_of columns.now }
 {
     (x_at(columns.len() as u32) + 400).max(840)
+}
+
+/// How wide the page is: as wide as the signs, at least.
+fn page_width(columns: &[u64], marks: &Marks, places: &[u8]) -> u64
+    requires { length columns.now ≤ 40 }
+    ensures { result ≡ spec.page_width columns.now marks.now (length (take 80 places.now)) }
+{
+    let count = shown(80, places).len() as u64;
+    width_of(columns).max(marks.end(count))
 }
 
 /// Where the rows of requests end.
@@ -104,16 +114,22 @@ fn put_bars(what: &Shown<'_>, out: &mut Vec<u8>) -> Result<(), AllocError>
 }
 
 /// Adds all shapes.
-fn put_shapes(scene: &Scene, what: &Shown<'_>, out: &mut Vec<u8>) -> Result<(), AllocError>
+fn put_shapes(
+    scene: &Scene,
+    what: &Shown<'_>,
+    marks: &Marks,
+    out: &mut Vec<u8>,
+) -> Result<(), AllocError>
     requires wide { length what.now.columns.now ≤ 40 }
     requires few { length what.now.requests.now ≤ 20 }
     requires short { length what.now.lines.now ≤ 40 }
+    requires marks { marks.now ≡ spec.marks_of what.now.requests.now what.now.arrows.now }
     ensures { OnOk result (out.new.items ≡ out.old.items
-        ++ shapes_text (spec.shapes_of scene.now.title.items scene.now.note.items what.now.columns.now what.now.requests.now
+        ++ shapes_text (spec.shapes_of scene.now.title.items scene.now.note.items scene.now.places.items what.now.columns.now what.now.requests.now
         what.now.arrows.now what.now.lines.now)) }
 {
     put_titles(scene.title.as_slice(), scene.note.as_slice(), out)?;
-    put_signs(out)?;
+    put_signs(marks, scene.places.as_slice(), out)?;
     put_ground(what, out)?;
     put_bars(what, out)?;
     Ok(())
@@ -134,9 +150,11 @@ pub fn put_scene(alloc: Global, scene: &Scene, out: &mut Vec<u8>) -> Result<(), 
     ensures err { OnErr result (out.new.items ≡ out.old.items) }
 {
     let what = shown_of(scene);
+    let marks = marks_of(what.requests, what.arrows);
     let mut shapes = Vec::new(alloc);
-    put_shapes(scene, &what, &mut shapes)?;
+    put_shapes(scene, &what, &marks, &mut shapes)?;
+    let width = page_width(what.columns, &marks, scene.places.as_slice());
     let height = height_of(what.requests, what.lines);
-    put_page(alloc, width_of(what.columns), height, shapes, out)?;
+    put_page(alloc, width, height, shapes, out)?;
     Ok(())
 }

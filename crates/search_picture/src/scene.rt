@@ -1,7 +1,7 @@
 //! What is drawn.
 
 /// What a request is to the last answer.
-#[derive(Clone, Copy, Debug, PartialEq, Eq)]
+#[derive(Clone, Copy)]
 pub enum Role {
     /// It was answered last.
     Last,
@@ -11,7 +11,7 @@ pub enum Role {
 }
 
 /// A request. Columns are counted from 0.
-#[derive(Debug, Drop)]
+#[derive(Drop)]
 pub struct Request {
     pub requester: u8,
     /// The column of its submission.
@@ -30,7 +30,7 @@ pub struct Request {
 }
 
 /// The first request, by its place among all, acts before the second.
-#[derive(Debug, Drop)]
+#[derive(Drop)]
 pub struct Arrow {
     pub from: usize,
     pub to: usize,
@@ -38,17 +38,19 @@ pub struct Arrow {
 }
 
 /// A line of text.
-#[derive(Debug, Drop)]
+#[derive(Drop)]
 pub struct Line {
     pub text: Vec<u8>,
 }
 
 /// What is drawn: of requests the first 20, of arrows, too, and of columns and lines the first 40.
-#[derive(Debug, Drop)]
+#[derive(Drop)]
 pub struct Scene {
     /// What stands above, in red, and below that.
     pub title: Vec<u8>,
     pub note: Vec<u8>,
+    /// What the places of requests in a history are.
+    pub places: Vec<u8>,
     /// The line of the log that each column is.
     pub columns: Vec<u64>,
     /// Those of a requester one after the other.

@@ -1,2 +1,3 @@
+mod AnswerLemmas
 mod FirstLemmas
 mod SceneLemmas

@@ -14,4 +14,4 @@ abbrev pub IsSpan : Page → ℕ → ℕ → Op → ℕ → Span → Type 0
 IsSpan page requester number op place s =
     IsAskedAt page requester number op place × IsColumnOf page s.from place
     × ((s.is_open ≡ false) × IsAnswered page requester number s.end.to s.end.said.items
-    ⊎ (s.is_open ≡ true) × (s.end.to ≡ length page.columns) × (s.end.said.items ≡ unanswered op))
+    ⊎ (s.is_open ≡ true) × (s.end.to ≡ length page.columns) × (s.end.said.items ≡ unanswered page requester number op))

@@ -128,7 +128,7 @@ fn span_of(
             None => Ok(None),
         },
         None => {
-            let end = open_end(alloc, page, &asked.op)?;
+            let end = open_end(alloc, page, asked.name, &asked.op)?;
             Ok(Some(Span {
                 from,
                 is_open: true,

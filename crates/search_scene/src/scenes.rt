@@ -2,7 +2,7 @@
 ghost use Rattle.std.specs.Prelude.{◌≡◌, ◌≤◌, ◌-◌, IfOk, IfSome, length};
 ghost use Rattle.search_history.specs.Expected.{IsExpected};
 ghost use Rattle.search_reasons.specs.Lines.{lines_in};
-ghost use Rattle.search_scene.specs.Scenes.{IsHistoryOf, Shows, title_of};
+ghost use Rattle.search_scene.specs.Scenes.{IsHistoryOf, Shows, places_of, title_of};
 
 use crate::arrows::arrows_of;
 use crate::bars::bars_of;
@@ -17,6 +17,7 @@ use operation_text::write_decimal;
 use search_picture::Scene;
 use search_reasons::{Case, Link, Reasons, Why, lines_of, reason_lines, reasons_of};
 use std::alloc::{AllocError, Global};
+use trace_diagnostics::TraceLines;
 
 /// The title: what the search answers.
 fn title_at(alloc: Global, place: usize) -> Result<Vec<u8>, AllocError>
@@ -28,6 +29,20 @@ fn title_at(alloc: Global, place: usize) -> Result<Vec<u8>, AllocError>
     let mut title = Vec::new(alloc);
     title.extend_from_slice(text.as_bytes())?;
     Ok(title)
+}
+
+/// What the places in a history of the records before the last one are.
+fn places_at(alloc: Global, lines: &TraceLines, last: usize) -> Result<Vec<u8>, AllocError>
+    ensures { IfOk result (λ v. v.items ≡ places_of lines.now last) }
+{
+    let mut text = ArrayString::new();
+    text.push_str("its place in a history of lines ");
+    write_decimal(lines.of_record(0), &mut text);
+    text.push_str(" to ");
+    write_decimal(lines.of_record(last.saturating_sub(1)), &mut text);
+    let mut places = Vec::new(alloc);
+    places.extend_from_slice(text.as_bytes())?;
+    Ok(places)
 }
 
 /// The cycle that the reasons tell of.
@@ -59,14 +74,17 @@ fn scene_for(
 {
     let told = reason_lines(alloc, text, case, reasons)?;
     let notes = notes_of(alloc, &told)?;
-    let title = title_at(alloc, case.read.count.saturating_sub(1))?;
+    let last = case.read.count.saturating_sub(1);
+    let title = title_at(alloc, last)?;
     let lines = lines_of(alloc, text)?;
+    let places = places_at(alloc, &lines, last)?;
     let chosen = chosen_for(alloc, case, reasons)?;
     let columns = columns_of(alloc, &lines, &chosen)?;
     let known = known_of(alloc, case, limit)?;
     let page = Page {
         seen: case.read.seen,
         lines: &lines,
+        last,
         columns: &columns,
         history: &known.history,
     };
@@ -75,6 +93,7 @@ fn scene_for(
     Ok(Scene {
         title,
         note: notes.first,
+        places,
         columns,
         requests: bars.all,
         arrows,

@@ -4,7 +4,7 @@ ghost use Rattle.svg_text.specs.Shapes.{colour_code};
 ghost use Rattle.svg_text.specs.Xml.{escaped};
 
 /// Black, white, grey and red, and colours that colour-blind people tell apart, after Okabe and Ito.
-#[derive(Clone, Copy, Debug, PartialEq, Eq)]
+#[derive(Clone, Copy)]
 pub enum Colour {
     Black,
     Grey,

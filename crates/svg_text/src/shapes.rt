@@ -2,7 +2,7 @@
 use crate::colour::Colour;
 
 /// A coloured rectangle with an edge. An open one has no edge at its right.
-#[derive(Clone, Copy, Debug, PartialEq, Eq)]
+#[derive(Clone, Copy)]
 pub struct Block {
     pub left: u64,
     pub top: u64,
@@ -16,14 +16,14 @@ pub struct Block {
 }
 
 /// A black disc round a point.
-#[derive(Clone, Copy, Debug, PartialEq, Eq)]
+#[derive(Clone, Copy)]
 pub struct Dot {
     pub x: u64,
     pub y: u64,
 }
 
 /// A straight line from one point to another.
-#[derive(Clone, Copy, Debug, PartialEq, Eq)]
+#[derive(Clone, Copy)]
 pub struct Rule {
     pub left: u64,
     pub top: u64,
@@ -38,7 +38,7 @@ pub struct Rule {
 
 /// Where a text stands: it begins at the point, or has it at the middle, and `y` is that of its
 /// base line.
-#[derive(Clone, Copy, Debug, PartialEq, Eq)]
+#[derive(Clone, Copy)]
 pub struct Label {
     pub x: u64,
     pub y: u64,

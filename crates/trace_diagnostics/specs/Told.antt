@@ -3,6 +3,8 @@ use Rattle.std.specs.Prelude.{ℕ, ◌≡◌, ◌+◌, ◌-◌, ◌^◌, ◌<◌
 use Rattle.text_lines.specs.Lines.{is_skipped}
 use Rattle.history_words.specs.declared.flaws.FlawKind.{FlawKind}
 use Rattle.flaw_places.specs.Places.{is_of_entry}
+use Rattle.diagnostics.specs.declared.telling.Part.{Part}
+use Rattle.diagnostics.specs.declared.telling.Part.TheVariants.{Record, Entry}
 
 -- the first fault: one that is known, or else one that is found
 abbrev pub first_of : Option ℕ → Option ℕ → Option ℕ
@@ -68,6 +70,9 @@ entry_line s records index = number_at s (plus index (plus records 3))
 -- the place of a flaw is that of an entry, or of a record
 abbrev pub line_of_flaw : TraceLinesView → ℕ → FlawKind → ℕ → ℕ
 line_of_flaw s records kind place = if is_of_entry kind then entry_line s records place else record_line s place
+
+abbrev pub part_of_flaw : FlawKind → ℕ → Part
+part_of_flaw kind place = if is_of_entry kind then Entry place else Record place
 
 -- of a text that is read: the line whose fault was told, and what the error stream holds
 pub record TraceReasonsView : Type 0 where

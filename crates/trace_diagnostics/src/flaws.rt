@@ -2,14 +2,14 @@
 use crate::trace_lines::TraceLines;
 use arrayvec::ArrayString;
 use diagnostics::Reason;
-use flaw_places::{flawed_request, is_of_entry};
+use flaw_places::{expected_reply, flawed_request, is_of_entry, point_of};
 use history_words::{AsClaim, Flaw, FlawKind, RecordHeader, RecordRef};
 use operation_text::write_reply;
-use seq_memory::{Reply, ReplyRef, perform};
+use seq_memory::ReplyRef;
 use std::alloc::{AllocError, Global};
 
 /// A request, by its requester and its number.
-#[derive(Clone, Copy, Debug, PartialEq, Eq)]
+#[derive(Clone, Copy, PartialEq)]
 struct Request {
     requester: u8,
     number: u32,
@@ -61,13 +61,7 @@ fn answer<C: AsClaim>(claim: &C, request: Request) -> Option<usize> {
 
 /// The index of the request in the history.
 fn point<C: AsClaim>(claim: &C, request: Request) -> Option<usize> {
-    for index in 0..claim.entries() {
-        let (requester, number) = claim.request(index)?;
-        if requester == request.requester && number == request.number {
-            return Some(index);
-        }
-    }
-    None
+    point_of(claim, (request.requester, request.number))
 }
 
 /// A trace with a flaw and its history, and where they stand in the text.
@@ -87,11 +81,11 @@ impl<C: AsClaim> Case<'_, C> {
         self.claim.header(place).map_or(0, RecordHeader::moment)
     }
 
-    /// Adds the request's place in the history, where it has one.
+    /// Adds which entry of the history the request is, where it is one.
     fn put_point(&self, request: Request, reason: &mut Reason) {
         if let Some(index) = point(self.claim, request) {
             let line = self.entry_line(index);
-            reason.put(format_args!(", and the request is at index {index} (line {line})"));
+            reason.put(format_args!("; entry {index}, line {line}"));
         }
     }
 }
@@ -146,7 +140,10 @@ fn put_stranger<C: AsClaim>(case: &Case<'_, C>, request: Request, reason: &mut R
 fn put_twice<C: AsClaim>(case: &Case<'_, C>, request: Request, reason: &mut Reason) {
     let Request { requester, number } = request;
     reason.put(format_args!(": request {number} of requester {requester} a second time"));
-    case.put_point(request, reason);
+    if let Some(index) = point(case.claim, request) {
+        let line = case.entry_line(index);
+        reason.put(format_args!("; the first is entry {index}, line {line}"));
+    }
 }
 
 /// The number above the greatest that the requester has among the entries before the index, or 0.
@@ -240,7 +237,7 @@ fn put_early<C: AsClaim>(case: &Case<'_, C>, request: Request, reason: &mut Reas
     let n = case.moment(place);
     let line = case.lines.of_record(place);
     reason.put(format_args!(
-        ": request {number} of requester {requester} was submitted at n {n} (line {line})"
+        ": request {number} of requester {requester} was submitted at count {n} (line {line})"
     ));
     case.put_point(request, reason);
 }
@@ -249,25 +246,10 @@ fn put_early<C: AsClaim>(case: &Case<'_, C>, request: Request, reason: &mut Reas
 fn put_late<C: AsClaim>(case: &Case<'_, C>, place: usize, request: Request, reason: &mut Reason) {
     let Request { requester, number } = request;
     let n = case.moment(place);
-    reason.put(format_args!(": request {number} of requester {requester} is answered at n {n}"));
+    reason.put(format_args!(
+        ": request {number} of requester {requester} is answered at count {n}"
+    ));
     case.put_point(request, reason);
-}
-
-fn zeros(alloc: Global, size: usize) -> Result<Vec<u8>, AllocError> {
-    vec![in alloc; 0u8; size]
-}
-
-/// What the memory answers to the entry at that index.
-fn reply_at<C: AsClaim>(alloc: Global, claim: &C, index: usize) -> Option<Reply> {
-    let extent = claim.extent();
-    let mut bytes = zeros(alloc, extent.size()).ok()?;
-    let (base, block) = (extent.base(), extent.block());
-    let mut last = None;
-    for p in 0..index.saturating_add(1) {
-        let entry = claim.entry(p)?;
-        last = Some(perform(base, block, &mut bytes, &entry.op.to_owned()));
-    }
-    last
 }
 
 /// Adds a reply's text.
@@ -282,16 +264,16 @@ fn put_reply(reply: &ReplyRef<'_>, reason: &mut Reason) {
 fn put_other_reply<C: AsClaim>(
     alloc: Global,
     case: &Case<'_, C>,
+    flaw: Flaw,
     request: Request,
-    reply: &ReplyRef<'_>,
     reason: &mut Reason,
 ) {
-    reason.put(": ");
-    put_reply(reply, reason);
-    let Some(index) = point(case.claim, request) else {
+    let Some(RecordRef::Ans { reply, .. }) = case.claim.record(flaw.place) else {
         return;
     };
-    if let Some(made) = reply_at(alloc, case.claim, index) {
+    reason.put(": ");
+    put_reply(&reply, reason);
+    if let Ok(Some(made)) = expected_reply(alloc, case.claim, flaw) {
         reason.put(" where ");
         put_reply(&made.lend(), reason);
         reason.put(" is expected");
@@ -359,7 +341,7 @@ fn put_stale<C: AsClaim>(alloc: Global, case: &Case<'_, C>, request: Request, re
     };
     if let Some(index) = last_answered(case.claim, &answered, requester) {
         let line = case.entry_line(index);
-        reason.put(format_args!(", that answer's at index {index} (line {line})"));
+        reason.put(format_args!("; that answer is of entry {index}, line {line}"));
     }
 }
 
@@ -370,10 +352,10 @@ fn put_clock<C: AsClaim>(case: &Case<'_, C>, place: usize, request: Request, rea
     let previous = place.saturating_sub(1);
     let last = case.moment(previous);
     let length = case.claim.entries();
-    reason.put(format_args!(": n {n}"));
+    reason.put(format_args!(": count {n}"));
     if n < last {
         let line = case.lines.of_record(previous);
-        reason.put(format_args!(" after n {last} (line {line})"));
+        reason.put(format_args!(" after count {last} (line {line})"));
     } else if n > length as u64 {
         reason.put(format_args!(", and the history has {length} entries"));
     } else {
@@ -407,11 +389,7 @@ fn put_of_record<C: AsClaim>(
         FlawKind::Early => put_early(case, request, reason),
         FlawKind::Late => put_late(case, flaw.place, request, reason),
         FlawKind::Clock => put_clock(case, flaw.place, request, reason),
-        FlawKind::Reply => {
-            if let Some(RecordRef::Ans { reply, .. }) = case.claim.record(flaw.place) {
-                put_other_reply(alloc, case, request, &reply, reason);
-            }
-        }
+        FlawKind::Reply => put_other_reply(alloc, case, flaw, request, reason),
         _ => put_stale(alloc, case, request, reason),
     }
 }

@@ -1,8 +1,10 @@
 //! On which lines of a text the parts of a trace stand.
 ghost use Rattle.std.specs.Prelude.{◌≡◌, OnOk, OnErr};
 ghost use Rattle.trace_diagnostics.specs.Told as spec;
-ghost use Rattle.trace_diagnostics.specs.Told.{number_at, record_line, entry_line, nothing_numbered, numbered};
+ghost use Rattle.trace_diagnostics.specs.Told.{number_at, record_line, entry_line, line_of_flaw, nothing_numbered, numbered};
 
+use flaw_places::is_of_entry;
+use history_words::Flaw;
 use std::alloc::{AllocError, Global};
 use std::marker::Model;
 use text_lines::is_skipped;
@@ -81,5 +83,16 @@ impl TraceLines {
         ensures { result ≡ entry_line self.now records index }
     {
         self.line(index.saturating_add(records.saturating_add(3)))
+    }
+
+    /// The line on which a flaw lies, after so many records.
+    pub fn of_flaw(&self, records: usize, flaw: Flaw) -> u64
+        ensures { result ≡ line_of_flaw self.now records flaw.kind flaw.place }
+    {
+        if is_of_entry(flaw.kind) {
+            self.of_entry(records, flaw.place)
+        } else {
+            self.of_record(flaw.place)
+        }
     }
 }

@@ -1,11 +1,12 @@
 //! Why a text is no trace.
 ghost use Rattle.std.specs.Prelude.{◌≡◌, length, Some, None, IfErr, OnOk, OnErr};
-ghost use Rattle.diagnostics.specs.Told.{IsReasonTold, IsReasonToldAt, IsReasonBegun, IsReasonBegunAt};
-ghost use Rattle.trace_diagnostics.specs.Told.{first_of, news_of, line_of_flaw};
+ghost use Rattle.diagnostics.specs.Told.{IsReasonTold, IsReasonBegun, IsPartTold, IsPartBegun};
+ghost use Rattle.trace_diagnostics.specs.Told.{first_of, news_of, line_of_flaw, part_of_flaw};
 
 use crate::cause::tell_misread;
 use crate::flaws::flaw_reason;
 use crate::trace_lines::TraceLines;
+use diagnostics::Part;
 use flaw_places::is_of_entry;
 use history_words::{AsClaim, Flaw};
 use line_loop::EngineFault;
@@ -83,7 +84,7 @@ impl<E: Write + Drop> TraceReasons<E> {
         tell_misread(b"", cause, news, &mut self.errors)
     }
 
-    /// Tells on which line of the text the trace's first flaw lies, what stands there and what was
+    /// Tells on which record or entry the trace's first flaw lies, which line of the text that is, what stands there and what was
     /// expected. Takes the bytes of the memory and a byte for each record, where the flaw's kind asks
     /// for them; where they are refused, less is told.
     pub fn tell_flaw<C: AsClaim>(
@@ -94,25 +95,25 @@ impl<E: Write + Drop> TraceReasons<E> {
         lines: &TraceLines,
     ) -> Result<(), EngineFault>
         ensures told { self.new.told ≡ self.old.told }
-        ensures errors { OnOk result (IsReasonToldAt (line_of_flaw lines.now
+        ensures errors { OnOk result (IsPartTold (part_of_flaw flaw.kind flaw.place) (line_of_flaw lines.now
             (length (C.claim claim.now).records) flaw.kind flaw.place) self.old.errors self.new.errors) }
         ensures fault { IfErr result (λ f. f ≡ EngineFault.Write) }
-        ensures part { OnErr result (IsReasonBegunAt (line_of_flaw lines.now
+        ensures part { OnErr result (IsPartBegun (part_of_flaw flaw.kind flaw.place) (line_of_flaw lines.now
             (length (C.claim claim.now).records) flaw.kind flaw.place) self.old.errors self.new.errors) }
     {
         let reason = flaw_reason(alloc, claim, flaw, lines);
-        let line = line_of(flaw, claim, lines);
-        reason.tell_at(line, &mut self.errors)
+        let line = lines.of_flaw(claim.records(), flaw);
+        reason.tell_of(part_of(flaw), line, &mut self.errors)
     }
 }
 
-/// On which line the flaw lies.
-fn line_of<C: AsClaim>(flaw: Flaw, claim: &C, lines: &TraceLines) -> u64
-    ensures { result ≡ line_of_flaw lines.now (length (C.claim claim.now).records) flaw.kind flaw.place }
+/// The record or the entry on which the flaw lies.
+fn part_of(flaw: Flaw) -> Part
+    ensures { result ≡ part_of_flaw flaw.kind flaw.place }
 {
     if is_of_entry(flaw.kind) {
-        lines.of_entry(claim.records(), flaw.place)
+        Part::Entry(flaw.place)
     } else {
-        lines.of_record(flaw.place)
+        Part::Record(flaw.place)
     }
 }

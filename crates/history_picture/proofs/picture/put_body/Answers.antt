@@ -1,13 +1,15 @@
 use Rattle.std.proofs.Common.{◌∙◌, ◌++◌, ap, ℕ, List}
+use Rattle.std.specs.Prelude.{Option}
 use Rattle.seq_memory.specs.Entries.{Entry}
+use Rattle.history_words.specs.declared.flaws.Flaw.{Flaw}
 use Rattle.svg_text.specs.Shapes.{shapes_text}
-use Rattle.history_picture.specs.Picture.{rows, requesters, entries, mark_shapes, width_of, bottom_of, shown_entries}
+use Rattle.history_picture.specs.Picture.{rows, requesters, entries, mark_shapes, width_of, bottom_of, flaw_of, shown_entries}
 use Rattle.history_picture.proofs.Steps.{both}
 use Rattle.history_picture.proofs.picture.put_body.Goals as goal
 
 pub returns-clause-shapes : goal.returns-clause-shapes
 returns-clause-shapes c =
-    let v = c.args.drawn.now.view in
+    let v = c.args.drawn.now.view.now in
     let rs = c.args.drawn.now.records.now in
     let h = c.args.drawn.now.history.now in
     let o = c.args.out.now.items in
@@ -16,9 +18,10 @@ returns-clause-shapes c =
     both o p c.put_mark.new.out.items (entries v (bottom_of v rs h) 0 (shown_entries v.scale h)) _
     (c.in_ok-put_entries.ensures ∙ ap (λ (b : ℕ). o ++ shapes_text (entries v b 0 c.shown_entries.result.now)) c.in_ok-bottom.ensures.bottom
     ∙ ap (λ (es : List Entry). o ++ shapes_text (entries v (bottom_of v rs h) 0 es)) c.shown_entries.ensures.shown)
-    (both p q c.put_mark.new.out.items (rows v (width_of v.scale) rs h 116 requesters) (mark_shapes v.scale rs c.args.drawn.now.flaw (bottom_of v rs h))
+    (both p q c.put_mark.new.out.items (rows v (width_of v) rs h 130 requesters) (mark_shapes v.scale rs (flaw_of c.args.drawn.now.finding) (bottom_of v rs h))
     (c.in_ok-extend_from_slice.ensures.items
     ∙ ap (λ (t : List ℕ). p ++ t) (c.as_slice.ensures.value ∙ c.in_ok-bottom.ensures.shapes
-    ∙ ap (λ (t : List ℕ). t ++ shapes_text (rows v c.width_of.result rs h 116 requesters)) c.new-rows.ensures.items
-    ∙ ap (λ (w : ℕ). shapes_text (rows v w rs h 116 requesters)) c.width_of.ensures))
-    (c.in_ok-put_mark.ensures ∙ ap (λ (b : ℕ). q ++ shapes_text (mark_shapes v.scale rs c.args.drawn.now.flaw b)) c.in_ok-bottom.ensures.bottom))
+    ∙ ap (λ (t : List ℕ). t ++ shapes_text (rows v c.width_of.result rs h 130 requesters)) c.new-rows.ensures.out
+    ∙ ap (λ (w : ℕ). shapes_text (rows v w rs h 130 requesters)) c.width_of.ensures))
+    (c.in_ok-put_mark.ensures ∙ ap (λ (b : ℕ). q ++ shapes_text (mark_shapes v.scale rs c.flaw_of-flaw.result b)) c.in_ok-bottom.ensures.bottom
+    ∙ ap (λ (f : Option Flaw). q ++ shapes_text (mark_shapes v.scale rs f (bottom_of v rs h))) c.flaw_of-flaw.ensures))

@@ -6,12 +6,12 @@ use Rattle.history_picture.proofs.rows.put_rows_of.Goals as goal
 pub loop-requester-preserved : goal.loop-requester-preserved
 loop-requester-preserved c = record {
   shapes =
-      rows-next c.args.shown.now.view c.args.shown.now.width c.args.shown.now.records.now c.args.shown.now.history.now c.loop-requester.top c.in_ok-height.height c.args.requesters.now c.loop-requester.requester-index
-      (slice_index c.args.requesters.now c.loop-requester.requester-index) c.loop-requester.out.items c.put_row.new.out.items
+      rows-next c.args.shown.now.view.now c.args.shown.now.width c.args.shown.now.records.now c.args.shown.now.history.now c.loop-requester.top c.in_ok-height.height c.args.requesters.now c.loop-requester.requester-index
+      (slice_index c.args.requesters.now c.loop-requester.requester-index) c.loop-requester.drawing.out.items c.put_row.new.drawing.out.items
       c.loop-requester-test.true refl c.in_ok-height.ensures.shapes c.in_ok-height.ensures.height
       ∙ c.loop-requester.invariant.shapes;
   bottom =
-      bottom-next c.args.shown.now.view c.args.shown.now.records.now c.args.shown.now.history.now c.loop-requester.top c.in_ok-height.height c.args.requesters.now c.loop-requester.requester-index
+      bottom-next c.args.shown.now.view.now c.args.shown.now.records.now c.args.shown.now.history.now c.loop-requester.top c.in_ok-height.height c.args.requesters.now c.loop-requester.requester-index
       (slice_index c.args.requesters.now c.loop-requester.requester-index) c.loop-requester-test.true refl c.in_ok-height.ensures.height
       ∙ c.loop-requester.invariant.bottom;
   low = omega (arith, c.loop-requester.invariant.low, c.in_ok-height.ensures.range);
@@ -19,11 +19,11 @@ loop-requester-preserved c = record {
 
 pub returns-clause-shapes : goal.returns-clause-shapes
 returns-clause-shapes c =
-    rows-past c.args.shown.now.view c.args.shown.now.width c.args.shown.now.records.now c.args.shown.now.history.now c.loop-requester.top c.args.requesters.now c.loop-requester.requester-index c.loop-requester.out.items
+    rows-past c.args.shown.now.view.now c.args.shown.now.width c.args.shown.now.records.now c.args.shown.now.history.now c.loop-requester.top c.args.requesters.now c.loop-requester.requester-index c.loop-requester.drawing.out.items
     c.loop-requester-test.false
     ∙ c.loop-requester.invariant.shapes
 
 pub returns-clause-bottom : goal.returns-clause-bottom
 returns-clause-bottom c =
-    bottom-past c.args.shown.now.view c.args.shown.now.records.now c.args.shown.now.history.now c.loop-requester.top c.args.requesters.now c.loop-requester.requester-index c.loop-requester-test.false
+    bottom-past c.args.shown.now.view.now c.args.shown.now.records.now c.args.shown.now.history.now c.loop-requester.top c.args.requesters.now c.loop-requester.requester-index c.loop-requester-test.false
     ∙ c.loop-requester.invariant.bottom

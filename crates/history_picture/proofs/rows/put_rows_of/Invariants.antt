@@ -5,8 +5,8 @@ use Rattle.history_picture.proofs.rows.put_rows_of.Given as goal
 
 abbrev pub invariant-loop-requester : goal.invariant-loop-requester
 invariant-loop-requester l = record {
-  shapes : l.out.items ++ shapes_text (rows l.shown.view l.shown.width l.shown.records.now l.shown.history.now l.top (drop l.requester-index l.requesters))
-      ≡ l.fn.out.items ++ shapes_text (rows l.shown.view l.shown.width l.shown.records.now l.shown.history.now 116 l.requesters);
-  bottom : rows_bottom l.shown.view l.shown.records.now l.shown.history.now l.top (drop l.requester-index l.requesters) ≡ rows_bottom l.shown.view l.shown.records.now l.shown.history.now 116 l.requesters;
-  low : l.top ≤ 116 + 7184 * l.requester-index;
+  shapes : l.drawing.out.items ++ shapes_text (rows l.shown.view.now l.shown.width l.shown.records.now l.shown.history.now l.top (drop l.requester-index l.requesters))
+      ≡ l.fn.drawing.out.items ++ shapes_text (rows l.shown.view.now l.shown.width l.shown.records.now l.shown.history.now 130 l.requesters);
+  bottom : rows_bottom l.shown.view.now l.shown.records.now l.shown.history.now l.top (drop l.requester-index l.requesters) ≡ rows_bottom l.shown.view.now l.shown.records.now l.shown.history.now 130 l.requesters;
+  low : l.top ≤ 130 + 10250 * l.requester-index;
 }
