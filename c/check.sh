@@ -4,17 +4,17 @@
 # SystemVerilog and SystemC testbenches, the device in QEMU with the dissector of its packets, and what the pages show. If
 # PCIEX_C names a folder with libpciex_c.a, it takes that archive and builds none; KIT_C can name the folder of the
 # toolchain's liblibc_c.a. Over an optimized build of plain Rust it leaves out valgrind and the Rust wrapper
-# (docs/plain-rust.md says why). Its last line lists what it left out, for this or since a tool is missing. Fails if one of
-# them fails.
+# (docs/plain-rust.md says why). It says what it leaves out, for this or since a tool is missing. Fails if one of them fails.
 unset CDPATH
 cd "$(dirname "$0")/.." || exit 1
+. scripts/left_out.sh
 say() { echo "library for C: $*"; }
 if command -v rt > /dev/null; then
     home=$(dirname "$(rt doc)")
     : "${KIT_C:=$home/c}"
 fi
 if ! command -v cc > /dev/null || [ -z "${PCIEX_C:-$home}" ] || [ -z "$KIT_C" ]; then
-    say "not built: there is no rt or no cc"
+    left_out "the library for C" "rt, or no cc"
     exit 0
 fi
 room=$(mktemp -d) || exit 1
@@ -55,7 +55,6 @@ if [ -z "$PCIEX_C" ] && ! build > "$room/log" 2>&1; then
 fi
 runs=0
 failed=0
-left_out=
 sh c/prototypes.sh "$folder/libpciex_c.a" || failed=1
 
 # wants WHAT STATUS OUTPUT INPUT WORD..: whether a run on the input has this exit status and prints this file.
@@ -65,7 +64,10 @@ wants() {
     "$@" < "$input" > "$room/output" 2> "$room/errors"
     got=$?
     runs=$((runs + 1))
-    if [ $got -ne "$status" ] || ! cmp -s "$output" "$room/output"; then
+    if [ $got -eq 124 ] || [ $got -eq 137 ]; then
+        say "$what: no end within its time"
+        failed=1
+    elif [ $got -ne "$status" ] || ! cmp -s "$output" "$room/output"; then
         say "$what: status $got, and not $status, or another text"
         tail -n 3 "$room/output" "$room/errors"
         failed=1
@@ -92,20 +94,13 @@ passes() {
     failed=1
 }
 
-# has_tool WORD MISSING: whether there is such a command. If not, notes what is left out.
-has_tool() {
-    command -v "$1" > /dev/null && return
-    left_out="$left_out, $2"
-    return 1
-}
-
 for name in device history fabric script check search fields differ monitor crc endpoint linked; do
     if ! cc -Wall -Wextra -Werror -std=c99 -O2 -o "$room/$name" c/examples/$name.c "$folder/libpciex_c.a" "$kit/liblibc_c.a"; then
         say "examples/$name.c isn't compiled and linked"
         exit 1
     fi
 done
-if has_tool c++ "the header as C++"; then
+if has c++ "the header as C++"; then
     echo '#include "pciex_differ.h"' > "$room/header.cpp"
     echo 'int main() { pciex_device device = PCIEX_NONE; pciex_device_free(&device); }' >> "$room/header.cpp"
     if ! c++ -Wall -Wextra -Werror -Ic -o "$room/header" "$room/header.cpp" "$folder/libpciex_c.a" "$kit/liblibc_c.a"; then
@@ -165,24 +160,38 @@ echo "flaw 10 Reply 2" > "$room/flaw"
 sed 's/^ans 1 0 2 data 01020304/ans 1 0 2 data 00000000/' examples/trace.txt > "$room/flawed"
 examples
 
-# What a search says on standard error is what the program says there.
-if [ -x crates/pciex/out/pciex ]; then
+# Swaps that stay unanswered, 65 of six requesters, and reads that contradict each other: each order of the Swaps is one to be
+# tried, and the work ends the search before its 1,000,000 choices.
+awk 'BEGIN {
+    print "pciex-log 1"
+    print "memory 0 4096 64"
+    for (k = 0; k < 65; k++) printf "sub %d %d swap 0 %02X000000\n", k % 6 + 1, int(k / 6), k + 1
+    for (k = 0; k < 3; k++) printf "sub 7 %d read 0 1 F 0\nans 7 %d data %s000000\n", k, k, k == 1 ? "09" : "05"
+    print "end"
+}' > "$room/swaps"
+echo "work 300000000" > "$room/work"
+wants "search on 65 open Swaps" 3 "$room/work" "$room/swaps" timeout 1800 "$room/search"
+
+# What a search says on standard error is what the program says there: the one beside the archive, or that of program.sh.
+program=$folder/pciex
+[ -x "$program" ] || program=$(sh scripts/program.sh 2> /dev/null)
+if [ -n "$program" ]; then
     for log in log lie torn; do
-        crates/pciex/out/pciex search < "$room/$log" > "$room/answer" 2> "$room/reasons"
+        "$program" search < "$room/$log" > "$room/answer" 2> "$room/reasons"
         wants "search on $log" $? "$room/answer" "$room/$log" "$room/search"
         tells "search on $log" "$(cat "$room/reasons")"
     done
 else
-    left_out="$left_out, the reasons of a search"
+    left_out "the reasons of a search from C" "program that is built"
 fi
 
 # Large inputs: a fabric takes 100,486 lines and prints what the program prints; a trace of a memory of 1 MiB is checked.
 awk -v rounds=99 -f bench/script.awk > "$room/long_script"
-if [ -x crates/pciex/out/pciex ]; then
-    crates/pciex/out/pciex step < "$room/long_script" > "$room/results"
+if [ -n "$program" ]; then
+    "$program" step < "$room/long_script" > "$room/results"
     wants "fabric on $(wc -l < "$room/long_script") lines" 0 "$room/results" "$room/long_script" "$room/fabric"
 else
-    left_out="$left_out, the fabric on a long script"
+    left_out "a fabric in C on a long script" "program that is built"
 fi
 sh scripts/large_inputs.sh "$room"
 echo "flaw 10 Reply 100000" > "$room/far_flaw"
@@ -201,42 +210,50 @@ esac
 valgrind=
 under="the examples, the Python package and the DPI functions under valgrind"
 if [ -n "$optimized" ]; then
-    left_out="$left_out, $under (the archive is optimized)"
-elif has_tool valgrind "$under"; then
-    valgrind=1
-    examples valgrind -q --error-exitcode=99 --leak-check=full
+    say "not over an optimized archive: $under"
+elif has valgrind "$under"; then
+    # Each run has five minutes of a processor. The longest takes half of one over an archive that isn't optimized.
+    valgrind="timeout 3600 prlimit --cpu=300 valgrind -q --error-exitcode=99 --leak-check=full"
+    # shellcheck disable=SC2086
+    examples $valgrind
 fi
 
 # An endpoint under a root complex apart from the library, with each allocation refused, and as lspci sees it; and one behind
-# its link, under a peer with a data link layer of its own, and under one that breaks the rules.
-# endpoint_test FOLDER NAME WORD..: compiles FOLDER/NAME.c, linked with these words, and runs it; a shorter run under valgrind.
+# its link, under a peer with a data link layer of its own, and under one that breaks the rules; and all other calls with each
+# allocation refused.
+# endpoint_test FOLDER NAME WORD..: compiles FOLDER/NAME.c, linked with these words, and runs it. Then a run of 500 requests,
+# alone and under valgrind, which has to print the same.
 endpoint_test() {
     test=$1-$2 source=c/$1/$2
     shift 2
-    passes "$source.c isn't compiled and linked" cc -Wall -Wextra -Werror -std=c99 -O2 -o "$room/$test" "$source.c" \
+    passes "$source.c isn't compiled and linked" cc -Wall -Wextra -Werror -std=c99 -O2 -Ic -o "$room/$test" "$source.c" \
         "$folder/libpciex_c.a" "$kit/liblibc_c.a" "$@"
     wants "$source.c" 0 "$source.out" /dev/null "$room/$test"
-    [ -z "$valgrind" ] || wants "$source.c under valgrind" 0 "$source.out" /dev/null \
-        valgrind -q --error-exitcode=99 --leak-check=full "$room/$test" 20000
+    [ -n "$valgrind" ] || return
+    "$room/$test" 500 > "$room/short"
+    # shellcheck disable=SC2086
+    wants "$source.c under valgrind" 0 "$room/short" /dev/null $valgrind "$room/$test" 500
 }
 refusing=-Wl,--wrap=malloc,--wrap=calloc,--wrap=realloc,--wrap=posix_memalign
 endpoint_test endpoint root_complex
 endpoint_test endpoint refused_memory $refusing
+endpoint_test linked first
 endpoint_test linked peer
 endpoint_test linked broken_rules
 endpoint_test linked refused_memory $refusing
+endpoint_test calls refused_memory $refusing
 if lspci --version 2> /dev/null | grep -q ' 3\.9'; then
     "$room/endpoint-root_complex" dump > "$room/registers"
     wants "lspci on the registers" 0 c/endpoint/lspci.out /dev/null lspci -n -vvv -F "$room/registers"
 else
-    left_out="$left_out, the registers of an endpoint (lspci 3.9)"
+    left_out "the registers of an endpoint" "lspci 3.9"
 fi
 
 export PCIEX_C="$folder" KIT_C="$kit" CARGO_TARGET_DIR="$room/target" PYTHONDONTWRITEBYTECODE=1
 rust_wrapper=
 if [ -n "$optimized" ]; then
-    left_out="$left_out, the Rust wrapper (the archive is optimized)"
-elif has_tool cargo "the Rust wrapper"; then
+    say "not over an optimized archive: the Rust wrapper"
+elif has cargo "the Rust wrapper"; then
     rust_wrapper=1
     passes "the Rust wrapper's tests fail" sh -c 'cd c/rust && cargo test --offline --locked -q'
 fi
@@ -254,23 +271,23 @@ install_python() {
         fi
     done
     python=python3 site=$room/python/src
-    left_out="$left_out, pip's installation of the Python package"
+    left_out "pip's installation of the Python package" "python3 with pip, setuptools and wheel"
 }
 
 # python_under_valgrind: the tests of each call. No error may name the library; Python has some of its own.
 python_under_valgrind() {
-    program=$("$python" -c 'import sys; print(sys.executable)')
-    PYTHONMALLOC=malloc valgrind --leak-check=full --log-file="$room/valgrind" "$program" -m unittest -q test_calls &&
+    interpreter=$("$python" -c 'import sys; print(sys.executable)')
+    PYTHONMALLOC=malloc timeout 3600 prlimit --cpu=300 valgrind --leak-check=full --log-file="$room/valgrind" "$interpreter" -m unittest -q test_calls &&
         grep -q "LEAK SUMMARY" "$room/valgrind" && ! grep "libpciex" "$room/valgrind"
 }
-if has_tool python3 "the Python package"; then
+if has python3 "the Python package"; then
     install_python
     export PYTHONPATH="$site:$PWD/c/python/tests"
     passes "the Python package's tests fail" "$python" -m unittest discover -s c/python/tests
     wants "check.py on trace.txt" 0 "$room/ok" examples/trace.txt "$python" c/python/examples/check.py
     wants "check.py on a trace with a wrong reply" 1 "$room/flaw" "$room/flawed" "$python" c/python/examples/check.py
     if [ -n "$valgrind" ]; then
-        passes "valgrind finds something in the Python package's library" python_under_valgrind
+        passes "valgrind finds something in the Python package's library, or it has no end" python_under_valgrind
     fi
 fi
 
@@ -283,12 +300,11 @@ long_testbench() {
         +requests=20000 +search '+trace=$room/long_trace' | grep -v 'Verilog \$finish'"
     say "a testbench of 20,000 requests in $((($(date +%s%N) - now) / 1000000)) ms"
 }
-if has_tool verilator "SystemVerilog (verilator)"; then
+if has verilator "SystemVerilog"; then
     passes "the SystemVerilog testbench fails" make -C c/sv/test "OUT=$room/sv"
     long_testbench
     if [ -n "$valgrind" ]; then
-        passes "valgrind finds something in the DPI functions" sh -c "cd '$room/sv' && valgrind -q --error-exitcode=99 \
-            --leak-check=full calls/calls"
+        passes "valgrind finds something in the DPI functions, or they have no end" sh -c "cd '$room/sv' && $valgrind calls/calls"
     fi
 fi
 has_systemc=
@@ -297,12 +313,12 @@ if c++ -std=c++17 -o "$room/probe" "$room/probe.cpp" -lsystemc 2> /dev/null; the
     has_systemc=1
     passes "the SystemC testbench fails" make -C c/systemc/test "OUT=$room/tlm"
 else
-    left_out="$left_out, SystemC (libsystemc-dev)"
+    left_out "SystemC" "libsystemc"
 fi
 
 # The device in QEMU: test.sh says what it leaves out.
 passes "the device in QEMU fails" env "LINK=$folder/libpciex_c.a $kit/liblibc_c.a" sh c/qemu/test.sh "$room"
-left_out="$left_out$(sed -n 's/^left out: /, /p' "$room/log" | tr -d '\n')"
+grep '^left out: ' "$room/log"
 say "the device in QEMU: $(sed -n 's/^qemu: //p' "$room/log" | tr '\n' ';')"
 
 # ---- what the pages show
@@ -347,7 +363,7 @@ build_hook() {
 # rust_hook: the hook in Rust as a program over c/rust.
 rust_hook() {
     mkdir -p "$room/hook_rs/src"
-    with_hook hook.rs Rust rust > "$room/hook_rs/src/main.rs"
+    cp c/hooks/hook.rs "$room/hook_rs/src/main.rs"
     printf '[package]\nname = "hook"\nversion = "1.0.0"\nedition = "2021"\n\n[dependencies]\npciex = { path = "%s" }\n' \
         "$PWD/c/rust" > "$room/hook_rs/Cargo.toml"
     (cd "$room/hook_rs" && cargo build --offline -q)
@@ -379,10 +395,8 @@ block bring-it-up.md "## A session in C" c > "$room/session.c"
 awk '/^## / { on = $0 == "## A session in C" } on && /^[0-9A-F]+$/' docs/bring-it-up.md > "$room/session.out"
 build_hook session.c cc -std=c99
 wants "the session of bring-it-up.md" 0 "$room/session.out" /dev/null "$room/session"
-block bring-it-up.md "## Behind a link, in C" c > "$room/link.c"
 awk '/^## / { on = $0 == "## Behind a link, in C" } on && /^(dllp|packet) [0-9A-F]+$/' docs/bring-it-up.md > "$room/link.out"
-build_hook link.c cc -std=c99
-wants "the link of bring-it-up.md" 0 "$room/link.out" /dev/null "$room/link"
+wants "the link of bring-it-up.md" 0 "$room/link.out" /dev/null "$room/linked-first"
 block qemu.md "## Your own emulator" c > "$room/emulator.c"
 build_hook emulator.c cc -std=gnu11 -Ic/qemu c/qemu/ports.c c/qemu/records.c
 echo 33445566 > "$room/emulator.out"
@@ -394,7 +408,7 @@ with_hook hook.c C c > "$room/hook_c.c"
 build_hook hook_c.c cc -std=c99
 finds C "$room/hook_c"
 if command -v c++ > /dev/null; then
-    with_hook hook.cpp C++ cpp > "$room/hook_cpp.cpp"
+    cp c/hooks/hook.cpp "$room/hook_cpp.cpp"
     build_hook hook_cpp.cpp c++ -std=c++17
     finds C++ "$room/hook_cpp"
 fi
@@ -414,7 +428,7 @@ if command -v verilator > /dev/null; then
 fi
 if [ -n "$has_systemc" ]; then
     systemc=-lsystemc
-    with_hook hook_tlm.cpp SystemC cpp > "$room/hook_tlm.cpp"
+    cp c/hooks/hook_tlm.cpp "$room/hook_tlm.cpp"
     build_hook hook_tlm.cpp c++ -std=c++17
     finds SystemC env SYSTEMC_DISABLE_COPYRIGHT_MESSAGE=1 "$room/hook_tlm"
     fill c/hooks/two_adders.cpp SOCKETS use-from-c.md "## SystemC" cpp > "$room/with_sockets.cpp"
@@ -424,5 +438,5 @@ if [ -n "$has_systemc" ]; then
     wants "SystemC in use-from-c.md" 0 "$room/two" /dev/null env SYSTEMC_DISABLE_COPYRIGHT_MESSAGE=1 "$room/two_adders"
 fi
 
-say "$runs runs, $(wc -c < "$folder/libpciex_c.a") bytes; left out: ${left_out:-, nothing}" | sed 's/: , /: /'
+say "$runs runs, $(wc -c < "$folder/libpciex_c.a") bytes"
 exit $failed

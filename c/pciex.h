@@ -1053,10 +1053,10 @@ static inline uint32_t pciex_check_clocked(const uint8_t *text, size_t length, u
  * Looks for a history that explains what requesters submitted and were answered: the text of a log, or of a trace,
  * whose counts n and history are ignored. What `pciex search --limit` prints is in the buffer: a trace with such a
  * history, and PCIEX_FOUND; `none 3`, or `flaw 6 Again 2` for a bookkeeping mistake of the log, or `fault 3 Line` if the
- * text can't be read, and PCIEX_NOT_FOUND; `limit 1000000`, and PCIEX_GIVEN_UP: nothing is known then. `length` is the
- * number of its bytes, also with PCIEX_SMALL_ROOM, for a buffer of fewer. Or PCIEX_NO_MEMORY: nothing is known, and
- * `length` stays as it was; a text whose first fault comes before its records needs no memory. At most `limit` choices
- * are looked at; the work has no bound, so `pciex search --work` is the one that prints `work`.
+ * text can't be read, and PCIEX_NOT_FOUND; `limit 1000000` or `work 300000000`, and PCIEX_GIVEN_UP: nothing is known
+ * then. `length` is the number of its bytes, also with PCIEX_SMALL_ROOM, for a buffer of fewer. Or PCIEX_NO_MEMORY:
+ * nothing is known, and `length` stays as it was; a text whose first fault comes before its records needs no memory. At
+ * most `limit` choices are looked at, and the work is that of `pciex search` without `--work` at most: about half a minute.
  */
 static inline uint32_t pciex_search(const uint8_t *text, size_t text_length, uint64_t limit, uint8_t *room,
                                     size_t room_length, size_t *length)
@@ -1094,8 +1094,9 @@ static inline uint32_t pciex_search_with_reasons(const uint8_t *text, size_t tex
 /* ---- packets in words and in fields, and names */
 
 /*
- * The words of a TLP, or of a DLLP if there are four bytes, as `pciex decode` writes them. Below 1000: the number of
- * their bytes. 1000 to 1999: 1000 and the number of bytes of the fault's text, `fault 1 Short`, which is in the buffer.
+ * The words of a TLP, configuration requests too, or of a DLLP if there are four bytes, as `pciex decode` writes them.
+ * Below 1000: the number of their bytes. 1000 to 1999: 1000 and the number of bytes of the fault's text, `fault 1 Short`,
+ * which is in the buffer.
  * PCIEX_SMALL_ROOM for fewer than PCIEX_LINE bytes, which is tested first.
  */
 static inline uint32_t pciex_decode(const uint8_t *packet, size_t length, uint8_t *room, size_t room_length)
@@ -1108,7 +1109,7 @@ static inline uint32_t pciex_decode(const uint8_t *packet, size_t length, uint8_
 
 /*
  * The fields of a TLP: 0, and they are in `tlp`. 1000 to 1999: 1000 and the number of the packet's fault, and `tlp` stays as
- * it was; pciex_fault_name has its name.
+ * it was; pciex_fault_name has its name. A configuration request has the fault Kind.
  */
 static inline uint32_t pciex_decode_tlp(const uint8_t *packet, size_t length, pciex_tlp *tlp)
 {

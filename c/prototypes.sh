@@ -8,7 +8,7 @@ unset CDPATH
 cd "$(dirname "$0")/.." || exit 1
 say() { echo "prototypes: $*"; }
 if ! command -v cc > /dev/null; then
-    say "not compared: there is no cc"
+    echo "left out: the header's functions beside the library's, since there is no cc"
     exit 0
 fi
 room=$(mktemp -d) || exit 1

@@ -5,6 +5,10 @@
  * It finds the function, walks its capabilities, sizes and sets BAR 0, enables memory, then sends requests drawn at
  * random: reads of up to 4096 bytes, writes across blocks, AtomicOps, requests that nobody claims, in D3hot, to other
  * functions, poisoned, with a digest, malformed. Prints what it found, and the first completion that is wrong.
+ *
+ *     root_complex [REQUESTS | dump]
+ *
+ * REQUESTS are some 10,000 if none are named; with dump the registers are printed, and nothing else is done.
  */
 #include "../pciex.h"
 
@@ -551,11 +555,12 @@ int main(int count, char **words)
         pciex_endpoint_free(&device);
         return 0;
     }
+    const unsigned requests = count > 1 ? (unsigned)strtoul(words[1], NULL, 10) : 10000;
     enumerate();
-    use(10000);
+    use(requests);
     sleep_and_wake();
     many_at_once();
-    use(1000);
+    use(requests / 10);
     for (unsigned reg = 0x100; reg < 4096; reg += 4) {
         wants(read_register(reg) == 0, "a register that there isn't");
     }

@@ -1,5 +1,4 @@
-// A device of one's own, which loses the second addition, and where HOOK stands the five lines of
-// docs/judge-your-own-device.md.
+// A device of one's own, which loses the second addition, and the lines that find it.
 #include "pciex_differ.h"
 
 #include <array>
@@ -30,6 +29,10 @@ int main()
     for (int turn = 0; turn < 3; turn++) {
         const bytes got = my_device(turn, request);
         std::cout << "request " << turn << '\n';
-        HOOK
+        std::vector<std::uint8_t> expected(PCIEX_PACKET);
+        const auto length = pciex_answer(memory.data(), memory.size(), 0, 64, request.data(), request.size(),
+                                         expected.data(), expected.size());
+        if (const char *field = pciex_differ(request.data(), expected.data(), length, got.data(), got.size()))
+            std::cout << "wrong: " << field << '\n';
     }
 }

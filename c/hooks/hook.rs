@@ -1,5 +1,4 @@
-//! A device of one's own, which loses the second addition, and where HOOK stands the five lines of
-//! docs/judge-your-own-device.md.
+//! A device of one's own, which loses the second addition, and the lines that find it.
 
 fn my_device(turn: i32, mine: &mut [u8], request: &[u8]) -> Option<Vec<u8>> {
     let before = mine.to_vec();
@@ -17,7 +16,10 @@ fn main() -> Result<(), pciex::Error> {
     for turn in 0..3 {
         let got = my_device(turn, &mut mine, &request);
         println!("request {turn}");
-        HOOK
+        let expected = pciex::answer(&mut memory, 0, 64, &request)?;
+        if let Some(field) = pciex::differ(&request, expected.as_deref(), got.as_deref()) {
+            println!("wrong: {field}");
+        }
     }
     Ok(())
 }

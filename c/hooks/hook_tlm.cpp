@@ -1,5 +1,4 @@
-// A target of one's own, which loses the second access, and where HOOK stands the five lines of
-// docs/judge-your-own-device.md: a write of 7, one of 9, and a read.
+// A target of one's own, which loses the second access, and the lines that find it: a write of 7, one of 9, and a read.
 #include "pciex_tlm.h"
 
 #include <tlm_utils/simple_initiator_socket.h>
@@ -50,7 +49,11 @@ struct initiator : sc_core::sc_module {
             trans.set_data_length(sizeof data);
             trans.set_streaming_width(sizeof data);
             std::cout << "request " << turn << '\n';
-            HOOK
+            std::vector<unsigned char> expected(trans.get_data_ptr(), trans.get_data_ptr() + trans.get_data_length());
+            mine->b_transport(trans, delay);
+            trans.set_data_ptr(expected.data());
+            reference->b_transport(trans, delay);
+            if (!std::equal(expected.begin(), expected.end(), data)) std::cout << "wrong: data\n";
         }
     }
 };

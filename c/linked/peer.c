@@ -6,6 +6,10 @@
  * 64 counters, 10,000 times by FetchAdd, and writes to other places meanwhile: each completion must have the count so
  * far. At the end the memory must hold the counts and what was written last, read over the link and by
  * pciex_linked_bytes, and the endpoint's trace must be right, with each addition once. Prints the first thing that is wrong.
+ *
+ *     peer [ADDITIONS]
+ *
+ * Of fewer than 10,000 additions it doesn't want that all has happened that may happen on a link.
  */
 #include "../pciex.h"
 #include "crcs.h"
@@ -16,7 +20,7 @@
 
 #define SIZE 65536u
 #define BASE 0xFEDC0000u
-#define ADDITIONS 10000u
+#define MANY 10000u
 #define COUNTERS 64u
 #define WRITTEN 32768u /* the written half of the memory begins here */
 
@@ -26,6 +30,7 @@
 
 static uint64_t seed;
 static unsigned now; /* ticks */
+static unsigned long all_additions;
 
 static uint32_t draw(uint32_t below)
 {
@@ -548,7 +553,7 @@ static bool asks(void)
             set_up += configure(0x04, 0x01, 2);
             return false;
     }
-    if (additions < ADDITIONS) {
+    if (additions < all_additions) {
         draw(6) == 0 ? write_some() : add();
         return false;
     }
@@ -612,8 +617,19 @@ static void check_trace(void)
         const unsigned count = memory[4 * i] + 256u * memory[4 * i + 1];
         wants(submitted[i] == count && acted[i] == count, "an addition isn't in the trace once");
     }
-    wants(answers == ADDITIONS + SIZE / 128, "another number of answers in the trace");
+    wants(answers == all_additions + SIZE / 128, "another number of answers in the trace");
     free(text);
+}
+
+/* Numbers wrapped twice, and each thing that the wires and the timers bring about came about. */
+static void all_happened(void)
+{
+    wants(sent_by_peer > 2 * 4096 && accepted_by_peer > 2 * 4096, "the numbers didn't wrap twice");
+    wants(lost > 100 && flipped > 100 && stops > 3, "the wires were too good");
+    wants(replays_of_peer > 0 && replays_of_device > 0 && naks_of_device > 0, "nothing was replayed");
+    wants(duplicates > 0 && became[PCIEX_PACKET_DUPLICATE] > 0, "nothing came twice");
+    wants(became[PCIEX_PACKET_NAK] > 0 && became[PCIEX_PACKET_QUIET] > 0, "nothing was out of order");
+    wants(stopped_senders > 0, "no sender was stopped");
 }
 
 static void session(pciex_credits given)
@@ -643,21 +659,19 @@ static void session(pciex_credits given)
     for (unsigned i = 0; i < COUNTERS; i++) {
         sum += bytes[4 * i] + 256u * bytes[4 * i + 1];
     }
-    wants(sum == ADDITIONS, "an addition is lost, or counts twice");
+    wants(sum == all_additions, "an addition is lost, or counts twice");
     check_trace();
-    wants(sent_by_peer > 2 * 4096 && accepted_by_peer > 2 * 4096, "the numbers didn't wrap twice");
     wants(became[PCIEX_TLP_ACCEPTED] == sent_by_peer, "a packet is accepted twice, or never");
-    wants(lost > 100 && flipped > 100 && stops > 3, "the wires were too good");
-    wants(replays_of_peer > 0 && replays_of_device > 0 && naks_of_device > 0, "nothing was replayed");
-    wants(duplicates > 0 && became[PCIEX_PACKET_DUPLICATE] > 0, "nothing came twice");
-    wants(became[PCIEX_PACKET_NAK] > 0 && became[PCIEX_PACKET_QUIET] > 0, "nothing was out of order");
-    wants(stopped_senders > 0, "no sender was stopped");
+    if (all_additions >= MANY) {
+        all_happened();
+    }
     printf("%lu additions, each counts once; credits %u, %u, %u, %u\n", sum, given.ph, given.pd, given.nph, given.npd);
     pciex_linked_free(&device);
 }
 
-int main(void)
+int main(int count, char **words)
 {
+    all_additions = count > 1 ? strtoul(words[1], NULL, 10) : MANY;
     const pciex_credits usual = {16, 64, 16, 16}, least = {1, 8, 1, 2};
     seed = 1;
     session(usual);

@@ -99,6 +99,12 @@ static const char *wrong_range(const struct options *it)
     return it->seconds < 1 || it->seconds > 1000000 ? "--seconds: 1 to 1000000" : NULL;
 }
 
+/* Whether both are given and name one file, in which each would overwrite the other. */
+static bool is_one_file(const char *one, const char *other)
+{
+    return one && other && !strcmp(one, other) && strcmp(one, "/dev/null") != 0;
+}
+
 /* Reads the program's words. False, with a message, if one is wrong. */
 static bool read_options(struct options *options, int count, char **words)
 {
@@ -113,6 +119,12 @@ static bool read_options(struct options *options, int count, char **words)
     const char *wrong = wrong_range(options);
     if (wrong) {
         complain("%s", wrong);
+        return false;
+    }
+    const struct names *names = &options->names;
+    if (is_one_file(names->log, names->trace) || is_one_file(names->log, names->capture) ||
+        is_one_file(names->trace, names->capture)) {
+        complain("--log, --trace and --pcap: one file for two of them");
         return false;
     }
     if (i + 1 >= count) {

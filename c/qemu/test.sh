@@ -5,7 +5,7 @@
 # calls it so. First without QEMU: wrong words, a QEMU that isn't there, dies, stays too long or sends no message, a full
 # disk. Then, if QEMU is there, the device driven by qtest.py, also under valgrind and the sanitizers, and a device that
 # loses a posted write. Then the dissector in tshark. Last a guest, if the variable PCIEX_KERNEL or /boot has a kernel of
-# Debian's linux-image-*-cloud-amd64. A line `left out: WHAT` stands for each part that is left out, as a tool is missing.
+# Debian's linux-image-*-cloud-amd64. It says what it leaves out, as a tool is missing.
 unset CDPATH
 here=$(realpath "$(dirname "$0")")
 programs=$(realpath "$1")
@@ -35,7 +35,7 @@ if cc -fsanitize=address,undefined -o probe probe.c 2> errors && ./probe; then
     build sanitized -O1 -g -fsanitize=address,undefined -fno-sanitize-recover=all
     programs_here="./pciex_qemu ./sanitized"
 else
-    echo "left out: the device in QEMU under the sanitizers"
+    echo "left out: the device in QEMU under the sanitizers, since there is no libasan"
 fi
 
 # refuses TEXT WORD..: whether it ends with status 2 and this text, and leaves no process that wrote its number to `left`.
@@ -60,6 +60,7 @@ without_qemu() {
     refuses "'--ports 1x' is no option" --ports 1x -- true
     refuses "'--log' is no option" --log
     refuses "--ports: 1 to 7" --ports 8 -- true
+    refuses "--log, --trace and --pcap: one file" --log one --pcap one -- true
     refuses "--size: a power of two" --size 5000 -- true
     refuses "--block: 64 or 128" --block 32 -- true
     refuses "--seconds: 1 to 1000000" --seconds 0 -- true
@@ -96,18 +97,18 @@ for program in $programs_here; do
 done
 
 if ! command -v qemu-system-x86_64 > /dev/null || ! command -v python3 > /dev/null; then
-    echo "left out: the device in QEMU (qemu-system-x86, python3)"
+    echo "left out: the device in QEMU, since there is no qemu-system-x86_64, or no python3"
     exit 0
 fi
 if ! qemu-system-x86_64 -device help 2>&1 | grep -q x-pci-proxy-dev; then
-    echo "left out: the device in QEMU, which has no x-pci-proxy-dev"
+    echo "left out: the device in QEMU, since there is no x-pci-proxy-dev in it"
     exit 0
 fi
 
 # drives WORD..: whether the words before the device's own run it, driven by qtest.py, to status 0.
 drives() {
-    python3 "$here/qtest.py" seen config "$@" --ports 2 --log log --trace trace --pcap pcap > out 2> errors ||
-        fail "qtest.py $*: $(cat out errors)"
+    timeout 1800 python3 "$here/qtest.py" seen config "$@" --ports 2 --log log --trace trace --pcap pcap > out 2> errors ||
+        fail "qtest.py $*: status $? (124 after half an hour): $(cat out errors)"
 }
 
 # explained FILE WHAT: whether `search` finds a history for the log.
@@ -127,16 +128,18 @@ if command -v lspci > /dev/null; then
     lspci -F config -vv 2> errors > out
     grep -q "AtomicOpsCap: 32bit+ 64bit+ 128bitCAS+" out || fail "lspci says: $(cat out errors)"
 else
-    echo "left out: the configuration space in lspci (pciutils)"
+    echo "left out: the configuration space in lspci, since there is no lspci"
 fi
 if command -v tshark > /dev/null; then
     sh "$here/../wireshark/test.sh" "$programs/device" pcap || exit 1
 else
-    echo "left out: the dissector of TLPs (tshark)"
+    echo "left out: the dissector of TLPs, since there is no tshark"
 fi
 [ ! -x sanitized ] || drives ./sanitized
 if command -v valgrind > /dev/null; then
     drives valgrind -q --error-exitcode=99 --leak-check=full ./pciex_qemu
+else
+    echo "left out: the device in QEMU under valgrind, since there is no valgrind"
 fi
 # A device that loses each third posted write: both find it.
 drives ./pciex_qemu --lose 3
@@ -148,7 +151,7 @@ grep -q "^none" out || fail "search says $(head -n 1 out) to a device that loses
 
 kernel=${PCIEX_KERNEL:-$(find /boot -maxdepth 1 -name 'vmlinuz-*-cloud-amd64' 2> /dev/null | sort -V | tail -n 1)}
 if [ ! -r "$kernel" ] || ! command -v cpio > /dev/null; then
-    echo "left out: a guest in QEMU (cpio, and a kernel of linux-image-*-cloud-amd64 in /boot or named by PCIEX_KERNEL)"
+    echo "left out: a guest in QEMU, since there is no cpio, or no kernel of linux-image-*-cloud-amd64 in /boot or in PCIEX_KERNEL"
     exit 0
 fi
 now=$(date +%s)

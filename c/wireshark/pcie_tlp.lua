@@ -183,7 +183,7 @@ local function show_completion(all, buffer, t)
 end
 
 local function show_data(all, buffer, t)
-    local length = math.min(t.rest, t.has_data and 4 * t.dw or 0)
+    local length = math.min(t.captured, t.has_data and 4 * t.dw or 0)
     if length == 0 then
         return ""
     elseif t.kind == "CAS" and length == 2 * t.width then
@@ -192,18 +192,21 @@ local function show_data(all, buffer, t)
     else
         all:add((t.kind == "FetchAdd" or t.kind == "Swap") and f.operand or f.data, buffer(t.header, length))
     end
-    if t.rest > length and t.has_digest then
+    if t.captured > length and t.has_digest then
         all:add(f.digest, buffer(t.header + length))
     end
     return " " .. tostring(buffer(t.header, length):bytes())
 end
 
--- What the first four bytes say: nil, and why, if they are none of a TLP.
+-- What the first four bytes say: nil, and why, if they are none of a TLP. Of a frame that was cut when it was captured, the
+-- packet's own length counts.
 local function begin(buffer)
-    local bytes = buffer:len()
-    local b0 = bytes > 0 and buffer(0, 1):uint()
-    local t = { header = b0 and b0 % 64 >= 32 and 16 or 12 }
-    if bytes < t.header then
+    local bytes, captured = buffer:reported_len(), buffer:len()
+    local b0 = captured > 0 and buffer(0, 1):uint()
+    local t = { header = b0 and b0 % 64 >= 32 and 16 or 12, is_cut = captured < bytes }
+    if captured < t.header and bytes >= t.header then
+        return nil, nil, string.format("%d of %d bytes captured", captured, bytes)
+    elseif bytes < t.header then
         return nil, string.format("Short: %d bytes, and the header has %d", bytes, t.header)
     elseif b0 >= 128 and b0 < 160 then
         return nil, "Prefix: Fmt is 100b"
@@ -221,6 +224,7 @@ local function begin(buffer)
     end
     t.width = t.kind == "CAS" and 2 * t.dw or 4 * t.dw
     t.rest = bytes - t.header
+    t.captured = captured - t.header
     t.wanted = (t.has_data and 4 * t.dw or 0) + (t.has_digest and 4 or 0)
     return t
 end
@@ -228,15 +232,17 @@ end
 function tlp.dissector(buffer, pinfo, tree)
     local all = tree:add(tlp, buffer())
     pinfo.cols.protocol = "PCIe TLP"
-    local t, why = begin(buffer)
+    local t, why, cut = begin(buffer)
     if not t then
-        all:add_proto_expert_info(malformed, why)
-        pinfo.cols.info = why
+        if why then
+            all:add_proto_expert_info(malformed, why)
+        end
+        pinfo.cols.info = why or cut
         return
     end
     show_common(all, buffer, t)
     local text = (t.is_completion and show_completion or show_request)(all, buffer, t)
-    text = text .. show_data(all, buffer, t)
+    text = text .. show_data(all, buffer, t) .. (t.is_cut and ".." or "")
     local fault = fault_of(t)
     if fault then
         all:add_proto_expert_info(malformed, fault)

@@ -36,6 +36,25 @@ done
 show "$room/packets" "$@" > "$room/shown"
 diff "$here/packets.out" "$room/shown" || fail "packets.txt is shown otherwise than in packets.out"
 
+# Of frames that were cut when they were captured none is malformed, unless its own packet is.
+cat > "$room/cut.py" << 'end'
+import struct
+import sys
+
+most, data, at = int(sys.argv[1]), sys.stdin.buffer.read(), 24
+sys.stdout.buffer.write(data[:24])
+while at < len(data):
+    seconds, parts, kept, length = struct.unpack_from("<IIII", data, at)
+    sys.stdout.buffer.write(struct.pack("<IIII", seconds, parts, min(kept, most), length) + data[at + 16:at + 16 + min(kept, most)])
+    at += 16 + kept
+end
+show "$room/packets" -T fields -e _ws.expert.message > "$room/whole"
+for bytes in 1 13 18; do
+    python3 "$room/cut.py" $bytes < "$room/packets" > "$room/cut" || fail "no capture is cut"
+    show "$room/cut" -T fields -e _ws.expert.message > "$room/shown"
+    if grep -vxFf "$room/whole" "$room/shown" | grep .; then fail "a frame that is cut at $bytes bytes is malformed"; fi
+done
+
 # The names of faults: the first word of what is malformed, and the last of what `tlp` prints.
 "$tlp" < "$here/faults.txt" | sed 's/^fault [0-9]* //; t; s/.*/none/' > "$room/named"
 to_pcap faults "$here/faults.txt"

@@ -1,5 +1,6 @@
 """Each call once, and each of its refusals."""
 
+import contextlib
 import gc
 import signal
 import unittest
@@ -34,6 +35,77 @@ class ASignal(unittest.TestCase):
         finally:
             signal.signal(signal.SIGALRM, signal.SIG_IGN)
             signal.setitimer(signal.ITIMER_REAL, 0)
+
+
+    def test_a_handler_uses_the_same_fabric(self) -> None:
+        """Each result is that of its call, though a handler calls between."""
+        fabric, calls = pciex.Fabric("fabric 1 0 4096", is_traced=True), 0
+
+        def handler(number: int, frame: object) -> None:
+            nonlocal calls
+            calls += 1
+            with contextlib.suppress(pciex.Refused):
+                fabric.script("timer up1\n") if calls % 2 else fabric.event("timer up1")
+            signal.setitimer(signal.ITIMER_REAL, 0.0002)
+
+        signal.signal(signal.SIGALRM, handler)
+        signal.setitimer(signal.ITIMER_REAL, 0.0002)
+        try:
+            for count in range(250):
+                fabric.script("submit 1 add 40 01000000\n")
+                self.assertEqual(fabric.settle(), [f"ans 1 {count} data {old(count).hex()[24:].upper()}"])
+                trace = fabric.trace()
+                self.assertNotIn("\0", trace)
+                self.assertTrue(trace.endswith("end\n"))
+        finally:
+            signal.signal(signal.SIGALRM, signal.SIG_IGN)
+            signal.setitimer(signal.ITIMER_REAL, 0)
+        self.assertEqual(pciex.check(fabric.trace()), "ok")
+
+    def test_a_shorter_and_a_longer_text(self) -> None:
+        """As a handler would do between the two calls of a text."""
+        fabric = pciex.Fabric("fabric 1 0 4096", is_traced=True)
+        call, between = fabric._call, ["submit 1 add 40 01000000", "submit 1 add 44 01000000"]
+
+        def interrupted(function: object, *arguments: object) -> object:
+            code = call(function, *arguments)
+            if between:
+                fabric._call = call  # type: ignore[method-assign]
+                fabric.event(between.pop())
+                fabric._call = interrupted  # type: ignore[method-assign]
+            return code
+
+        fabric._call = interrupted  # type: ignore[method-assign]
+        trace = fabric.trace()
+        fabric._call = call  # type: ignore[method-assign]
+        self.assertEqual(trace, fabric.trace())
+
+    def test_a_settle_in_a_settle(self) -> None:
+        fabric = pciex.Fabric("fabric 1 0 4096")
+        fabric.event("submit 1 add 40 01000000")
+        settled = fabric.settled
+
+        def interrupted() -> object:
+            fabric.settled = settled  # type: ignore[method-assign]
+            with self.assertRaisesRegex(ValueError, "settles"):
+                fabric.settle()
+            return settled()
+
+        fabric.settled = interrupted  # type: ignore[method-assign]
+        self.assertEqual(fabric.settle(), ["ans 1 0 data 00000000"])
+        self.assertEqual(fabric.settle(), [])
+
+
+class WhatCantBe(unittest.TestCase):
+    def test_arguments(self) -> None:
+        with self.assertRaisesRegex(ValueError, "size"):
+            pciex.Memory(1 << 64)
+        with self.assertRaises(TypeError):
+            pciex.Device(4096).entry(1.5)  # type: ignore[arg-type]
+        with pciex.LinkedEndpoint(4096) as device:
+            for call in (device.packet, device.dllp):
+                with self.assertRaisesRegex(ValueError, "good"):
+                    call(bytes(4), good="failed")  # type: ignore[arg-type]
 
 
 class WithoutAHandle(unittest.TestCase):
@@ -75,8 +147,12 @@ class WithoutAHandle(unittest.TestCase):
         self.assertEqual(pciex.encode(words), ADD)
         self.assertEqual(pciex.decode(ADD), words)
         self.assertEqual(pciex.decode(bytes.fromhex("10000FFF")), "nak FFF")
+        read, bytes_read = "cfgread 1:0.0 000 F from 0008 tag 63", bytes.fromhex("04000001 0008630F 01000000")
+        self.assertEqual((pciex.encode(read), pciex.decode(bytes_read)), (bytes_read, read))
         for call, text in [
             (lambda: pciex.decode(ADD[:3]), "fault 1 Short"),
+            (lambda: pciex.decode(bytes.fromhex("04000001 0008631F 01000000")), "fault 14 Fields"),
+            (lambda: pciex.encode("cfgread 01:00.0 000 F from 0008 tag 63"), "fault words"),
             (lambda: pciex.encode("add 40"), "fault words"),
             (lambda: pciex.encode("add 41 07000000 from 0100 tag 05"), "fault 13 Unaligned"),
         ]:
@@ -134,7 +210,7 @@ class WithoutAHandle(unittest.TestCase):
             "ans 2 0 data 0000000002000000\nend\n"
         )
         answer, lines = pciex.search_with_reasons(log)
-        self.assertEqual((answer, lines[0][:35]), ("none 2", "pciex: lines 3 to 5 have no history"))
+        self.assertEqual((answer, lines[0][:55]), ("none 2", "pciex: record 2 is line 5: lines 3 to 5 have no history"))
         self.assertGreater(len(lines), 1)
         answer, lines = pciex.search_with_reasons(log, granularity=4)
         self.assertEqual((pciex.check(answer, clocked=True), lines), ("ok", []))

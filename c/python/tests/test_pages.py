@@ -11,7 +11,7 @@ DOCS = os.path.join(os.path.dirname(os.path.abspath(__file__)), "..", "..", ".."
 
 class Pages(unittest.TestCase):
     def test_pages(self) -> None:
-        for page in ("python.md", "judge-your-own-device.md", "bring-it-up.md"):
+        for page in ("python.md", "bring-it-up.md"):
             with self.subTest(page), open(os.path.join(DOCS, page), encoding="utf-8") as file:
                 example = r"```python\n(import pciex\n.*?)```\n\nIt prints:\n\n```\n(.*?)```"
                 text = file.read()

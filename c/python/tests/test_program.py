@@ -59,7 +59,7 @@ class AProgram(unittest.TestCase):
         self.assertTrue(trace.endswith("\nhistory\nent 1 0 add 40 07000000\nend\n"))
         self.assertEqual((program.check(trace), program.check(trace, clocked=True), program.reasons), ("ok", "ok", []))
         self.assertEqual(program.check(trace.replace("data 0", "data 1")), "flaw 10 Reply 1")
-        self.assertRegex(program.reasons[0], "^pciex: line 4: data 10000000 where data 00000000 is expected")
+        self.assertRegex(program.reasons[0], "^pciex: record 1 is line 4: data 10000000 where data 00000000 is expected")
         self.assertEqual(program.search(LOG.replace("data 0", "data 1")), "none 1")
         self.assertEqual(program.reasons[-1], "pciex: nothing put 10000000 at 40 before line 4")
         self.assertEqual(program.search("no log"), "fault 1 Head")

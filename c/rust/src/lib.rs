@@ -49,15 +49,16 @@ pub fn check_clocked(text: &[u8]) -> Result<(), Error> {
 pub enum Sought {
     /// A trace with a history that explains the log.
     Found(String),
-    /// No history does: `none` with the place of a record up to which there is none; `flaw` with the first bookkeeping
+    /// No history does: `none` with the number of a record up to which there is none; `flaw` with the first bookkeeping
     /// mistake; or `fault` with the line that can't be read, and why.
     NotFound(String),
-    /// It was given up after `limit` choices: nothing is known.
+    /// It was given up after `limit` choices, or the work that `pciex search` does without `--work`: nothing is known.
     GivenUp,
 }
 
 /// Looks for a history that explains what requesters submitted and were answered: the text of a log, or of a trace, whose
-/// history says nothing. No more than `limit` choices are looked at. The only error is [`Error::NoMemory`].
+/// history says nothing. No more than `limit` choices are looked at, and the work is bounded, to about half a minute. The
+/// only error is [`Error::NoMemory`].
 pub fn search(text: &[u8], limit: u64) -> Result<Sought, Error> {
     // Enough for the n's and the history that a trace has more than its log; if not, the library says how much is.
     let mut room = vec![0; 8 * text.len() + 512];

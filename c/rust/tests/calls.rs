@@ -161,6 +161,10 @@ fn packets_in_words() {
     assert_eq!(encode(words), Ok(ADD.to_vec()));
     assert_eq!(decode(&ADD[..3]), Err(Error::Told("fault 1 Short".into())));
     assert_eq!(encode("add"), Err(Error::Told("fault words".into())));
+    let (read, bytes) = ("cfgread 1:0.0 004 F from 0008 tag 63", [4, 0, 0, 1, 0, 8, 0x63, 0x0F, 1, 0, 0, 4]);
+    assert_eq!(encode(read), Ok(bytes.to_vec()));
+    assert_eq!(decode(&bytes).as_deref(), Ok(read));
+    assert_eq!(decode(&[4, 0, 0, 1, 0, 8, 0x63, 0x1F, 1, 0, 0, 4]), Err(Error::Told("fault 14 Fields".into())));
     assert_eq!(version(), concat!("pciex ", env!("CARGO_PKG_VERSION")));
 }
 
@@ -266,7 +270,7 @@ fn reasons_and_pieces() {
                ans 2 0 data 0000000002000000\nend\n";
     let (sought, reasons) = search_with_reasons(log.as_bytes(), 1000, Granularity::Whole).unwrap();
     assert_eq!((sought, reasons.len() > 1), (Sought::NotFound("none 2".into()), true));
-    assert!(reasons[0].starts_with("pciex: lines 3 to 5 have no history"), "{}", reasons[0]);
+    assert!(reasons[0].starts_with("pciex: record 2 is line 5: lines 3 to 5 have no history"), "{}", reasons[0]);
     for granularity in [Granularity::Four, Granularity::Eight, Granularity::Sixteen, Granularity::SixtyFour] {
         let (sought, reasons) = search_with_reasons(log.as_bytes(), 1000, granularity).unwrap();
         let is_found = matches!(&sought, Sought::Found(trace) if check_clocked(trace.as_bytes()).is_ok());
@@ -280,6 +284,19 @@ fn reasons_and_pieces() {
     let (sought, reasons) = search_with_reasons(hard.as_bytes(), 1, Granularity::Whole).unwrap();
     assert_eq!(sought, Sought::GivenUp);
     assert_eq!(reasons[0], "pciex: given up at line 8 (open requests: 5)");
+}
+
+#[test]
+fn the_work_of_a_search_is_bounded() {
+    // Swaps that stay unanswered, and reads that contradict each other: each order of the Swaps is one to be tried.
+    let mut log = "pciex-log 1\nmemory 0 4096 64\n".to_owned();
+    for k in 0..65 {
+        log += &format!("sub {} {} swap 0 {:02X}000000\n", k % 6 + 1, k / 6, k + 1);
+    }
+    for (k, data) in ["05", "09", "05"].iter().enumerate() {
+        log += &format!("sub 7 {k} read 0 1 F 0\nans 7 {k} data {data}000000\n");
+    }
+    assert_eq!(search((log + "end\n").as_bytes(), u64::MAX), Ok(Sought::GivenUp));
 }
 
 #[test]

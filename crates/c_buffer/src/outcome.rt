@@ -13,7 +13,7 @@ pub fn the_longest_answer_fills_a_line_buffer()
 {}
 
 /// How many bytes an answer or the text of a fault has, 0 to 512.
-#[derive(Clone, Copy, Debug, PartialEq, Eq)]
+#[derive(Clone, Copy)]
 pub struct Length {
     bytes: u16,
 }
@@ -50,7 +50,7 @@ impl Length {
 }
 
 /// Why a call fails.
-#[derive(Clone, Copy, Debug, PartialEq, Eq)]
+#[derive(Clone, Copy)]
 pub enum Failure {
     /// A fault of a packet, or of its place at a port, by its number.
     Fault(u8),

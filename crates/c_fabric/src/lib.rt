@@ -14,6 +14,6 @@ mod witness;
 
 pub use happening::tell_event;
 pub use held::{copy_bytes, history_length, is_quiet, tell_trace};
-pub use scripts::tell_script;
+pub use scripts::{Reached, tell_script};
 pub use settling::{settle_fabric, tell_collected};
 pub use slot::{Slot, free_fabric, new_fabric};

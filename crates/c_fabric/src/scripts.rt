@@ -98,30 +98,44 @@ fn happen_lines(
     Ok(())
 }
 
+/// How far a script came.
+#[derive(Clone, Copy)]
+pub struct Reached {
+    /// How many bytes of its text were done.
+    pub done: usize,
+    /// How many bytes their results have.
+    pub size: usize,
+}
+
 /// The events of a script's lines happen to the fabric of the slot, one after the other, which goes to `back`. Their
-/// results, each with a line feed, stand at the front of `buffer`, and `size` is how many bytes they have. `done` is how
-/// many bytes of the text were done: all with `Ok`, else those before the line that failed, which changed nothing.
-/// Empty lines and comments are skipped. A line fails with `SmallBuffer` for fewer than 513 bytes behind the results,
-/// and else as in [`tell_event`](crate::tell_event); the text of a refusal stands behind the results.
+/// results, each with a line feed, stand at the front of `buffer`. `reached` has how many bytes they have, and how many
+/// of the text were done: all with `Ok`, else those before the line that failed, which changed nothing. Empty lines and
+/// comments are skipped. A line fails with `SmallBuffer` for fewer than 513 bytes behind the results, and else as in
+/// [`tell_event`](crate::tell_event); the text of a refusal stands behind the results.
 pub fn tell_script(
     slot: Slot,
     text: &[u8],
     buffer: &mut [u8],
-    done: &mut usize,
-    size: &mut usize,
+    reached: &mut Reached,
     back: &mut Slot,
 ) -> Result<(), Failure>
     ghost session: { SessionView }
     requires { slot.session ≡ Some session }
     ensures outcome { ¬ (result ≡ Err NoMemory) → result ≡ (script_call session text.now buffer.old).outcome }
     ensures left { ¬ (result ≡ Err NoMemory) →
-        (s : SessionView) × (back.new.session ≡ Some s) × IsLeftBy (script_call session text.now buffer.old) s buffer.new done.new size.new }
-    ensures whole { IsOk result → done.new ≡ length text.now }
+        (s : SessionView) × (back.new.session ≡ Some s) × IsLeftBy (script_call session text.now buffer.old) s buffer.new reached.new.done reached.new.size }
+    ensures whole { IsOk result → reached.new.done ≡ length text.now }
     ensures no_memory { result ≡ Err NoMemory →
-        (s : SessionView) × (back.new.session ≡ Some s) × IsCutShort session text.now buffer.old s buffer.new done.new size.new }
+        (s : SessionView) × (back.new.session ≡ Some s) × IsCutShort session text.now buffer.old s buffer.new reached.new.done reached.new.size }
 {
     let mut held = open(slot);
-    let outcome = happen_lines(&mut held, text, buffer, done, size);
+    let outcome = happen_lines(
+        &mut held,
+        text,
+        buffer,
+        &mut reached.done,
+        &mut reached.size,
+    );
     *back = close(held);
     outcome
 }

@@ -10,7 +10,7 @@ use tlp_core::{Body, Kind, Status, TlpRef, decode_lent};
 
 /// The fields of a TLP. Those that its kind lacks are 0.
 #[repr(C)]
-#[derive(Clone, Copy, Debug, PartialEq, Eq)]
+#[derive(Clone, Copy)]
 pub struct TlpFields {
     /// Of a request: a multiple of 4.
     pub address: u64,

@@ -1,6 +1,6 @@
 //! Packets in words.
 ghost use Rattle.std.specs.Prelude.{◌≡◌, ◌≤◌, length, true};
-ghost use Rattle.packet_text.specs.Packets.{FitsDataFC, canonical};
+ghost use Rattle.packet_text.specs.Packets.{FitsFields, canonical};
 ghost use Rattle.packet_text.specs.Texts.{packet_text, bytes_fault_text, text_fault_text};
 ghost use Rattle.c_buffer.specs.declared.outcome.Failure.TheVariants.{Text};
 ghost use Rattle.c_buffer.specs.Buffer.{filled, is_silent};
@@ -24,7 +24,7 @@ fn put_packet(packet: &Packet, buffer: &mut [u8]) -> Length
 }
 
 fn put_bytes(packet: &Packet, buffer: &mut [u8]) -> Length
-    requires fits { FitsDataFC packet.now }
+    requires fits { FitsFields packet.now }
     requires buffer { 512 ≤ length buffer.old }
     ensures length { result ≡ length (canonical packet.now) }
     ensures buffer { buffer.new ≡ filled buffer.old (canonical packet.now) }

@@ -9,7 +9,7 @@ ghost use Rattle.c_search.specs.Verdict.{IsSearched, IsSearchedIn, granularity_o
 
 use c_buffer::{Failure, copy, copy_first};
 use log_pieces::Granularity;
-use search_engine::{Outcome, SearchOptions, Stages, answer_of, answer_with_reasons};
+use search_engine::{DEFAULT_WORK, Outcome, SearchOptions, Stages, answer_of, answer_with_reasons};
 use std::alloc::Global;
 
 /// Puts the text to the front of the buffer, and returns the status.
@@ -28,9 +28,10 @@ fn put(outcome: &Outcome, buffer: &mut [u8]) -> Result<u8, Failure>
 /// Looks for a history that explains the log of the text, or the trace, whose history says nothing: what
 /// `pciex search` prints of it stands at the front of `buffer`, `size` is how many bytes it has, and Ok is
 /// the exit status: 0 for a trace, 1 for `none`, `flaw` or `fault`, 3 for `limit`, where it looked at `limit`
-/// choices. It looks at no more, and its work has no bound. `SmallBuffer` for fewer bytes: `size` is how many
-/// are needed. `NoMemory`, where nothing is known and `size` stays as it was: never for a text whose first
-/// fault comes before its records and entries. With these two the buffer stays as it was.
+/// choices, or `work`, where before that it did the work that `pciex search` does by default: it does no more.
+/// `SmallBuffer` for fewer bytes: `size` is how many are needed. `NoMemory`, where nothing is known and `size`
+/// stays as it was: never for a text whose first fault comes before its records and entries. With these two the
+/// buffer stays as it was.
 pub fn search_text(
     alloc: Global,
     text: &[u8],
@@ -43,7 +44,7 @@ pub fn search_text(
     ensures unchanged_size { result ≡ Err NoMemory → size.new ≡ size.old }
     ensures unchanged { IsErr result → buffer.new ≡ buffer.old }
 {
-    match answer_of(alloc, text, limit) {
+    match answer_of(alloc, text, limit, DEFAULT_WORK) {
         Ok(outcome) => {
             *size = outcome.text.as_slice().len();
             put(&outcome, buffer)
@@ -86,7 +87,7 @@ pub struct Question<'a> {
 }
 
 /// How many bytes an answer and its reasons have.
-#[derive(Clone, Copy, Debug, PartialEq, Eq)]
+#[derive(Clone, Copy)]
 pub struct Sizes {
     pub answer: usize,
     pub reasons: usize,
@@ -122,7 +123,7 @@ pub fn search_with_reasons(
         stages: Stages::Hidden,
     };
     let mut lines = Vec::new(alloc);
-    match answer_with_reasons(alloc, text, options, &mut lines) {
+    match answer_with_reasons(alloc, text, options, DEFAULT_WORK, &mut lines) {
         Ok(outcome) => {
             *sizes = Sizes {
                 answer: outcome.text.as_slice().len(),

@@ -16,7 +16,7 @@ ghost use Rattle.c_fabric.specs.Calls.{making, AsksFor, IsFabricCall, event_call
 ghost use Rattle.pciex_c.specs.Codes.{code_of, status_of};
 
 use crate::codes::{code, status};
-use c_fabric::Slot;
+use c_fabric::{Reached, Slot};
 use std::alloc::Global;
 
 /// The fabric that the line asks for, in a slot that holds nothing.
@@ -77,7 +77,11 @@ pub extern "C" fn pciex_raw_fabric_script(
     ensures no_memory { result ≡ NO_MEMORY →
         (s : SessionView) × (back.new.session ≡ Some s) × IsCutShort session text.now buffer.old s buffer.new done.new size.new }
 {
-    status(c_fabric::tell_script(fabric, text, buffer, done, size, back))
+    let mut reached = Reached { done: 0, size: 0 };
+    let outcome = c_fabric::tell_script(fabric, text, buffer, &mut reached, back);
+    *done = reached.done;
+    *size = reached.size;
+    status(outcome)
 }
 
 /// The fabric of the slot, which goes to `back`, is run until nothing moves.

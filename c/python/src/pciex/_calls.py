@@ -1,6 +1,7 @@
 """The calls without a handle, and what they raise."""
 
 from ctypes import byref, c_size_t, c_ubyte
+from operator import index
 from typing import List, NamedTuple, Optional, Tuple, Type
 
 from ._fault import Fault
@@ -72,6 +73,7 @@ def bytes_of(packet: bytes) -> bytes:
 
 def number_of(name: str, value: int, bits: int) -> int:
     """The value, if it has at most that many bits: ctypes would cut it."""
+    value = index(value)
     if not 0 <= value < 1 << bits:
         raise ValueError(f"{name} is 0 to {(1 << bits) - 1}, and not {value}")
     return value
@@ -105,7 +107,7 @@ class Memory:
     def __init__(self, size: int, base: int = 0, block: int = 64) -> None:
         if block not in (64, 128):
             raise wrong(2001)
-        self.bytes = bytearray(size)
+        self.bytes = bytearray(number_of("size", size, 63))
         self.base = number_of("base", base, 64)
         self.block = block
 
@@ -131,9 +133,9 @@ def check(text: str, clocked: bool = False) -> str:
 
 def search(text: str, limit: int = 1000000) -> str:
     """What `pciex search` prints of the text of a log, or of a trace, whose history says nothing: a trace with a history
-    that explains what was seen; `none 3`, the place of a record up to which no history does; `limit 1000000` if it was
-    given up after so many choices; `flaw 6 Again 2` for a bookkeeping mistake; or `fault 3 Line` if the text can't be read.
-    Lines end in line feeds, but for those of one line."""
+    that explains what was seen; `none 3`, the number of a record up to which no history does; `limit 1000000` if it was
+    given up after so many choices, or `work 300000000` after so much work, about half a minute; `flaw 6 Again 2` for a
+    bookkeeping mistake; or `fault 3 Line` if the text can't be read. Lines end in line feeds, but for those of one line."""
     words, limit = text.encode(), number_of("limit", limit, 64)
     size = 8 * len(words) + LINE
     while True:

@@ -5,7 +5,7 @@ from typing import Optional
 
 class Fault(Exception):
     """A packet, words or a configuration have a fault: `str()` is its text as the program `pciex` prints it, and
-    `number` is that of a packet's fault, 1 to 13, or None."""
+    `number` is that of a packet's fault, 1 to 14, or None."""
 
     __module__ = "pciex"
 

@@ -69,15 +69,15 @@ class _Handle:
         return bytes(copied)
 
     def _text(self, function: Any) -> str:
-        """A text of any length."""
-        length = c_size_t()
+        """A text of any length. A signal's handler may make it longer or shorter between two calls."""
+        length, text = c_size_t(), (c_ubyte * 0)()
         code = self._call(function, room.bytes, 0, byref(length))
-        text = (c_ubyte * length.value)()
-        if code == SMALL_ROOM:
+        while code == SMALL_ROOM:
+            text = (c_ubyte * length.value)()
             code = self._call(function, text, len(text), byref(length))
         if code:
             raise wrong(code)
-        return bytes(text).decode("ascii")
+        return bytes(text[: length.value]).decode("ascii")
 
 
 class Device(_Handle):
@@ -129,6 +129,7 @@ class Fabric(_Handle):
         text_of(code)
         self._size = int(line.split(" ")[3])
         self._scripted: Tuple[List[str], int] = ([], 0)
+        self._settles = False
 
     def event(self, line: str) -> str:
         """The event of a script's line, `submit 1 add 40 07000000`, happens: its result, `sub 1 0`."""
@@ -148,12 +149,12 @@ class Fabric(_Handle):
             start += done.value
             results += bytes(buffer[: length.value])
         lines = words[:start].count(b"\n") + (start == len(words) and not words.endswith(b"\n") and start > 0)
-        self._scripted = (results.decode("ascii").splitlines(), lines)
+        scripted = self._scripted = (results.decode("ascii").splitlines(), lines)
         if 1000 <= code < 2000:
             raise Refused(bytes(buffer[length.value : length.value + code - 1000]).decode("ascii"))
         if code:
             raise wrong(code)
-        return self._scripted[0]
+        return scripted[0]
 
     def scripted(self) -> Tuple[List[str], int]:
         """The results of the last `script`, and how many of its lines were done."""
@@ -162,11 +163,18 @@ class Fabric(_Handle):
     def settle(self) -> List[str]:
         """Runs the fabric until nothing moves, as `settle` in a script does: the lines of the completions that its
         requesters collected, `ans 1 0 data 00000000`. Then it is quiet. If it raises MemoryError, some of the events have
-        happened, and `settled` has what they collected."""
-        code = self._call(library.fabric_settle)
-        if code:
-            raise wrong(code)
-        return self.settled()
+        happened, and `settled` has what they collected. A signal's handler that calls it during a `settle` gets ValueError: it
+        would take the other one's lines."""
+        if self._settles:
+            raise ValueError("the fabric settles")
+        self._settles = True
+        try:
+            code = self._call(library.fabric_settle)
+            if code:
+                raise wrong(code)
+            return self.settled()
+        finally:
+            self._settles = False
 
     def settled(self) -> List[str]:
         """The lines of the completions that the last `settle` collected."""
@@ -298,6 +306,13 @@ _DLLPS = {1001: "Short", 1002: "Kind", 1003: "Scaled", 1004: "NotOutstanding", 1
 _STATES = ("inactive", "init1", "init2", "active", "stopped")
 
 
+def _is_good(good: bool) -> bool:
+    """Whether a check was good: no word is one, `failed` would be true."""
+    if good not in (True, False):
+        raise ValueError(f"good is True or False, and not {good!r}")
+    return bool(good)
+
+
 class Outgoing(NamedTuple):
     """What an endpoint sends: a DLLP of four bytes, or a sequence number's two bytes and a TLP."""
 
@@ -338,7 +353,7 @@ class LinkedEndpoint(_Handle):
         of Completions if it is accepted, else `Overflow`, `duplicate`, `nak`, `quiet`, or `drop` if the link isn't up.
         Requests act, and completions are to be sent, as far as the peer's credits go."""
         packet = bytes_of(packet)
-        code = self._call(library.linked_packet, packet, len(packet), good)
+        code = self._call(library.linked_packet, packet, len(packet), _is_good(good))
         if code >= 1000:
             raise wrong(code)
         return _ARRIVED[code]
@@ -347,7 +362,7 @@ class LinkedEndpoint(_Handle):
         """A DLLP arrives, whatever its bytes are: `took`; `gone` if its check failed, or it says nothing now. Raises Refused:
         `Short`, `Kind`, `Scaled`, `NotOutstanding`, `CreditLimit`."""
         dllp = bytes_of(dllp)
-        code = self._call(library.linked_dllp, dllp, len(dllp), good)
+        code = self._call(library.linked_dllp, dllp, len(dllp), _is_good(good))
         if code in _DLLPS:
             raise Refused(_DLLPS[code])
         return "gone" if code else "took"

@@ -36,9 +36,8 @@ class Program:
         return self._printed(text, "check", *(["--clocked"] if clocked else []))
 
     def search(self, text: str, limit: int = 1000000, granularity: str = "whole") -> str:
-        """What `pciex search` prints of the text of a log, as the function `search`, but `work 300000000` if the work ended it
-        before so many choices. Reads and writes act in pieces of `granularity` bytes, `4`, `8`, `16` or `64`. `reasons` are
-        as after `check`."""
+        """What `pciex search` prints of the text of a log, as the function `search`. Reads and writes act in pieces of
+        `granularity` bytes, `4`, `8`, `16` or `64`. `reasons` are as after `check`."""
         return self._printed(text, "search", "--limit", str(limit), "--granularity", granularity)
 
     def close(self) -> None:
