@@ -11,9 +11,13 @@ use Rattle.search_engine.specs.declared.options.SearchDemand.{SearchDemand}
 abbrev pub bounds_of : SearchDemand → Bounds
 bounds_of demand = record { choices = demand.options.limit; work = demand.work }
 
+-- so many choices and so much work
+abbrev pub within : ℕ → ℕ → Bounds
+within limit work = record { choices = limit; work = work }
+
 -- the same where only the choices are bounded
 abbrev pub by_choices : ℕ → Bounds
-by_choices limit = record { choices = limit; work = 18446744073709551615 }
+by_choices limit = within limit 18446744073709551615
 
 -- after so many choices that bound ended the search: as many were allowed, or it had a bound of work that came first
 abbrev pub IsEnded : Bounds → ℕ → Bound → Type 0

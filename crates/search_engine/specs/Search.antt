@@ -108,9 +108,6 @@ abbrev pub IsSearchedFor : Bool → Granularity → Bounds → Option (List ℕ)
 IsSearchedFor core size bounds input rest out out' status = IsWholeFor core size bounds input rest out out' status ⊎ ((status ≡ 1) × IsPartFor core size bounds input rest out out')
 
 -- the same where no log of few answers is asked for, and only the choices are bounded
-abbrev pub OutSearchWith : Granularity → ℕ → List ℕ → List ℕ → ℕ → Type 0
-OutSearchWith size limit = OutSearchFor false size (by_choices limit)
-
 abbrev pub IsWholeWith : Granularity → ℕ → Option (List ℕ) → Option (List ℕ) → Option (List ℕ) → Option (List ℕ) → ℕ → Type 0
 IsWholeWith size limit = IsWholeFor false size (by_choices limit)
 
@@ -121,9 +118,6 @@ abbrev pub IsSearchedWith : Granularity → ℕ → Option (List ℕ) → Option
 IsSearchedWith size limit = IsSearchedFor false size (by_choices limit)
 
 -- the same of requests that act as a whole
-abbrev pub OutSearch : ℕ → List ℕ → List ℕ → ℕ → Type 0
-OutSearch limit = OutSearchWith Whole limit
-
 abbrev pub IsWhole : ℕ → Option (List ℕ) → Option (List ℕ) → Option (List ℕ) → Option (List ℕ) → ℕ → Type 0
 IsWhole limit = IsWholeWith Whole limit
 

@@ -5,9 +5,9 @@ ghost use Rattle.history_words.specs.TraceView.{TraceView};
 ghost use Rattle.record_text.specs.declared.fault.ReadFault.{ReadFault};
 ghost use Rattle.trace_text.specs.Texts.{trace_text};
 ghost use Rattle.log_text.specs.LogReaderView.{seen_of};
-ghost use Rattle.search_engine.specs.Bounded.{bounds_of, by_choices, TellsEnding};
+ghost use Rattle.search_engine.specs.Bounded.{bounds_of, within, TellsEnding};
 ghost use Rattle.search_engine.specs.Findings.{is_memory, text_of, IsFinding, IsFindingOf};
-ghost use Rattle.search_engine.specs.Search.{IsAnswerTo, OutSearch, OutSearchWith, WantsMemory};
+ghost use Rattle.search_engine.specs.Search.{IsAnswerTo, OutSearchFor, WantsMemory};
 
 use crate::ending::Ending;
 use crate::flaws::judged;
@@ -16,7 +16,7 @@ use crate::lines::none_text;
 use crate::options::{SearchDemand, SearchOptions};
 use crate::outcomes::{fault_outcome, flaw_outcome, given_up_outcome};
 use crate::stages::{NoClock, Progress};
-use crate::telling::tell;
+use crate::telling::{Telling, tell};
 use arrayvec::ArrayString;
 use history_words::{AsClaim, Flaw};
 use log_text::{no_fault_is_out_of_memory, read_seen_with_cause};
@@ -202,16 +202,16 @@ pub(crate) fn outcome_of(
 /// The answer to the text of a log or a trace: a trace with a history that explains what was seen, and
 /// status 0; `none` and the place of a record up to which no history explains it, `flaw` with the first
 /// bookkeeping mistake and its place, or `fault` with the line that can't be read and why, and status 1; or
-/// `limit` and the limit, and status 3, where it looked at that many choices. It looks at no more, and its work has no bound.
-/// Fails where memory can't be allocated; nothing is known then. A text whose first fault comes before its records and entries
-/// needs none.
-pub fn answer_of(alloc: Global, text: &[u8], limit: u64) -> Result<Outcome, AllocError>
-    ensures ok { IfOk result (λ o. OutSearch limit text.now (text_of o.text) o.status) }
+/// `limit` and the limit, or `work` and the work, and status 3, where it looked at that many choices, or before that the work
+/// ended it. It looks at no more choices; work of `u64::MAX` has no bound. Fails where memory can't be allocated; nothing is
+/// known then. A text whose first fault comes before its records and entries needs none.
+pub fn answer_of(alloc: Global, text: &[u8], limit: u64, work: u64) -> Result<Outcome, AllocError>
+    ensures ok { IfOk result (λ o. OutSearchFor false Granularity.Whole (within limit work) text.now (text_of o.text) o.status) }
     ensures err { OnErr result (WantsMemory text.now) }
-    ensures ending { IfOk result (λ o. TellsEnding (by_choices limit) o.ending (text_of o.text) o.status) }
+    ensures ending { IfOk result (λ o. TellsEnding (within limit work) o.ending (text_of o.text) o.status) }
 {
     let options = SearchOptions::of_whole_requests(limit);
-    let demand = options.plain();
+    let demand = options.within(work);
     let finding = find(alloc, text, demand, &NoClock, &mut sink())?;
     outcome_of(alloc, &finding, demand.bounds())
 }
@@ -222,15 +222,20 @@ pub fn answer_with_reasons(
     alloc: Global,
     text: &[u8],
     options: SearchOptions,
+    work: u64,
     reasons: &mut Vec<u8>,
 ) -> Result<Outcome, AllocError>
-    ensures ok { IfOk result (λ o. OutSearchWith options.granularity options.limit text.now (text_of o.text) o.status) }
+    ensures ok { IfOk result (λ o. OutSearchFor false options.granularity (within options.limit work) text.now (text_of o.text) o.status) }
     ensures err { OnErr result (WantsMemory text.now) }
-    ensures ending { IfOk result (λ o. TellsEnding (by_choices options.limit) o.ending (text_of o.text) o.status) }
+    ensures ending { IfOk result (λ o. TellsEnding (within options.limit work) o.ending (text_of o.text) o.status) }
 {
-    let demand = options.plain();
+    let demand = options.within(work);
     let finding = find(alloc, text, demand, &NoClock, &mut sink())?;
     let outcome = outcome_of(alloc, &finding, demand.bounds())?;
-    tell(alloc, text, &finding, options.limit, reasons);
+    let telling = Telling {
+        limit: options.limit,
+        hints_at_progress: false,
+    };
+    tell(alloc, text, &finding, telling, reasons);
     Ok(outcome)
 }

@@ -16,6 +16,7 @@ use crate::outcomes::{fault_outcome, flaw_outcome, given_up_outcome};
 use crate::search::{Answer, SearchTask, kept, tell_reason};
 use crate::telling::case_of;
 use history_picture::{Window, put_picture};
+use history_words::Claim;
 use line_loop::{EngineFault, write_out};
 use log_text::read_seen;
 use search_picture::put_scene;
@@ -35,7 +36,11 @@ fn history_drawn(alloc: Global, store: &TraceStore) -> Result<Vec<u8>, AllocErro
         to: u64::MAX,
     };
     let mut picture = Vec::new(alloc);
-    put_picture(alloc, &trace, &history, None, window, &mut picture)?;
+    let claim = Claim {
+        trace: &trace,
+        history: &history,
+    };
+    put_picture(alloc, &claim, None, window, &mut picture)?;
     Ok(picture)
 }
 
@@ -131,6 +136,6 @@ pub fn run_search_drawn<C: Clock, R: Read, W: Write, E: Write>(
     let text = read_rest(alloc, reader)?;
     let answer = answer_drawn(alloc, text, demand, clock, errors)?;
     write_out(writer, answer.outcome.text.as_slice())?;
-    tell_reason(alloc, &answer, demand.options.limit, errors);
+    tell_reason(alloc, &answer, demand.options, errors);
     Ok(answer.outcome.status)
 }

@@ -3,7 +3,7 @@ use search_history::Bound;
 
 /// By which bound a search was ended, and after how many choices: as many as it may look at, or fewer, where the work ended
 /// it.
-#[derive(Clone, Copy, Debug, PartialEq, Eq)]
+#[derive(Clone, Copy)]
 pub struct Ending {
     pub bound: Bound,
     pub choices: u64,

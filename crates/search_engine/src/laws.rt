@@ -1,9 +1,11 @@
 //! What holds of all answers.
-ghost use Rattle.std.specs.Prelude.{◌≡◌, List, ℕ, codes};
+ghost use Rattle.std.specs.Prelude.{◌≡◌, Bool, List, ℕ, codes};
 ghost use Rattle.history_words.specs.TraceView.{TraceView};
+ghost use Rattle.log_pieces.specs.declared.Granularity.TheVariants.{Whole};
 ghost use Rattle.log_text.specs.Told.{IsToldLog};
+ghost use Rattle.search_run.specs.declared.exploring.Bounds.{Bounds};
 ghost use Rattle.trace_engine.specs.Check.{out_check, out_check_clocked};
-ghost use Rattle.search_engine.specs.Search.{IsFoundIn, OutSearch};
+ghost use Rattle.search_engine.specs.Search.{IsFoundIn, OutSearchFor};
 
 use log_text::what_is_seen_can_be_told;
 use told_laws::what_is_explained_can_be_told;
@@ -23,11 +25,15 @@ pub fn what_is_found_is_ok()
     an_explained_trace_is_ok();
 }
 
-/// `check` says `ok`, with status 0, to what is answered to a text with status 0, and so does `check --clocked`.
+/// `check` says `ok`, with status 0, to what is answered to a text with status 0, and so does `check --clocked`: whatever
+/// the bounds are, and whether a log of few answers is asked for, if requests act as a whole and no picture is asked for.
 pub fn what_is_answered_is_ok()
-    ensures ok { (limit : ℕ) (input text : List ℕ) → OutSearch limit input text 0 → (out_check text).text ≡ codes "ok\n" }
-    ensures status { (limit : ℕ) (input text : List ℕ) → OutSearch limit input text 0 → (out_check text).status ≡ 0 }
-    ensures clocked { (limit : ℕ) (input text : List ℕ) → OutSearch limit input text 0 → (out_check_clocked text).text ≡ codes "ok\n" }
+    ensures ok { (core : Bool) (bounds : Bounds) (input text : List ℕ) →
+        OutSearchFor core Whole bounds input text 0 → (out_check text).text ≡ codes "ok\n" }
+    ensures status { (core : Bool) (bounds : Bounds) (input text : List ℕ) →
+        OutSearchFor core Whole bounds input text 0 → (out_check text).status ≡ 0 }
+    ensures clocked { (core : Bool) (bounds : Bounds) (input text : List ℕ) →
+        OutSearchFor core Whole bounds input text 0 → (out_check_clocked text).text ≡ codes "ok\n" }
 {
     what_is_seen_can_be_told();
     what_is_found_is_ok();

@@ -28,7 +28,7 @@ mod telling;
 pub use answering::{LIMIT_STATUS, Outcome, OutcomeText, answer_of, answer_with_reasons};
 pub use drawing::run_search_drawn;
 pub use ending::Ending;
-pub use options::{SearchDemand, SearchOptions};
+pub use options::{DEFAULT_WORK, SearchDemand, SearchOptions};
 pub use search::{
     SearchTask, run_search, run_search_for, run_search_with, run_search_with_reasons,
 };

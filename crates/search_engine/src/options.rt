@@ -8,8 +8,11 @@ use crate::stages::Stages;
 use log_pieces::Granularity;
 use search_history::Bounds;
 
+/// The most work that is done where nobody says how much: about half a minute of one processor.
+pub const DEFAULT_WORK: u64 = 300_000_000;
+
 /// What a search is asked for.
-#[derive(Clone, Copy, Debug, PartialEq, Eq)]
+#[derive(Clone, Copy)]
 pub struct SearchOptions {
     /// The most choices that are looked at.
     pub limit: u64,
@@ -20,7 +23,7 @@ pub struct SearchOptions {
 }
 
 /// A search, its bounds, and what is written where there is no history.
-#[derive(Clone, Copy, Debug, PartialEq, Eq)]
+#[derive(Clone, Copy)]
 pub struct SearchDemand {
     pub options: SearchOptions,
     /// The most work that is done: about as many steps, or requests that are looked at for one.
@@ -42,15 +45,22 @@ impl SearchDemand {
 }
 
 impl SearchOptions {
+    /// This search, which does so much work at most, and `none` where there is no history.
+    pub(crate) fn within(self, work: u64) -> SearchDemand
+        ensures { result ≡ record { options = self; work = work; has_core = false } }
+    {
+        SearchDemand {
+            options: self,
+            work,
+            has_core: false,
+        }
+    }
+
     /// This search, which only its choices bound, and `none` where there is no history.
     pub(crate) fn plain(self) -> SearchDemand
         ensures { result ≡ record { options = self; work = 18446744073709551615; has_core = false } }
     {
-        SearchDemand {
-            options: self,
-            work: u64::MAX,
-            has_core: false,
-        }
+        self.within(u64::MAX)
     }
 
     /// A search in which each request acts as a whole, and of which it isn't told how far it is.

@@ -10,8 +10,8 @@ use crate::answering::{Finding, Outcome, OutcomeText, find, outcome_of};
 use crate::cores::core_text;
 use crate::input::read_rest;
 use crate::options::{SearchDemand, SearchOptions};
-use crate::stages::NoClock;
-use crate::telling::tell;
+use crate::stages::{NoClock, Stages};
+use crate::telling::{Telling, tell};
 use line_loop::{EngineFault, write_out};
 use std::alloc::{AllocError, Global};
 use std::io::{Read, Write, sink};
@@ -86,9 +86,18 @@ pub struct SearchTask<'c, C> {
 }
 
 /// Tells the reason of the answer.
-pub(crate) fn tell_reason<E: Write>(alloc: Global, answer: &Answer, limit: u64, errors: &mut E) {
+pub(crate) fn tell_reason<E: Write>(
+    alloc: Global,
+    answer: &Answer,
+    options: SearchOptions,
+    errors: &mut E,
+) {
+    let telling = Telling {
+        limit: options.limit,
+        hints_at_progress: matches!(options.stages, Stages::Hidden),
+    };
     if let Some(text) = &answer.text {
-        tell(alloc, text, &answer.finding, limit, errors);
+        tell(alloc, text, &answer.finding, telling, errors);
     }
 }
 
@@ -112,7 +121,7 @@ pub fn run_search_for<C: Clock, R: Read, W: Write, E: Write>(
     let text = read_rest(alloc, reader)?;
     let answer = answered(alloc, text, demand, clock, errors)?;
     write_out(writer, answer.outcome.text.as_slice())?;
-    tell_reason(alloc, &answer, demand.options.limit, errors);
+    tell_reason(alloc, &answer, demand.options, errors);
     Ok(answer.outcome.status)
 }
 

@@ -15,7 +15,7 @@ const FIRST_PAUSE: u64 = 2000;
 const LONGEST_PAUSE: u64 = 16_000;
 
 /// Whether it is told how far a search is.
-#[derive(Clone, Copy, Debug, PartialEq, Eq)]
+#[derive(Clone, Copy)]
 pub enum Stages {
     Hidden,
     /// Of logs of 10,000 records or more.
@@ -35,7 +35,7 @@ impl Stages {
 }
 
 /// A clock that stands still: by it nothing is told while a search goes on.
-#[derive(Clone, Copy, Debug, PartialEq, Eq)]
+#[derive(Clone, Copy)]
 pub struct NoClock;
 
 impl Clock for NoClock {
@@ -57,7 +57,7 @@ fn now<C: Clock>(clock: &C) -> u64 {
 }
 
 /// When it is told next how far a search is.
-#[derive(Clone, Copy, Debug)]
+#[derive(Clone, Copy)]
 struct Pause {
     /// The time of the clock, and how long it was to that, in milliseconds.
     end: u64,

@@ -39,15 +39,25 @@ pub(crate) fn case_of<'a>(
     }
 }
 
+/// What is asked of the reasons of a search.
+#[derive(Clone, Copy)]
+pub(crate) struct Telling {
+    /// How many choices they may take.
+    pub(crate) limit: u64,
+    /// Whether the option is named by which it is told how far a search is.
+    pub(crate) hints_at_progress: bool,
+}
+
 /// Tells why there is no history, how far the search came, what is wrong with the log's form, or why the text can't be
 /// read. If memory for that can't be allocated, or the stream fails, no more is told.
 pub(crate) fn tell<E: Write>(
     alloc: Global,
     text: &[u8],
     finding: &Finding,
-    limit: u64,
+    telling: Telling,
     errors: &mut E,
 ) {
+    let limit = telling.limit;
     let _ = match finding {
         Finding::None {
             seen,
@@ -63,6 +73,7 @@ pub(crate) fn tell<E: Write>(
             let given_up = GivenUp {
                 case: case_of(seen, seen.len(), pieces),
                 spot: *far,
+                hints_at_progress: telling.hints_at_progress,
             };
             tell_given_up(alloc, text, given_up, limit, errors)
         }

@@ -20,6 +20,8 @@ use requester_core::laws::each_number_is_answered_once;
 use step_engine::laws::{what_a_script_does_is_explained, what_a_script_does_is_ok};
 use tlp_core::laws::canonical_bytes_spell_their_packet;
 use told_laws::what_is_explained_can_be_told;
+use trace_engine::laws::a_clocked_trace_is_ok;
+use trace_text::told_trace_is_read_back;
 
 /// Where a script has a line that isn't skipped, and its run with `--trace` ends with status 0, its first line makes a
 /// fabric, each line after it is an event that happens, or `settle`, and lines can tell the trace of what happened.
@@ -52,7 +54,13 @@ pub fn what_is_traced_is_ok()
     ensures clocked { (keeps_going echoes : Bool) (input : List ℕ) → script_of (lines_of input) ≢ [] →
         (out_step_with (traced keeps_going echoes) input).status ≡ 0 →
         (out_check_clocked (out_step_with (traced keeps_going echoes) input).text).text ≡ codes "ok\n" }
+    ensures clocked_status { (keeps_going echoes : Bool) (input : List ℕ) → script_of (lines_of input) ≢ [] →
+        (out_step_with (traced keeps_going echoes) input).status ≡ 0 →
+        (out_check_clocked (out_step_with (traced keeps_going echoes) input).text).status ≡ 0 }
 {
+    a_clocked_trace_is_ok();
     a_run_with_status_0_runs_through();
+    told_trace_is_read_back();
+    what_a_script_does_is_explained();
     what_a_script_does_is_ok();
 }

@@ -11,8 +11,6 @@ mod options;
 mod piping;
 mod sweeper;
 mod telling;
-#[cfg(test)]
-mod tests;
 
 pub use engine::run_sweep;
 pub use options::Sweep;

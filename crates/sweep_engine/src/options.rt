@@ -5,7 +5,7 @@ ghost use Rattle.sweep_engine.specs.Ranges.{IsSweep};
 use parameters::{MOST_WORKERS, Storm};
 
 /// The storms of which seeds are done, and how.
-#[derive(Clone, Copy, Debug, PartialEq, Eq)]
+#[derive(Clone, Copy)]
 pub struct Sweep {
     /// The storm of the first seed. Those of the others differ in the seed alone.
     pub storm: Storm,

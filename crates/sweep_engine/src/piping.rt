@@ -17,7 +17,7 @@ use step_engine::run_step;
 use trace_engine::run_check_with;
 
 /// What is said of a seed.
-#[derive(Debug, Drop)]
+#[derive(Drop)]
 pub struct Said {
     pub seed: u64,
     /// The line of `check`.

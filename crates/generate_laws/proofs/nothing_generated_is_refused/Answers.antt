@@ -24,4 +24,8 @@ returns c =
           (traced.status text config s.happened.new f s.events s.happened.records (read config count text f s) s.happened.is_new s.happened.run);
       clocked = λ config count text f s. check.clocked false false text (has_a_line text config s.events (read config count text f s))
           (traced.status text config s.happened.new f s.events s.happened.records (read config count text f s) s.happened.is_new s.happened.run);
+      ok_status = λ config count text f s. check.status false false text (has_a_line text config s.events (read config count text f s))
+          (traced.status text config s.happened.new f s.events s.happened.records (read config count text f s) s.happened.is_new s.happened.run);
+      clocked_status = λ config count text f s. check.clocked_status false false text (has_a_line text config s.events (read config count text f s))
+          (traced.status text config s.happened.new f s.events s.happened.records (read config count text f s) s.happened.is_new s.happened.run);
     }
