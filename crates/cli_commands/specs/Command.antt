@@ -8,8 +8,8 @@ use Rattle.cli_words.specs.declared.words.Request.{Request}
 use Rattle.cli_words.specs.declared.words.Request.TheVariants.{Tlp, Endpoint, Linked, Decode, Encode, Check, Search, Draw, Upgrade, Step, Chart, Generate, Sweep, Run}
 use Rattle.parameters.specs.Ranges.{IsCounting}
 use Rattle.line_loop.specs.Run.{IsRun}
-use Rattle.cli_commands.specs.declared.command.Outcome.{Outcome}
-use Rattle.cli_commands.specs.declared.command.Outcome.TheVariants as outcomes
+use Rattle.cli_commands.specs.declared.one_thread.Outcome.{Outcome}
+use Rattle.cli_commands.specs.declared.one_thread.Outcome.TheVariants as outcomes
 use Rattle.chart_engine.specs.Chart.{out_chart}
 use Rattle.draw_engine.specs.Draw.{out_draw}
 use Rattle.endpoint_engine.specs.Lines.{out_endpoint}

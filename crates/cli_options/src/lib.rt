@@ -4,8 +4,10 @@
 
 mod options;
 mod refused;
+mod shown;
 mod values;
 
 pub use options::{Allowed, MOST_CHOICES, MOST_WORK, ValueOption};
 pub use refused::RefusedValue;
+pub use shown::Shown;
 pub use values::{base_of, is_set, number_of, optional_of};

@@ -14,7 +14,7 @@ pub const MOST_CHOICES: u64 = 1_000_000_000;
 pub const MOST_WORK: u64 = 1_000_000_000_000;
 
 /// An option that has a value.
-#[derive(Clone, Copy, Debug, PartialEq, Eq)]
+#[derive(Clone, Copy, PartialEq)]
 pub enum ValueOption {
     /// The first address of a memory.
     Base,
@@ -65,7 +65,7 @@ pub enum ValueOption {
 }
 
 /// The numbers that an option may have: the multiples of the unit from the least to the most.
-#[derive(Clone, Copy, Debug, PartialEq, Eq)]
+#[derive(Clone, Copy)]
 pub struct Allowed {
     /// The least.
     pub least: u64,

@@ -1,37 +1,16 @@
 //! Which option's value is refused, for people.
 use crate::options::{Allowed, ValueOption};
+use crate::shown::Shown;
 use std::fmt;
 use switch_ports::REQUESTERS;
 
-/// How many bytes are shown of a value.
-const SHOWN: usize = 40;
-
 /// An option whose value is refused.
-#[derive(Clone, Copy, Debug, PartialEq, Eq)]
+#[derive(Clone, Copy)]
 pub struct RefusedValue<'a> {
     /// Which option.
     pub option: ValueOption,
     /// The value as it is written, none where the option is not given.
     pub given: Option<&'a str>,
-}
-
-/// A byte of a value: as it is where it is printable ASCII, and else as `\xNN`.
-fn show_byte<W: fmt::Write>(byte: u8, f: &mut fmt::Formatter<W>) -> fmt::Result {
-    if byte.is_ascii_graphic() || byte == b' ' {
-        let glyph = char::from(byte);
-        write!(f, "{glyph}")
-    } else {
-        write!(f, "\\x{byte:02X}")
-    }
-}
-
-/// The first bytes of a value.
-fn show<W: fmt::Write>(value: &str, f: &mut fmt::Formatter<W>) -> fmt::Result {
-    let bytes = value.as_bytes();
-    for byte in &bytes[..bytes.len().min(SHOWN)] {
-        show_byte(*byte, f)?;
-    }
-    Ok(())
 }
 
 impl fmt::Display for RefusedValue<'_> {
@@ -47,9 +26,8 @@ impl fmt::Display for RefusedValue<'_> {
         }
         match given {
             Some(value) => {
-                f.write_str("invalid value '")?;
-                show(value, f)?;
-                write!(f, "' for --{name}: expected ")?;
+                let shown = Shown::first(value.as_bytes());
+                write!(f, "invalid value '{shown}' for --{name}: expected ")?;
             }
             None => write!(f, "--{name} is missing: expected ")?,
         }

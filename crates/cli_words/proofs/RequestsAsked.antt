@@ -13,6 +13,7 @@ use Rattle.cli_words.specs.declared.words.Request.TheVariants.{Tlp, Endpoint, Li
 use Rattle.cli_options.specs.Values.{IsAmong, multiples, WritesBase, WritesNumber, WritesGiven, WritesOptional, WritesFlag}
 use Rattle.fabric_events.specs.declared.event.LaneName.{LaneName}
 use Rattle.log_pieces.specs.declared.Granularity.{Granularity}
+use Rattle.search_engine.specs.declared.options.TheConstants.{DEFAULT_WORK}
 use Rattle.config_space.specs.SetupView.{SetupView}
 use Rattle.fc_credit.specs.declared.limits.LaneCredits.{LaneCredits}
 use Rattle.cli_values.specs.Links.{WritesCredits}
@@ -216,7 +217,7 @@ asks_one (Some p) Encode Encode a b = refl
 asks_one (Some p) (Check t) (Check u) a b = ap Check (same_flag _ t u a.1 b.1)
 asks_one (Some p) (Search limit work g k t) (Search limit' work' g' l u) a b =
     ap (λ (n : ℕ). Search n work g k t) (same_number 1000000 _ limit limit' a.1.limit_read b.1.limit_read)
-    ∙ ap (λ (n : ℕ). Search limit' n g k t) (same_number 300000000 _ work work' a.1.work_read b.1.work_read)
+    ∙ ap (λ (n : ℕ). Search limit' n g k t) (same_number DEFAULT_WORK _ work work' a.1.work_read b.1.work_read)
     ∙ ap (λ (size : Granularity). Search limit' work' size k t) (same_granularity _ g g' a.1.granularity_read b.1.granularity_read)
     ∙ ap (λ (z : SearchOutput). Search limit' work' g' z t) (same_output p.1 k l a.2 b.2) ∙ ap (Search limit' work' g' l) (same_flag _ t u a.3 b.3)
 asks_one (Some p) (Draw from to) (Draw from' to') a b =

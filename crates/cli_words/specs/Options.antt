@@ -12,6 +12,7 @@ use Rattle.cli_options.specs.declared.options.TheConstants.{MOST_CHOICES, MOST_W
 use Rattle.cli_options.specs.Values.{WritesBase, WritesNumber, WritesGiven, WritesOptional, WritesFlag}
 use Rattle.fabric_events.specs.declared.event.LaneName.{LaneName}
 use Rattle.log_pieces.specs.declared.Granularity.{Granularity}
+use Rattle.search_engine.specs.declared.options.TheConstants.{DEFAULT_WORK}
 use Rattle.config_space.specs.SetupView.{SetupView}
 use Rattle.cli_values.specs.Endpoints.{WritesId, WritesSize}
 use Rattle.cli_values.specs.Granularities.{WritesGranularity}
@@ -124,7 +125,7 @@ pub record AsksSearch (rows : List Row) (limit work : ℕ) (size : Granularity) 
   pub limit_read : WritesNumber 1000000 (first_of (codes "limit") rows) limit
   pub least : 1 ≤ limit
   pub most : limit ≤ MOST_CHOICES
-  pub work_read : WritesNumber 300000000 (first_of (codes "work") rows) work
+  pub work_read : WritesNumber DEFAULT_WORK (first_of (codes "work") rows) work
   pub some_work : 1 ≤ work
   pub most_work : work ≤ MOST_WORK
   pub granularity_read : WritesGranularity (first_of (codes "granularity") rows) size

@@ -4,6 +4,7 @@ use Rattle.std.specs.Prelude.{true, false, ◌≡◌, ◌≢◌, ◌≤◌, ◌+
 use Rattle.clap.specs.Words.{Row, Text, first_of}
 use Rattle.fabric_events.specs.declared.event.LaneName.{LaneName}
 use Rattle.log_pieces.specs.declared.Granularity.{Granularity}
+use Rattle.search_engine.specs.declared.options.TheConstants.{DEFAULT_WORK}
 use Rattle.cli_values.specs.Endpoints.{WritesId, WritesSize}
 use Rattle.cli_values.specs.Granularities.{WritesGranularity}
 use Rattle.cli_values.specs.Lanes.{WritesLane}
@@ -89,7 +90,7 @@ abbrev pub tlp_values : List (ValueOption × Option ℕ)
 tlp_values = (Size, Some 4096) ∷ (Block, Some 64) ∷ []
 
 abbrev pub search_values : List (ValueOption × Option ℕ)
-search_values = (Limit, Some 1000000) ∷ (Work, Some 300000000) ∷ []
+search_values = (Limit, Some 1000000) ∷ (Work, Some DEFAULT_WORK) ∷ []
 
 abbrev pub draw_values : List (ValueOption × Option ℕ)
 draw_values = (From, Some 0) ∷ (To, Some 18446744073709551615) ∷ []

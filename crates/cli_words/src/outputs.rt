@@ -10,7 +10,7 @@ use clap::ArgMatches;
 use cli_options::{RefusedValue, ValueOption};
 
 /// What a search writes.
-#[derive(Clone, Copy, Debug, PartialEq, Eq)]
+#[derive(Clone, Copy, PartialEq)]
 pub enum SearchOutput {
     /// A trace and a history, or `none`.
     Answer,

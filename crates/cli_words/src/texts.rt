@@ -16,8 +16,8 @@ pub(crate) static ABOUT: &str =
 
 pub(crate) static AFTER: &str =
     "Subcommands other than 'generate', 'sweep' and 'run' read standard input, or the file that
-the last word names. Results are printed on standard output, and the reasons of faults and
-refusals on standard error.
+a word behind them names. Results are printed on standard output, and the reasons of faults
+and refusals on standard error.
 'pciex <COMMAND> --help' has the details and an example.
 
 Exit status:
@@ -107,11 +107,12 @@ pub(crate) static SEARCH: Help = Help {
     long: "Searches for a history that explains what requesters saw of a memory that reports none.
 
 The input is one log: what requesters submitted and were answered, in the order of time. A
-trace may stand in its place; its history is ignored. The result is a trace with a history,
-to which 'check' says 'ok'; or one line: 'none' with the place of a record up to which no
-history explains the log; 'limit' or 'work' if that bound ended the search and nothing is
-known; 'flaw' with the first bookkeeping mistake; or 'fault' with the first line that can't
-be read and the reason. With '--core' a short log may stand in place of 'none'.
+trace may stand in its place; its history is ignored. Where it has one, as those that 'step'
+prints, take 'check': it is much faster. The result is a trace with a history, to which
+'check' says 'ok'; or one line: 'none' with the number of a record up to which no history
+explains the log; 'limit' or 'work' if that bound ended the search and nothing is known;
+'flaw' with the first bookkeeping mistake; or 'fault' with the first line that can't be read
+and the reason. With '--core' a short log may stand in place of 'none'.
 
 Each read and write acts as a whole, which PCI Express doesn't require of several DW. With
 '--granularity' it acts in pieces.",

@@ -20,12 +20,13 @@ use fabric_core::LaneName;
 use linked_engine::FiniteCredits;
 use log_pieces::Granularity;
 use parameters::{Counting, Storm};
+use search_engine::DEFAULT_WORK;
 use seq_memory::Extent;
 use std::alloc::Global;
 use std::convert::AsStr;
 
 /// What the words ask for.
-#[derive(Clone, Copy, Debug)]
+#[derive(Clone, Copy)]
 pub enum Request {
     /// The subcommand `tlp`, over a memory in that place.
     Tlp(Extent),
@@ -103,7 +104,7 @@ pub enum Request {
 }
 
 /// Why the words ask for nothing.
-#[derive(Debug, Drop)]
+#[derive(Drop)]
 pub enum RequestFault<'a> {
     /// What `clap` says of the words, also a text that was asked for, and that memory ran out.
     Words(clap::Error),
@@ -194,7 +195,7 @@ fn search_of<'a>(search: &ArgMatches<'a>) -> Result<Request, RefusedValue<'a>>
     ensures err { IfErr result (Refuses (Some (codes "search", rows_of (found_of search.now)))) }
 {
     let limit = number_in(search, ValueOption::Limit, Some(1_000_000))?;
-    let work = number_in(search, ValueOption::Work, Some(300_000_000))?;
+    let work = number_in(search, ValueOption::Work, Some(DEFAULT_WORK))?;
     let granularity = granularity_in(search)?;
     let output = output_in(search)?;
     Ok(Request::Search {

@@ -11,4 +11,4 @@ mod shown;
 mod telling;
 
 pub use lines::{tell_long_line, tell_misfit, tell_refusal};
-pub use telling::Reason;
+pub use telling::{Part, Reason};

@@ -3,7 +3,7 @@ ghost use Rattle.std.specs.Prelude.{◌≡◌, ◌≤◌, ◌==◌, ◌++◌, co
 ghost use Rattle.std.specs.List.{list_any};
 ghost use Rattle.std.specs.Fmt.{decimal};
 ghost use Rattle.arrayvec.specs.ArrayString.{array_string_len};
-ghost use Rattle.diagnostics.specs.Told.{IsReason, IsReasonToldAt, IsReasonBegunAt, reason_line};
+ghost use Rattle.diagnostics.specs.Told.{IsReason, IsReasonToldAt, IsReasonBegunAt, IsPartTold, IsPartBegun, beginning_of, part_line, reason_line};
 
 use crate::shown::shown_byte;
 use arrayvec::{ArrayString, ArrayVec};
@@ -19,7 +19,7 @@ const ROOM: usize = 1024;
 const SHOWN: usize = 40;
 
 /// Bytes of a text, those that aren't printable ASCII as `\xNN`.
-#[derive(Clone, Copy, Debug)]
+#[derive(Clone, Copy)]
 pub(crate) struct Shown<'a>(pub &'a [u8]);
 
 impl<'a> Shown<'a> {
@@ -39,7 +39,7 @@ impl fmt::Display for Shown<'_> {
 }
 
 /// What is wrong, in at most 1024 bytes: what has no room is left out.
-#[derive(Debug, Drop)]
+#[derive(Drop)]
 pub struct Reason {
     text: ArrayString<ROOM>,
 }
@@ -51,6 +51,36 @@ fn beginning(line: u64) -> ArrayString<512>
 {
     let mut text = ArrayString::new();
     text.push_str("pciex: line ");
+    write_decimal(line, &mut text);
+    text
+}
+
+/// A record of a text, or an entry of its history, by its number, from 0.
+#[derive(Clone, Copy, Debug)]
+pub enum Part {
+    /// A line `sub` or `ans`.
+    Record(usize),
+    /// A line `ent`.
+    Entry(usize),
+}
+
+/// The beginning of a reason's line that says of a part which line of the text it is.
+fn part_beginning(part: Part, line: u64) -> ArrayString<512>
+    ensures text { result.bytes ≡ beginning_of part line }
+    ensures len { array_string_len result ≤ 64 }
+{
+    let mut text = ArrayString::new();
+    match part {
+        Part::Record(number) => {
+            text.push_str("pciex: record ");
+            write_decimal(number as u64, &mut text);
+        }
+        Part::Entry(number) => {
+            text.push_str("pciex: entry ");
+            write_decimal(number as u64, &mut text);
+        }
+    }
+    text.push_str(" is line ");
     write_decimal(line, &mut text);
     text
 }
@@ -102,6 +132,18 @@ fn line_of(number: u64, why: &[u8]) -> ArrayVec<u8, 1057>
     line
 }
 
+/// The line of a reason that lies on a part of the text.
+fn line_of_part(part: Part, number: u64, why: &[u8]) -> ArrayVec<u8, 1089>
+    requires { length why.now ≤ 1024 }
+    ensures { result.items ≡ part_line part number why.now }
+{
+    let mut line = ArrayVec::new();
+    let _ = line.try_extend_from_slice(part_beginning(part, number).as_bytes());
+    let _ = line.try_extend_from_slice(why);
+    line.push(b'\n');
+    line
+}
+
 impl Reason {
     /// Nothing so far.
     pub fn new() -> Reason {
@@ -123,7 +165,7 @@ impl Reason {
         } else {
             reason.put_word(split_word(rest).0);
         }
-        reason.put_expected(misfit.expected);
+        reason.put_expected_of(split_word(rest).0, misfit.expected);
         if column == 1
             && let Some(text) = text_begun(split_word(rest).0, misfit.expected)
         {
@@ -139,6 +181,18 @@ impl Reason {
         } else {
             let word = Shown::first(word);
             self.put(format_args!("'{word}'"));
+        }
+    }
+
+    /// Adds what is expected where that word stands.
+    fn put_expected_of(&mut self, word: &[u8], expected: Expected) {
+        match expected {
+            Expected::Of(name @ "a reply", values) if word == b"done".as_slice() => {
+                self.put(format_args!(
+                    " where {name} is expected ({values}; done needs pciex-log 2)"
+                ));
+            }
+            _ => self.put_expected(expected),
         }
     }
 
@@ -186,6 +240,22 @@ impl Reason {
         ensures part { OnErr result (IsReasonBegunAt number (E.contents errors.old) (E.contents errors.new)) }
     {
         let line = line_of(number, self.said());
+        write_out(errors, line.as_slice())
+    }
+
+    /// Writes the line of a reason that lies on a record or an entry, which is the line of this number. After an `Err` a
+    /// prefix of it was written.
+    pub fn tell_of<E: io::Write>(
+        &self,
+        part: Part,
+        number: u64,
+        errors: &mut E,
+    ) -> Result<(), EngineFault>
+        ensures ok { OnOk result (IsPartTold part number (E.contents errors.old) (E.contents errors.new)) }
+        ensures fault { IfErr result (λ f. f ≡ EngineFault.Write) }
+        ensures part { OnErr result (IsPartBegun part number (E.contents errors.old) (E.contents errors.new)) }
+    {
+        let line = line_of_part(part, number, self.said());
         write_out(errors, line.as_slice())
     }
 }

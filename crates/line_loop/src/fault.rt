@@ -4,11 +4,11 @@ ghost use Rattle.line_loop.specs.declared.fault.EngineFault.TheVariants.{Memory}
 ghost use Rattle.line_loop.specs.Faults.{fault_number, fault_name};
 
 use std::alloc::AllocError;
-use thiserror::Error;
+use std::error::Error;
+use std::fmt;
 
 /// Why an engine stopped before the end of its input.
-#[derive(Clone, Copy, Debug, PartialEq, Eq, Error)]
-#[error("{}", self.name())]
+#[derive(Clone, Copy, Debug, PartialEq)]
 pub enum EngineFault {
     /// The reader failed.
     Read,
@@ -17,6 +17,14 @@ pub enum EngineFault {
     /// Memory ran out.
     Memory,
 }
+
+impl fmt::Display for EngineFault {
+    fn fmt<W: fmt::Write>(&self, f: &mut fmt::Formatter<W>) -> fmt::Result {
+        f.write_str(self.name())
+    }
+}
+
+impl Error for EngineFault {}
 
 impl EngineFault {
     /// The number under which it is told, 1 to 3.

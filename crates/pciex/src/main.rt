@@ -1,16 +1,17 @@
 //! The program `pciex`: a shared memory device on a PCI Express fabric.
 #![tactic(auto)]
 
-mod command;
-#[cfg(test)]
-mod tests;
+mod telling;
 
-use cli_commands::{Noted, file_place, no_words};
-use command::command;
+use cli_commands::{Noted, command, is_request, no_words, take_file};
 use std::fs::File;
 use std::io;
-use std::io::{IsTerminal, Write};
+use std::io::{IsTerminal, Read};
 use std::process::ExitCode;
+use std::sync::Wait;
+use std::thread::Threads;
+use std::time::Clock;
+use telling::{tell_no_text, told_reader, two_files, unopened};
 
 /// The words of the command line, the program's name before them.
 fn words(rt: &HostRuntime) -> io::Result<Vec<String>> {
@@ -18,42 +19,75 @@ fn words(rt: &HostRuntime) -> io::Result<Vec<String>> {
     Ok(words)
 }
 
-/// Tells that a file can't be opened, and gives the exit status for that.
-fn unopened<E: Write>(name: &str, why: &io::Error, errors: &mut E) -> u8 {
-    let _ = writeln!(errors, "pciex: {name}: {why}");
-    1
+/// Does what the words ask for, on what a stream reads, and gives the exit status.
+fn status_of<T: Threads + Wait + Sync + Clock, R: Read + Drop>(
+    threads: &T,
+    rt: &HostRuntime,
+    words: &[String],
+    reader: R,
+) -> u8 {
+    let mut errors = rt.stderr();
+    let is_terminal = errors.is_terminal();
+    command(
+        threads,
+        rt.alloc(),
+        words,
+        is_terminal,
+        &mut Noted::new(reader),
+        &mut Noted::new(rt.stdout()),
+        &mut errors,
+    )
+}
+
+/// The exit status for words that ask for nothing.
+const REFUSED: u8 = 2;
+
+/// Does what the words ask for, on standard input. If they ask for nothing, tells which subcommand reads a file that is
+/// named in its place.
+fn on_standard_input<T: Threads + Wait + Sync + Clock>(
+    threads: &T,
+    rt: &HostRuntime,
+    words: &[String],
+) -> u8 {
+    let status = status_of(threads, rt, words, rt.stdin());
+    if status == REFUSED {
+        told_reader(rt, words, &mut rt.stderr());
+    }
+    status
+}
+
+/// Does what the words ask for, on the file of this name. If they name a second one, or ask for nothing, that is told.
+fn on_file<T: Threads + Wait + Sync + Clock>(
+    threads: &T,
+    rt: &HostRuntime,
+    name: &str,
+    words: &mut Vec<String>,
+) -> u8 {
+    if let Some(other) = take_file(rt.alloc(), words) {
+        return two_files(name, other.as_str(), &mut rt.stderr());
+    }
+    if !is_request(rt.alloc(), words.as_slice()) {
+        return status_of(threads, rt, words.as_slice(), rt.stdin());
+    }
+    match File::open(rt, name) {
+        Ok(file) => status_of(threads, rt, words.as_slice(), file),
+        Err(why) => unopened(name, &why, &mut rt.stderr()),
+    }
 }
 
 fn main(rt: HostRuntime) -> ExitCode {
-    let mut errors = rt.stderr();
-    let is_terminal = errors.is_terminal();
-    let words = match words(&rt) {
+    let mut words = match words(&rt) {
         Ok(words) => words,
-        Err(fault) => return ExitCode::from(no_words(&fault, &mut errors)),
+        Err(fault) => {
+            let mut errors = rt.stderr();
+            let status = no_words(&fault, &mut errors);
+            tell_no_text(&rt, &mut errors);
+            return ExitCode::from(status);
+        }
     };
-    let mut writer = Noted::new(rt.stdout());
-    let status = match file_place(rt.alloc(), words.as_slice()) {
-        None => command(
-            &rt,
-            rt.alloc(),
-            words.as_slice(),
-            is_terminal,
-            &mut Noted::new(rt.stdin()),
-            &mut writer,
-            &mut errors,
-        ),
-        Some(place) => match File::open(&rt, words[place].as_str()) {
-            Ok(file) => command(
-                &rt,
-                rt.alloc(),
-                &words[..place],
-                is_terminal,
-                &mut Noted::new(file),
-                &mut writer,
-                &mut errors,
-            ),
-            Err(why) => unopened(words[place].as_str(), &why, &mut errors),
-        },
+    let status = match take_file(rt.alloc(), &mut words) {
+        Some(name) => on_file(&rt, &rt, name.as_str(), &mut words),
+        None => on_standard_input(&rt, &rt, words.as_slice()),
     };
     ExitCode::from(status)
 }

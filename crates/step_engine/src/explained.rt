@@ -9,6 +9,7 @@ use crate::step::{Rooms, Stepper};
 use arrayvec::ArrayString;
 use diagnostics::{Reason, tell_long_line, tell_misfit, tell_refusal};
 use line_loop::{EngineFault, Responder, Verdict, run, write_out};
+use reason_count::ReasonCount;
 use script_text::{script_misfit, write_refusal};
 use std::alloc::{AllocError, Global};
 use std::io::{Read, Write};
@@ -43,10 +44,18 @@ fn unserved(answer: &[u8]) -> Option<&'static str> {
     }
 }
 
-/// Tells why requests aren't served whose answers a line of the script had, each in a line.
-fn explain_answers<E: Write>(text: &[u8], number: u64, errors: &mut E) -> Result<(), EngineFault> {
+/// Tells why requests aren't served whose answers a line of the script had, each in a line, as many as may be told.
+fn explain_answers<E: Write>(
+    text: &[u8],
+    number: u64,
+    told: &mut ReasonCount,
+    errors: &mut E,
+) -> Result<(), EngineFault> {
     for answer in text.split(|byte| *byte == b'\n') {
         if let Some(why) = unserved(answer) {
+            if !told.takes(errors)? {
+                return Ok(());
+            }
             let mut reason = Reason::new();
             reason.put(why);
             reason.tell_at(number, errors)?;
@@ -71,6 +80,8 @@ fn may_be_unserved(text: &[u8]) -> bool {
 struct Explained<E> {
     stepper: Stepper,
     rooms: Rooms,
+    /// How many reasons were told.
+    told: ReasonCount,
     /// The reasons that are to be written.
     reasons: Vec<u8>,
     /// Whether memory for a reason ran out: then no further line is answered.
@@ -86,6 +97,36 @@ impl<E> Model for Explained<E> {
     ghost view = { λ e. e.stepper };
 }
 
+impl<E> Explained<E> {
+    /// Tells why the line that was answered last by a fault or a refusal is refused.
+    fn tell(&mut self, line: &[u8]) -> Result<(), EngineFault>
+        ensures { self.new ≡ self.old }
+    {
+        if self.told.takes(&mut self.reasons)? {
+            explain(&mut self.stepper, line, &mut self.reasons)?;
+        }
+        Ok(())
+    }
+
+    /// Tells why requests aren't served that the text of the last line's answer has.
+    fn tell_answers(&mut self, text: &[u8]) -> Result<(), EngineFault>
+        ensures { self.new ≡ self.old }
+    {
+        let number = self.stepper.lines();
+        explain_answers(text, number, &mut self.told, &mut self.reasons)
+    }
+
+    /// Tells that the line that was answered last is too long.
+    fn tell_long(&mut self) -> Result<(), EngineFault>
+        ensures { self.new ≡ self.old }
+    {
+        if self.told.takes(&mut self.reasons)? {
+            tell_long_line(Some(self.stepper.lines()), &mut self.reasons)?;
+        }
+        Ok(())
+    }
+}
+
 impl<E: Write + Drop> Responder for Explained<E> {
     ghost use Rattle.step_engine.specs.Step.{step_responses};
 
@@ -98,11 +139,9 @@ impl<E: Write + Drop> Responder for Explained<E> {
         let before = out.len();
         let verdict = self.stepper.answer(line, &mut self.rooms, out)?;
         if verdict.is_fault() {
-            self.is_lost = explain(&mut self.stepper, line, &mut self.reasons).is_err();
+            self.is_lost = self.tell(line).is_err();
         } else if may_be_unserved(&out[before.min(out.len())..]) {
-            let number = self.stepper.lines();
-            let text = &out[before.min(out.len())..];
-            self.is_lost = explain_answers(text, number, &mut self.reasons).is_err();
+            self.is_lost = self.tell_answers(&out[before.min(out.len())..]).is_err();
         }
         Ok(verdict)
     }
@@ -112,8 +151,9 @@ impl<E: Write + Drop> Responder for Explained<E> {
             return Err(AllocError);
         }
         let verdict = self.stepper.answer_long(out)?;
-        let fault = verdict.is_fault().then_some(self.stepper.lines());
-        self.is_lost = tell_long_line(fault, &mut self.reasons).is_err();
+        if verdict.is_fault() {
+            self.is_lost = self.tell_long().is_err();
+        }
         Ok(verdict)
     }
 
@@ -150,6 +190,7 @@ pub fn run_step_with_reasons<R: Read, W: Write, E: Write>(
     let explained = Explained {
         stepper: Stepper::new(alloc, options),
         rooms: Rooms::new(),
+        told: ReasonCount::new(),
         reasons: Vec::new(alloc),
         is_lost: false,
         errors,

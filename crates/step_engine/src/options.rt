@@ -3,7 +3,7 @@ ghost use Rattle.std.specs.Prelude.{◌≡◌};
 ghost use Rattle.step_engine.specs.Options.{plain};
 
 /// What is asked of a run of a script.
-#[derive(Clone, Copy, Debug, PartialEq, Eq)]
+#[derive(Clone, Copy)]
 pub struct StepOptions {
     /// The trace of a run that ends well is written in place of the results.
     pub is_traced: bool,

@@ -274,34 +274,3 @@ pub fn run_tlp<R: Read, W: Write>(
 {
     run_tlp_with_reasons(alloc, extent, reader, writer, &mut sink())
 }
-
-/// An addition of 7 by the requester at port 1, and by that at port 2.
-#[cfg(test)]
-const ADD: &[u8] = b"4C000001 01000500 00000040 07000000";
-
-#[cfg(test)]
-const OTHER_ADD: &[u8] = b"4C000001 02000500 00000040 07000000";
-
-/// The numbers of port 1 are used up after the first addition, and the second doesn't act.
-#[cfg(test)]
-const ANSWERS: &[u8] =
-    b"4A000001 00000004 01000500 00000000\nfault numbers\n4A000001 00000004 02000500 07000000\n";
-
-/// The answers of a device that has one number left for port 1.
-#[cfg(test)]
-fn answers_at_the_last_number(alloc: Global) -> Result<Vec<u8>, AllocError> {
-    let extent = Extent::new(0, 128, 64).unwrap();
-    let mut completer = Completer::new(alloc, extent)?;
-    completer.device.counts[1] = u32::MAX - 1;
-    let mut out = Vec::new(alloc);
-    for line in [ADD, ADD, OTHER_ADD] {
-        completer.on_line(line, &mut out)?;
-    }
-    Ok(out)
-}
-
-#[test]
-fn numbers_are_used_up(rt: HostRuntime) {
-    let answers = answers_at_the_last_number(rt.alloc());
-    assert!(rt; answers.is_ok_and(|text| text.as_slice() == ANSWERS));
-}

@@ -20,7 +20,7 @@ use Rattle.log_pieces.specs.declared.Granularity.{Granularity}
 use Rattle.sweep_engine.specs.declared.options.Sweep.{Sweep as SweepAsked}
 use Rattle.sweep_engine.specs.Sweep.{IsPart as IsPartOfSweep, none_said, whole_text}
 use Rattle.cli_commands.specs.Command.{IsBegun, IsDone, IsPartAs, IsRightRequest, AskForNoText, AreRefused}
-use Rattle.cli_commands.proofs.command.on_one_thread.Goals as goal
+use Rattle.cli_commands.proofs.one_thread.on_one_thread.Goals as goal
 
 -- words that `clap` takes and that ask for something are refused for being out of memory alone
 want : (fault : RequestFault) (taken : Type 0) (o : Option (Text × List Row)) (r : Request)

@@ -1,11 +1,12 @@
-//! The program, over any streams.
+//! The program, over any streams, with the worker threads of a run and of a sweep.
 ghost use Rattle.std.specs.Prelude.{◌≡◌, ◌⊎◌, map, true};
 ghost use Rattle.clap.specs.Words.{fault_of, subcommand_of, takes};
 ghost use Rattle.cli_words.specs.Options.{the_app, Asks};
 ghost use Rattle.cli_commands.specs.Command.{IsDone, AreRefused};
 ghost use Rattle.cli_words.specs.declared.words.Request.{Request};
 
-use cli_commands::{Fallible, Host, Outcome, ended, on_one_thread};
+use crate::noted::Fallible;
+use crate::one_thread::{Host, Outcome, ended, on_one_thread};
 use run_engine::{Progress, run_counting};
 use std::alloc::Global;
 use std::convert::AsStr;

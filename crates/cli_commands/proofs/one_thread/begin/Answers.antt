@@ -6,7 +6,7 @@ use Rattle.line_loop.specs.Run.{Run, IsRun, IsWhole, IsPart as IsPartOf}
 use Rattle.log_pieces.specs.declared.Granularity.{Granularity}
 use Rattle.cli_words.specs.declared.outputs.SearchOutput.{SearchOutput}
 use Rattle.cli_commands.specs.Command.{IsGenerated, IsWholeAs, IsPartAs, IsSearchedAs}
-use Rattle.cli_commands.proofs.command.begin.Goals as goal
+use Rattle.cli_commands.proofs.one_thread.begin.Goals as goal
 
 -- an engine's run, whole or stopped
 run_done : {S : Type 0} (run : List ℕ → Run S) (r : Result ℕ EngineFault) (input rest out out' : Option (List ℕ)) (exit : ℕ)

@@ -9,6 +9,7 @@ ghost use Rattle.cli_words.specs.declared.words.Request.{Request};
 
 use crate::hints::hint;
 use crate::noted::Fallible;
+use crate::plain::Plain;
 use crate::searching::{Search, run_search_as, stages_of};
 use chart_engine::run_chart_with_reasons;
 use chart_links::ChartWindow;
@@ -80,7 +81,7 @@ fn told<W: Write + Fallible, E: Write>(error: &clap::Error, writer: &mut W, erro
         return stopped(EngineFault::Memory, None, errors);
     }
     if error.use_stderr() {
-        let _ = write!(errors, "{error}");
+        let _ = write!(Plain { to: errors }, "{error}");
         return 2;
     }
     match write!(writer, "{error}") {
@@ -129,7 +130,7 @@ pub fn no_words<E: Write>(fault: &io::Error, errors: &mut E) -> u8
 }
 
 /// What became of the words of a command line on one thread.
-#[derive(Clone, Copy, Debug, PartialEq, Eq)]
+#[derive(Clone, Copy)]
 pub enum Outcome {
     /// The program ends with this exit status.
     Ended(u8),

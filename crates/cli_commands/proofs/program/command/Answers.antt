@@ -6,7 +6,7 @@ use Rattle.run_engine.specs.Text.{IsWhole, IsPart, IsRan}
 use Rattle.sweep_engine.specs.declared.options.Sweep.{Sweep}
 use Rattle.sweep_engine.specs.Sweep.{IsWhole as IsWholeSweep, IsPart as IsPartOfSweep, IsSwept}
 use Rattle.cli_commands.specs.Command.{IsDone}
-use Rattle.pciex.proofs.command.command.Goals as goal
+use Rattle.cli_commands.proofs.program.command.Goals as goal
 
 -- a run, whole or stopped
 ran : (c : Counting) (r : Result ℕ EngineFault) (out out' : Option (List ℕ)) (exit : ℕ) → IfOk r (λ status. exit ≡ status) → OnErr r (exit ≡ 1)
