@@ -13,7 +13,7 @@ pub mod laws;
 use tlp_core::Width;
 
 /// An AtomicOp with its operands.
-#[derive(Clone, Copy, Debug, PartialEq, Eq)]
+#[derive(Clone, Copy)]
 pub enum AtomicOp {
     /// Adds the operand; what goes past the width is dropped. PCI Express has it at 4 and 8 bytes.
     FetchAdd(u128),

@@ -17,7 +17,7 @@ use std::alloc::AllocError;
 use svg_text::{Block, Colour, Label, Rule, put_block, put_label, put_lines};
 
 /// Where a step line stands.
-#[derive(Clone, Copy, Debug, PartialEq, Eq)]
+#[derive(Clone, Copy)]
 pub(crate) struct Strip {
     pub(crate) lane: LaneName,
     pub(crate) level: Level,

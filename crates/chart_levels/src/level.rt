@@ -8,7 +8,7 @@ use fabric_core::{Fabric, LaneName};
 use lane_ends::LaneEnds;
 
 /// What is measured of a lane.
-#[derive(Clone, Copy, Debug, PartialEq, Eq)]
+#[derive(Clone, Copy)]
 pub enum Level {
     /// How many accepted packets wait in the receiver's queue.
     Queue,

@@ -9,14 +9,14 @@ use std::alloc::{AllocError, Global};
 use std::marker::Model;
 
 /// From this row on the level has this value; None of credits that are infinite.
-#[derive(Clone, Copy, Debug, PartialEq, Eq)]
+#[derive(Clone, Copy)]
 pub struct Step {
     pub row: u16,
     pub value: Option<u64>,
 }
 
 /// A level of a lane through the rows of a chart.
-#[derive(Debug, Drop)]
+#[derive(Drop)]
 pub struct StepLine {
     lane: LaneName,
     level: Level,

@@ -6,14 +6,14 @@ ghost use Rattle.chart_links.specs.News as news;
 use dllp_core::Class;
 
 /// What an update tells: all credits that were given so far, of headers modulo 256, of data units modulo 4096.
-#[derive(Clone, Copy, Debug, PartialEq, Eq)]
+#[derive(Clone, Copy)]
 pub(crate) struct Limit {
     pub(crate) headers: u8,
     pub(crate) units: u16,
 }
 
 /// What the last update of each class told, if one arrived.
-#[derive(Clone, Copy, Debug, PartialEq, Eq)]
+#[derive(Clone, Copy)]
 pub(crate) struct Limits {
     posted: Option<Limit>,
     non_posted: Option<Limit>,

@@ -7,7 +7,7 @@ use chart_rows::{Parts, write_absent};
 use fabric_core::{Event, LaneName};
 
 /// What is shown.
-#[derive(Clone, Copy, Debug, PartialEq, Eq)]
+#[derive(Clone, Copy)]
 pub struct ChartWindow {
     /// The lane whose events and ends alone are shown; None shows all.
     pub lane: Option<LaneName>,
@@ -113,7 +113,7 @@ pub(crate) fn parts_of(lane: Option<LaneName>, requesters: u8) -> Parts
 }
 
 /// Where an event goes.
-#[derive(Clone, Copy, Debug, PartialEq, Eq)]
+#[derive(Clone, Copy)]
 pub(crate) enum Place {
     /// It is of no lane that is shown.
     Hidden,

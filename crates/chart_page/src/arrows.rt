@@ -18,7 +18,7 @@ use std::alloc::AllocError;
 use svg_text::{Colour, Rule, put_lines};
 
 /// An arrow that ends in a row.
-#[derive(Clone, Copy, Debug, PartialEq, Eq)]
+#[derive(Clone, Copy)]
 pub(crate) struct Arrow {
     way: Way,
     pen: Pen,

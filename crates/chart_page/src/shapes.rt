@@ -9,7 +9,7 @@ use std::alloc::AllocError;
 use svg_text::{Block, Colour, Label, Rule, put_block, put_label};
 
 /// What a line looks like.
-#[derive(Clone, Copy, Debug, PartialEq, Eq)]
+#[derive(Clone, Copy)]
 pub(crate) struct Pen {
     pub(crate) colour: Colour,
     /// In pixels.
@@ -19,7 +19,7 @@ pub(crate) struct Pen {
 }
 
 /// Where a text stands: beside a line, in a row.
-#[derive(Clone, Copy, Debug, PartialEq, Eq)]
+#[derive(Clone, Copy)]
 pub(crate) struct Tag {
     pub(crate) x: u64,
     pub(crate) is_right: bool,

@@ -6,14 +6,14 @@ ghost use Rattle.chart_rows.specs.Layout as layout;
 use fabric_core::LaneName;
 
 /// A point.
-#[derive(Clone, Copy, Debug, PartialEq, Eq)]
+#[derive(Clone, Copy)]
 pub struct Point {
     pub x: u64,
     pub y: u64,
 }
 
 /// The way from one line to another.
-#[derive(Clone, Copy, Debug, PartialEq, Eq)]
+#[derive(Clone, Copy)]
 pub struct Way {
     pub from: u64,
     pub to: u64,
@@ -21,7 +21,7 @@ pub struct Way {
 }
 
 /// The parts of a fabric that have a line.
-#[derive(Clone, Copy, Debug, PartialEq, Eq)]
+#[derive(Clone, Copy)]
 pub enum Parts {
     /// So many requesters, the switch and the memory.
     All(u8),

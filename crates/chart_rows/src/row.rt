@@ -11,7 +11,7 @@ use std::marker::Model;
 use tlp_core::Op;
 
 /// The kind of an operation.
-#[derive(Clone, Copy, Debug, PartialEq, Eq)]
+#[derive(Clone, Copy)]
 pub enum Kind {
     Read,
     Write,
@@ -21,7 +21,7 @@ pub enum Kind {
 }
 
 /// A request, or its completion.
-#[derive(Clone, Copy, Debug, PartialEq, Eq)]
+#[derive(Clone, Copy)]
 pub struct Carried {
     /// The port of the requester.
     pub requester: u8,
@@ -32,7 +32,7 @@ pub struct Carried {
 }
 
 /// What a sender sends once more after a replay timer expired or a Nak came.
-#[derive(Clone, Copy, Debug, PartialEq, Eq)]
+#[derive(Clone, Copy)]
 pub enum Replay {
     /// Nothing: all that was sent is acknowledged.
     Nothing,
@@ -44,7 +44,7 @@ pub enum Replay {
 
 /// A packet on its way: its sequence number, what it carries, and the row in which it was sent. Rows count from 0; None
 /// is a row that isn't shown.
-#[derive(Clone, Copy, Debug, PartialEq, Eq)]
+#[derive(Clone, Copy)]
 pub struct PacketSent {
     pub number: Seq12,
     pub carried: Option<Carried>,
@@ -52,14 +52,14 @@ pub struct PacketSent {
 }
 
 /// A DLLP on its way back, and the row in which it was sent.
-#[derive(Clone, Copy, Debug, PartialEq, Eq)]
+#[derive(Clone, Copy)]
 pub struct DllpSent {
     pub dllp: Dllp,
     pub row: Option<u16>,
 }
 
 /// What is drawn of an event. What was sent is None if nothing is known of it.
-#[derive(Clone, Copy, Debug, PartialEq, Eq)]
+#[derive(Clone, Copy)]
 pub enum Deed {
     /// Nothing but its row: it was refused.
     Nothing,
@@ -86,7 +86,7 @@ pub enum Deed {
 }
 
 /// An event, its line of the script, what was seen of it or why it was refused, and what is drawn of it.
-#[derive(Debug, Drop)]
+#[derive(Drop)]
 pub struct Row {
     pub line: u64,
     pub event: Event,
@@ -95,14 +95,14 @@ pub struct Row {
 }
 
 /// A packet, as its sequence number and what it carries, or a DLLP.
-#[derive(Clone, Copy, Debug, PartialEq, Eq)]
+#[derive(Clone, Copy)]
 pub enum Flying {
     Packet(Seq12, Option<Carried>),
     Dllp(Dllp),
 }
 
 /// What was sent in a row that is shown, and isn't seen to arrive.
-#[derive(Clone, Copy, Debug, PartialEq, Eq)]
+#[derive(Clone, Copy)]
 pub struct Open {
     pub lane: LaneName,
     pub what: Flying,
@@ -110,7 +110,7 @@ pub struct Open {
 }
 
 /// What a chart shows, and how many events it leaves out before its rows, after them, and because they tell nothing new.
-#[derive(Debug, Drop)]
+#[derive(Drop)]
 pub struct Page {
     pub parts: Parts,
     pub rows: Vec<Row>,

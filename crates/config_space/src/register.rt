@@ -5,7 +5,7 @@ ghost use Rattle.config_space.specs.Registers as spec;
 use crate::setup::Setup;
 
 /// A register of 32 bits: what it is after a reset, and which of its bits software changes.
-#[derive(Clone, Copy, Debug, PartialEq, Eq)]
+#[derive(Clone, Copy)]
 pub struct Register {
     pub reset: u32,
     /// The bits that a write sets.

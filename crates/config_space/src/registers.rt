@@ -7,7 +7,7 @@ use crate::setup::Setup;
 use std::marker::Model;
 
 /// An error that a register reports.
-#[derive(Clone, Copy, Debug, PartialEq, Eq)]
+#[derive(Clone, Copy)]
 pub enum Noted {
     /// A request that the device doesn't support: Unsupported Request Detected, bit 19 of 058h.
     UnsupportedRequest,
@@ -18,7 +18,7 @@ pub enum Noted {
 }
 
 /// The values of the registers that change. The others are those of the table.
-#[derive(Clone, Copy, Debug, PartialEq, Eq)]
+#[derive(Clone, Copy)]
 pub struct Registers {
     setup: Setup,
     command: u32,

@@ -5,7 +5,7 @@ ghost use Rattle.config_space.specs.SetupView.{is_size};
 use std::marker::Model;
 
 /// The size of a device's memory and the IDs that it says. The size is a power of two, from 4096 to 1,048,576 bytes.
-#[derive(Clone, Copy, Debug, PartialEq, Eq)]
+#[derive(Clone, Copy)]
 pub struct Setup {
     size: u32,
     vendor: u16,

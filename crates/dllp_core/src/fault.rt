@@ -1,11 +1,11 @@
 //! Why bytes are no DLLP.
 ghost use Rattle.std.specs.Prelude.{◌≡◌};
 
-use thiserror::Error;
+use std::error::Error;
+use std::fmt;
 
 /// The first of these that holds of the bytes.
-#[derive(Clone, Copy, Debug, PartialEq, Eq, Error)]
-#[error("{}", self.name())]
+#[derive(Clone, Copy, Debug, PartialEq)]
 pub enum DllpFault {
     /// Not exactly four bytes.
     Short,
@@ -14,6 +14,14 @@ pub enum DllpFault {
     /// A scale bit of an UpdateFC is set.
     Scaled,
 }
+
+impl fmt::Display for DllpFault {
+    fn fmt<W: fmt::Write>(&self, f: &mut fmt::Formatter<W>) -> fmt::Result {
+        f.write_str(self.name())
+    }
+}
+
+impl Error for DllpFault {}
 
 impl DllpFault {
     ghost use Rattle.dllp_core.specs.Faults.{number_of, name_of};

@@ -3,7 +3,7 @@
 use seq12::Seq12;
 
 /// The class of traffic that credits are for (section 2.6.1).
-#[derive(Clone, Copy, Debug, PartialEq, Eq)]
+#[derive(Clone, Copy, Debug, PartialEq)]
 pub enum Class {
     Posted,
     NonPosted,
@@ -11,7 +11,7 @@ pub enum Class {
 }
 
 /// A data link layer packet.
-#[derive(Clone, Copy, Debug, PartialEq, Eq)]
+#[derive(Clone, Copy, PartialEq)]
 pub enum Dllp {
     /// Packets through this sequence number arrived.
     Ack(Seq12),
@@ -23,7 +23,7 @@ pub enum Dllp {
 }
 
 /// What byte 0 of a DLLP says.
-#[derive(Clone, Copy, Debug, PartialEq, Eq)]
+#[derive(Clone, Copy)]
 pub(crate) enum Kind {
     Ack,
     Nak,

@@ -15,7 +15,7 @@ use std::marker::Model;
 use tlp_core::{OpRef, TlpRef, op_lent};
 
 /// What became of a TLP that came.
-#[derive(Clone, Copy, Debug, PartialEq, Eq)]
+#[derive(Clone, Copy, PartialEq)]
 pub enum Handled {
     /// A non-posted request, which waits.
     Waits,

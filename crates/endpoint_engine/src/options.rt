@@ -2,7 +2,7 @@
 use config_space::Setup;
 
 /// Which device is made, and whether it is traced.
-#[derive(Clone, Copy, Debug, PartialEq, Eq)]
+#[derive(Clone, Copy)]
 pub struct EndpointOptions {
     pub setup: Setup,
     /// Records what the memory does, for the line `trace`.

@@ -16,52 +16,7 @@ pub(crate) fn moved<'a>(base: u64, op: &OpRef<'a>) -> OpRef<'a>
     requires { base ≤ address_of op.now }
     ensures { result ≡ spec.moved base op.now }
 {
-    let place = op.address() - base;
-    match op {
-        OpRef::Read {
-            dw,
-            first,
-            last,
-            ..
-        } => OpRef::Read {
-            address: place,
-            dw: *dw,
-            first: *first,
-            last: *last,
-        },
-        OpRef::Write {
-            first,
-            last,
-            bytes,
-            ..
-        } => OpRef::Write {
-            address: place,
-            first: *first,
-            last: *last,
-            bytes: PayloadRef::new(bytes.as_slice()),
-        },
-        OpRef::FetchAdd { width, operand, .. } => OpRef::FetchAdd {
-            address: place,
-            width: *width,
-            operand: *operand,
-        },
-        OpRef::Swap { width, operand, .. } => OpRef::Swap {
-            address: place,
-            width: *width,
-            operand: *operand,
-        },
-        OpRef::Cas {
-            width,
-            compare,
-            swap,
-            ..
-        } => OpRef::Cas {
-            address: place,
-            width: *width,
-            compare: *compare,
-            swap: *swap,
-        },
-    }
+    op.at(op.address() - base)
 }
 
 /// How many DW are in a read's first block, if it goes on in the next, and else 0.

@@ -5,7 +5,7 @@ use std::marker::Model;
 use tlp_core::{TlpFault, TlpRef};
 
 /// Transaction Descriptor (section 2.2.6): what a completion repeats of its request.
-#[derive(Clone, Copy, Debug, PartialEq, Eq)]
+#[derive(Clone, Copy)]
 pub struct Descriptor {
     /// Traffic Class, 0 to 7.
     pub tc: u8,
@@ -30,7 +30,7 @@ impl Model for Descriptor {
 }
 
 /// Why a TLP is malformed.
-#[derive(Clone, Copy, Debug, PartialEq, Eq)]
+#[derive(Clone, Copy, PartialEq)]
 pub enum Malformed {
     /// A fault of a packet; of I/O requests and messages `Short`, `LengthMismatch` and `PayloadTooLong` alone. Bytes
     /// that are more than any TLP of this device has are `PayloadTooLong`.

@@ -17,7 +17,7 @@ const SPREAD: u64 = 40503;
 
 /// How many are lost and how many arrive with a failed check: one of each so many, spread evenly,
 /// none where it is 0. Each is 0 to 65,536.
-#[derive(Clone, Copy, Debug, PartialEq, Eq)]
+#[derive(Clone, Copy)]
 pub struct Plan {
     pub lose_every: u32,
     pub corrupt_every: u32,

@@ -3,7 +3,7 @@ ghost use Rattle.std.specs.Prelude.{◌≡◌, ◌+◌, ◌%◌, ◌<◌, ◌≤
 ghost use Rattle.fc_credit.specs.Credits.{modulus};
 
 /// Which of the two counters of a class.
-#[derive(Clone, Copy, Debug, PartialEq, Eq)]
+#[derive(Clone, Copy, Debug, PartialEq)]
 pub(crate) enum Part {
     Header,
     Data,
@@ -24,7 +24,7 @@ impl Part {
 }
 
 /// The gate's counter: what may be used, and what was.
-#[derive(Clone, Copy, Debug, PartialEq, Eq)]
+#[derive(Clone, Copy)]
 pub(crate) struct Allowance {
     /// The advertised first value.
     first: u16,
@@ -35,7 +35,7 @@ pub(crate) struct Allowance {
 }
 
 /// The ledger's counter: what came in, and what was given back.
-#[derive(Clone, Copy, Debug, PartialEq, Eq)]
+#[derive(Clone, Copy)]
 pub(crate) struct Grant {
     /// The advertised first value.
     first: u16,

@@ -8,7 +8,7 @@ use dllp_core::Class;
 use std::marker::Model;
 
 /// The two counters of a class.
-#[derive(Clone, Copy, Debug, PartialEq, Eq)]
+#[derive(Clone, Copy)]
 pub(crate) struct ClassGate {
     header: Allowance,
     units: Allowance,
@@ -18,7 +18,7 @@ pub(crate) struct ClassGate {
 ///
 /// CREDIT_LIMIT and CREDITS_CONSUMED are always below 256 for headers and below 4096 for data, so a gate alone tells
 /// the room: their difference modulo 256 or 4096.
-#[derive(Clone, Copy, Debug, PartialEq, Eq)]
+#[derive(Clone, Copy)]
 pub struct CreditGate {
     posted: ClassGate,
     non_posted: ClassGate,

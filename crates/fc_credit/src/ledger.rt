@@ -8,14 +8,14 @@ use crate::needs::Need;
 use dllp_core::{Class, Dllp};
 
 /// The two counters of a class.
-#[derive(Clone, Copy, Debug, PartialEq, Eq)]
+#[derive(Clone, Copy)]
 pub(crate) struct ClassLedger {
     header: Grant,
     units: Grant,
 }
 
 /// The receiver's counters (section 2.6.1.2): for each class what it received and what it gave.
-#[derive(Clone, Copy, Debug, PartialEq, Eq)]
+#[derive(Clone, Copy)]
 pub struct CreditLedger {
     posted: ClassLedger,
     non_posted: ClassLedger,

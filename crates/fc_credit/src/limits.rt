@@ -3,7 +3,7 @@ ghost use Rattle.std.specs.Prelude.{◌↔◌, IsTrue};
 ghost use Rattle.fc_credit.specs.Limits.{IsInfiniteOrBetween, IsInLimits};
 
 /// The first values of the credits of a lane, in header units and in data units of 16 bytes. 0 is infinite.
-#[derive(Clone, Copy, Debug, PartialEq, Eq)]
+#[derive(Clone, Copy, PartialEq)]
 pub struct LaneCredits {
     /// Posted headers, 1 to 127.
     pub ph: u8,

@@ -6,7 +6,7 @@ use dllp_core::Class;
 use tlp_core::{Kind, Tlp};
 
 /// What a packet takes of the credits of one class (section 2.6.1).
-#[derive(Clone, Copy, Debug, PartialEq, Eq)]
+#[derive(Clone, Copy, Debug, PartialEq)]
 pub struct Need {
     pub class: Class,
     /// In header units: 1 for each packet.

@@ -181,7 +181,7 @@ fn part_of(slot: usize) -> Part
 }
 
 /// A part's word wasn't 0. The fabric is spent.
-#[derive(Clone, Copy, Debug, PartialEq, Eq)]
+#[derive(Clone, Copy, Debug, PartialEq)]
 pub struct StillHeld {
     pub part: Part,
     pub word: u64,

@@ -2,7 +2,7 @@
 use seq_memory::Reply;
 
 /// What is told of a submission.
-#[derive(Clone, Copy, Debug, PartialEq, Eq)]
+#[derive(Clone, Copy, PartialEq)]
 pub struct Submitted {
     /// The number of the request: how many its requester had submitted before it.
     pub number: u32,
@@ -11,7 +11,7 @@ pub struct Submitted {
 }
 
 /// What is told of a completion.
-#[derive(Debug, PartialEq, Drop)]
+#[derive(PartialEq, Drop)]
 pub struct Answered {
     /// The number of the request.
     pub number: u32,

@@ -9,7 +9,7 @@ use thiserror::Error;
 
 /// Why a call of the hall is refused. It has changed nothing then: no event happened, no part is held, and the seat
 /// knows what it knew.
-#[derive(Clone, Copy, Debug, PartialEq, Eq, Error)]
+#[derive(Clone, Copy, Debug, PartialEq, Error)]
 pub enum HallRefusal {
     /// The part, which the event uses, was found to have this word, which is neither 0 nor the caller's own: the seat with
     /// the number one less had the part.

@@ -13,7 +13,7 @@ use fabric_core::{LaneName, LinkEvent, Seen};
 use lane_core::{DllpKind, Fate};
 
 /// An event that any work seat may pump: each event of the fabric but a submission or a collection.
-#[derive(Clone, Copy, Debug, PartialEq, Eq)]
+#[derive(Clone, Copy)]
 pub enum WorkEvent {
     /// The sender's next packet goes onto the lane's forward wire.
     Transmit(LaneName),

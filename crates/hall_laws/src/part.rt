@@ -98,7 +98,7 @@ impl PartValue {
 }
 
 /// The name of a part.
-#[derive(Clone, Copy, Debug, PartialEq, Eq)]
+#[derive(Clone, Copy, Debug, PartialEq)]
 pub enum Part {
     Memory,
     /// The requester of a port from 1 on.

@@ -13,7 +13,7 @@ use std::marker::Model;
 use tlp_core::Op;
 
 /// A record without its operation or its reply.
-#[derive(Clone, Copy, Debug, PartialEq, Eq)]
+#[derive(Clone, Copy)]
 pub enum RecordHeader {
     /// See [`Record::Sub`].
     Sub {

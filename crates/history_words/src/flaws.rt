@@ -2,14 +2,14 @@
 ghost use Rattle.std.specs.Prelude.{◌≡◌};
 ghost use Rattle.history_words.specs.Names.{number_of, name_of};
 
+use std::fmt;
 use thiserror::Error;
 
 /// The flaws, in the order of their numbers. `Numbering` is looked for in all submissions first,
 /// then `Stranger` to `Order` at each index of the history, then `Unasked` to `Stale` at each
 /// answer, and last, if it is asked for, `Clock` at each record; at one place the lowest number is
 /// told.
-#[derive(Clone, Copy, Debug, PartialEq, Eq, Error)]
-#[error("{}", self.name())]
+#[derive(Clone, Copy, Debug, PartialEq)]
 pub enum FlawKind {
     /// The numbers of a requester's submissions are not 0, 1, 2 and so on in order.
     Numbering,
@@ -40,6 +40,14 @@ pub enum FlawKind {
     /// index of the request that the record submits.
     Clock,
 }
+
+impl fmt::Display for FlawKind {
+    fn fmt<W: fmt::Write>(&self, f: &mut fmt::Formatter<W>) -> fmt::Result {
+        f.write_str(self.name())
+    }
+}
+
+impl std::error::Error for FlawKind {}
 
 impl FlawKind {
     /// The number under which the flaw is told, 1 to 13.
@@ -87,7 +95,7 @@ impl FlawKind {
 
 /// The first flaw, and where it is: the place of a record for `Numbering` and from `Unasked` on, an
 /// index of the history for `Stranger` to `Order`, from 0; 0 for `Memory`.
-#[derive(Clone, Copy, Debug, PartialEq, Eq, Error)]
+#[derive(Clone, Copy, Debug, PartialEq, Error)]
 #[error("{kind} at {place}")]
 pub struct Flaw {
     pub kind: FlawKind,

@@ -9,7 +9,7 @@ use tlp_core::{Op, OpRef};
 
 /// What a requester saw, with its operation kept as an `O` or its reply as an `R`. `n` is the length of
 /// the history at that event.
-#[derive(Clone, Debug, PartialEq, Drop)]
+#[derive(Drop)]
 pub enum RecordOf<O, R> {
     /// The requester submitted an operation under its next number.
     Sub {
@@ -129,7 +129,7 @@ impl<'a> RecordOf<OpRef<'a>, ReplyRef<'a>> {
 }
 
 /// What requesters submitted to a memory and were answered, in the order of events.
-#[derive(Clone, Debug, Drop)]
+#[derive(Drop)]
 pub struct Trace {
     /// The memory, whose bytes are zeros at first.
     pub extent: Extent,

@@ -5,18 +5,19 @@ use dllp_core::{Class, Dllp};
 use link_receiver::Reception;
 use replay_sender::Cargo;
 use seq12::Seq12;
-use thiserror::Error;
+use std::error::Error;
+use std::fmt;
 
 /// A packet on the forward wire (section 3.6.1): its sequence number and the bytes of the transaction layer packet.
 /// Beside them rides the mark, which isn't on the wire.
-#[derive(Debug, PartialEq, Eq, Drop)]
+#[derive(Drop)]
 pub struct WirePacket {
     pub number: Seq12,
     pub cargo: Cargo,
 }
 
 /// What becomes of the oldest on a wire.
-#[derive(Clone, Copy, Debug, PartialEq, Eq)]
+#[derive(Clone, Copy, PartialEq)]
 pub enum Fate {
     /// It arrives, and its check is good.
     Good,
@@ -27,7 +28,7 @@ pub enum Fate {
 }
 
 /// What became of a packet.
-#[derive(Clone, Copy, Debug, PartialEq, Eq)]
+#[derive(Clone, Copy, PartialEq)]
 pub enum Arrival {
     /// It arrived, and this is what the receiver does with it.
     Answered(Reception),
@@ -36,7 +37,7 @@ pub enum Arrival {
 }
 
 /// Which DLLP is sent.
-#[derive(Clone, Copy, Debug, PartialEq, Eq)]
+#[derive(Clone, Copy, PartialEq)]
 pub enum DllpKind {
     /// The Nak that is due, or else an Ack.
     Answer,
@@ -45,7 +46,7 @@ pub enum DllpKind {
 }
 
 /// What became of a DLLP.
-#[derive(Clone, Copy, Debug, PartialEq, Eq)]
+#[derive(Clone, Copy, PartialEq)]
 pub enum DllpSeen {
     /// It took effect.
     Took(Dllp),
@@ -54,8 +55,7 @@ pub enum DllpSeen {
 }
 
 /// Why a lane refuses, in the order in which it is looked for.
-#[derive(Clone, Copy, Debug, PartialEq, Eq, Error)]
-#[error("{}", self.name())]
+#[derive(Clone, Copy, Debug, PartialEq)]
 pub enum LaneRefusal {
     /// The credits of this class don't cover the packet.
     NoCredits(Class),
@@ -64,6 +64,14 @@ pub enum LaneRefusal {
     /// The memory could not grow.
     Memory,
 }
+
+impl fmt::Display for LaneRefusal {
+    fn fmt<W: fmt::Write>(&self, f: &mut fmt::Formatter<W>) -> fmt::Result {
+        f.write_str(self.name())
+    }
+}
+
+impl Error for LaneRefusal {}
 
 impl LaneRefusal {
     ghost use Rattle.lane_ends.specs.Refusals.{number_of, name_of};

@@ -5,7 +5,7 @@ ghost use Rattle.link_crc.specs.Checks.{lcrc_check_of, dllp_check_of};
 use crate::{dllp_crc, lcrc};
 
 /// The result of a packet's check.
-#[derive(Clone, Copy, Debug, PartialEq, Eq)]
+#[derive(Clone, Copy, Debug, PartialEq)]
 pub enum LcrcCheck {
     /// The LCRC is that of the packet.
     Good,
@@ -18,7 +18,7 @@ pub enum LcrcCheck {
 }
 
 /// The result of a DLLP's check.
-#[derive(Clone, Copy, Debug, PartialEq, Eq)]
+#[derive(Clone, Copy, Debug, PartialEq)]
 pub enum DllpCheck {
     /// The CRC is that of the DLLP.
     Good,

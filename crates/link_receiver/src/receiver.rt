@@ -6,7 +6,7 @@ use seq12::{Seq12, SequenceClass, classify};
 use std::marker::Model;
 
 /// NAK_SCHEDULED, and whether the Nak was sent.
-#[derive(Clone, Copy, Debug, PartialEq, Eq)]
+#[derive(Clone, Copy, Debug, PartialEq)]
 pub enum NakScheduled {
     /// NAK_SCHEDULED is clear.
     Clear,
@@ -17,7 +17,7 @@ pub enum NakScheduled {
 }
 
 /// What a receiver does with a packet.
-#[derive(Clone, Copy, Debug, PartialEq, Eq)]
+#[derive(Clone, Copy, Debug, PartialEq)]
 pub enum Reception {
     /// It is the packet that is waited for, and is handed up.
     Accept,
@@ -30,7 +30,7 @@ pub enum Reception {
 }
 
 /// The receiver's side of a link: the number that is waited for, and whether a Nak is scheduled.
-#[derive(Clone, Copy, Debug, PartialEq, Eq)]
+#[derive(Clone, Copy)]
 pub struct Receiver {
     next: Seq12,
     nak: NakScheduled,

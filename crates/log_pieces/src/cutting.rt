@@ -5,9 +5,8 @@ ghost use Rattle.tlp_core.specs.Operation.{address_of, count_of};
 ghost use Rattle.op_pieces.specs.Pieces as spec;
 ghost use Rattle.log_pieces.specs.Pieces.{pieces, count_if_served};
 
-use op_pieces::{back, cut, dw_of, dw_to, front, whole};
-use search_undo::refusal;
-use seq_memory::Extent;
+use op_pieces::{back, cut, dw_of, dw_to, front};
+use seq_memory::{Extent, refusal_lent};
 use std::alloc::{AllocError, Global};
 use tlp_core::OpRef;
 
@@ -22,7 +21,7 @@ fn is_served(extent: Extent, op: &OpRef<'_>) -> bool
     ensures value { result ≡ spec.is_served extent op.now }
     ensures fits { IsTrue result → address_of op.now + count_of op.now ≤ 2 ^ 64 }
 {
-    refusal(extent.base(), extent.block(), extent.size(), op).is_none()
+    refusal_lent(extent.base(), extent.block(), extent.size(), op).is_none()
 }
 
 fn are_served(extent: Extent, ops: &[OpRef<'_>]) -> bool
@@ -41,7 +40,7 @@ fn alone<'a>(alloc: Global, op: &OpRef<'a>) -> Result<Vec<OpRef<'a>>, AllocError
     ensures { IfOk result (λ v. v.items ≡ op.now ∷ []) }
 {
     let mut pieces = Vec::new(alloc);
-    pieces.push(whole(op))?;
+    pieces.push(op.again())?;
     Ok(pieces)
 }
 
@@ -63,7 +62,7 @@ fn count_served(extent: Extent, bytes: u64, op: &OpRef<'_>) -> Option<usize>
     requires fits { address_of op.now + count_of op.now ≤ 2 ^ 64 }
     ensures { result ≡ count_if_served extent (spec.cut bytes (spec.dw_of op.now) op.now) }
 {
-    let mut rest = whole(op);
+    let mut rest = op.again();
     let all = dw_of(&rest);
     for turn in 0..all {
         let dw = dw_to(bytes, rest.address());

@@ -19,7 +19,7 @@ pub use counting::{ends_of, records_of};
 pub use splitting::in_pieces;
 
 /// How many bytes of a read or a write act at once: naturally aligned pieces.
-#[derive(Clone, Copy, Debug, PartialEq, Eq)]
+#[derive(Clone, Copy)]
 pub enum Granularity {
     /// 4 bytes: one DW.
     Four,

@@ -22,12 +22,12 @@ use Rattle.history_words.specs.Trace.{is_request}
 use Rattle.history_words.specs.TraceView.{observed}
 use Rattle.log_runs.specs.declared.Step.{Step}
 use Rattle.log_runs.specs.declared.Step.TheVariants as steps
-use Rattle.log_runs.specs.Histories.{submitted, history_of, with_answer, with_replies, completed}
+use Rattle.log_runs.specs.Histories.{history_of, with_answer, with_replies, completed}
 use Rattle.log_runs.specs.Tasks.{IsWellFormed}
 use Rattle.log_events.specs.Formed.{MisformedAt}
 use Rattle.log_events.specs.Joined.{partner, ArePartners}
 use Rattle.log_replies.specs.Completing.{lacks_reply, waits}
-use Rattle.trace_store.specs.Changes.{seen_by, with_reply}
+use Rattle.trace_store.specs.Changes.{seen_by, submitted, with_reply}
 
 -- ---- one record
 

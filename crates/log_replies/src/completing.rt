@@ -5,7 +5,7 @@ ghost use Rattle.seq_memory.specs.Step.{after, answer};
 ghost use Rattle.history_words.specs.Flaws.{at_place};
 ghost use Rattle.history_words.specs.Records.{Record};
 ghost use Rattle.log_events.specs.Joined.{ArePartners};
-ghost use Rattle.log_runs.specs.Histories.{completed, history_of, submitted, with_replies};
+ghost use Rattle.log_runs.specs.Histories.{completed, history_of, with_replies};
 ghost use Rattle.log_runs.specs.Tasks.{IsWellFormed};
 ghost use Rattle.log_runs.specs.declared.Step.{Step};
 ghost use Rattle.log_replies.specs.Completing as spec;
@@ -33,27 +33,6 @@ pub fn perform<'r>(
         return ReplyRef::Aborted;
     }
     perform_lent(extent.base(), extent.block(), bytes, op, room)
-}
-
-/// The request that is submitted at the place.
-fn entry_at<'a>(records: &Records<'a>, place: usize) -> Option<EntryRef<'a>>
-    ensures { result ≡ option_and_then submitted (slice_get records.now place) }
-{
-    match records.get(place) {
-        Some(
-            RecordRef::Sub {
-                requester,
-                number,
-                op,
-                ..
-            },
-        ) => Some(EntryRef {
-            requester,
-            number,
-            op,
-        }),
-        _ => None,
-    }
 }
 
 /// The record at the place has only that a request was done.
@@ -133,7 +112,7 @@ fn act(
     ensures err { OnErr result (store.new.records ≡ store.old.records) }
 {
     let records = store.seen().records();
-    let Some(entry) = entry_at(&records, b) else {
+    let Some(entry) = records.submitted(b) else {
         return Ok(());
     };
     let mut room = ReplyData::new();

@@ -13,7 +13,7 @@ use tlp_core::OpRef;
 use trace_store::Records;
 
 /// A request, by the places of its records.
-#[derive(Clone, Copy, Debug)]
+#[derive(Clone, Copy)]
 pub struct Request {
     pub submission: usize,
     pub answer: Option<usize>,

@@ -26,8 +26,8 @@ use Rattle.log_runs.specs.declared.Step.{Step}
 use Rattle.log_runs.specs.declared.Step.TheVariants as steps
 use Rattle.log_runs.specs.LogView.{LogView}
 use Rattle.log_runs.specs.Explainable.{AreSeenAs, SeenAlike}
-use Rattle.log_runs.specs.Histories.{submitted, history_of, timed_from, timed, completed, with_replies}
-use Rattle.trace_store.specs.Changes.{with_n}
+use Rattle.log_runs.specs.Histories.{history_of, timed_from, timed, completed, with_replies}
+use Rattle.trace_store.specs.Changes.{submitted, with_n}
 use Rattle.log_runs.specs.Runs.{State, MayPass, MayAct, Allowed, Leads, Live, start, next, has_acted, reply_of}
 use Rattle.log_runs.specs.Tasks.{known, Says, AreAllEvents, IsWellFormed}
 use Rattle.log_runs.proofs.Lists.{some_at, take_more_at, from_take, to_take}

@@ -10,14 +10,9 @@ use Rattle.history_words.specs.Records.{Record}
 use Rattle.history_words.specs.declared.record.RecordOf.TheVariants as records
 use Rattle.history_words.specs.Trace.{is_request}
 use Rattle.history_words.specs.TraceView.{TraceView, observed}
-use Rattle.trace_store.specs.Changes.{with_n}
+use Rattle.trace_store.specs.Changes.{with_n, submitted}
 use Rattle.log_runs.specs.declared.Step.{Step}
 use Rattle.log_runs.specs.declared.Step.TheVariants as steps
-
--- the request that the record submits
-abbrev pub submitted : Record → Option Entry
-submitted (records.Sub i k op n) = Some (record { requester = i; number = k; op = op })
-submitted (records.Ans i k reply n) = None
 
 -- the requests in the order in which they act
 abbrev pub history_of : List Record → List Step → List Entry

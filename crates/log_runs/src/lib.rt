@@ -13,7 +13,7 @@ mod log;
 pub use log::{Event, EventAt, EventHeader, Log, PartEvent};
 
 /// A step of a run through a log.
-#[derive(Clone, Copy, Debug, PartialEq, Eq)]
+#[derive(Clone, Copy, PartialEq)]
 pub enum Step {
     /// The next record is passed.
     Pass,

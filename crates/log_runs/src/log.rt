@@ -31,7 +31,7 @@ pub enum Event<'a> {
 }
 
 /// An event without its operation and its reply.
-#[derive(Clone, Copy, Debug)]
+#[derive(Clone, Copy)]
 pub enum EventHeader {
     /// A submission: by whom, whether it is posted, and whether the log has a reply for it; the first address and the
     /// number of the bytes that it names.
@@ -51,7 +51,7 @@ pub enum EventHeader {
 }
 
 /// An event, by the places of its records, in 12 bytes. So a log has at most 2^32 records.
-#[derive(Clone, Copy, Debug)]
+#[derive(Clone, Copy)]
 pub enum EventAt {
     /// The submission at that place, and the answer with the reply that the log has for it.
     Answered { submission: u32, answer: u32 },
@@ -66,7 +66,7 @@ pub enum EventAt {
 const _: () = prove!(size_of::<EventAt>() <= 12);
 
 /// An event of a part of a log.
-#[derive(Clone, Copy, Debug)]
+#[derive(Clone, Copy)]
 pub enum PartEvent {
     /// The one that the whole log has at that place.
     Whole(usize),

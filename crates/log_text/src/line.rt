@@ -17,7 +17,7 @@ const LINE: Expected = Expected::Of("a line of a log", "pciex-log, memory, sub, 
 const REPLY: Expected = Expected::Of("a reply", "data, ur, ca, done");
 
 /// The version of a log's text.
-#[derive(Clone, Copy, Debug, PartialEq, Eq)]
+#[derive(Clone, Copy)]
 pub(crate) enum Version {
     /// Each answer has its reply.
     One,

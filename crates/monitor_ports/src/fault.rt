@@ -2,12 +2,12 @@
 ghost use Rattle.std.specs.Prelude.{◌≡◌};
 ghost use Rattle.monitor_ports.specs.Names.{name_of};
 
-use thiserror::Error;
+use std::error::Error;
+use std::fmt;
 use tlp_core::TlpFault;
 
 /// Why a monitor refuses a call.
-#[derive(Clone, Copy, Debug, PartialEq, Eq, Error)]
-#[error("{}", self.name())]
+#[derive(Clone, Copy, Debug)]
 pub enum MonitorFault {
     /// The requester is not 1 to 7.
     NoRequester,
@@ -32,6 +32,14 @@ pub enum MonitorFault {
     /// An allocation failed.
     Memory,
 }
+
+impl fmt::Display for MonitorFault {
+    fn fmt<W: fmt::Write>(&self, f: &mut fmt::Formatter<W>) -> fmt::Result {
+        f.write_str(self.name())
+    }
+}
+
+impl Error for MonitorFault {}
 
 impl MonitorFault {
     /// Its name, as `Display` writes it: that of the packet's fault for `Packet`.

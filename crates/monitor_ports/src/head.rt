@@ -11,7 +11,7 @@ use operation_text::{
 };
 
 /// What a monitor is asked to write, a trace or a log, and the memory whose ports it watches.
-#[derive(Clone, Copy, Debug, PartialEq, Eq)]
+#[derive(Clone, Copy)]
 pub struct Head {
     pub is_trace: bool,
     /// The memory's first address.

@@ -12,7 +12,7 @@ use tlp_core::{Body, Kind, Payload, Status, TlpRef, payload_of};
 const TAGS: usize = 256;
 
 /// A request that waits for its completion.
-#[derive(Clone, Copy, Debug, PartialEq, Eq)]
+#[derive(Clone, Copy)]
 pub struct OpenRequest {
     /// Its number among the requests of its requester.
     pub number: u32,
@@ -23,7 +23,7 @@ pub struct OpenRequest {
 }
 
 /// What a monitor knows of one requester.
-#[derive(Clone, Copy, Debug, PartialEq, Eq)]
+#[derive(Clone, Copy)]
 pub struct Watched {
     /// The Requester ID of its first request, none before that.
     pub id: Option<u16>,

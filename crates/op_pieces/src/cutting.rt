@@ -3,7 +3,7 @@ ghost use Rattle.std.specs.Prelude.{◌≡◌, ◌+◌, ◌≤◌, ◌^◌, IfOk
 ghost use Rattle.tlp_core.specs.Operation.{address_of, count_of};
 ghost use Rattle.op_pieces.specs.Pieces as spec;
 
-use crate::halves::{back, dw_of, dw_to, front, whole};
+use crate::halves::{back, dw_of, dw_to, front};
 use std::alloc::{AllocError, Global};
 use tlp_core::OpRef;
 
@@ -16,7 +16,7 @@ pub fn cut<'a>(alloc: Global, bytes: u64, op: &OpRef<'a>) -> Result<Vec<OpRef<'a
     ensures { IfOk result (λ v. v.items ≡ spec.cut bytes (spec.dw_of op.now) op.now) }
 {
     let mut pieces = Vec::new(alloc);
-    let mut rest = whole(op);
+    let mut rest = op.again();
     for turn in 0..dw_of(&rest) {
         let dw = dw_to(bytes, rest.address());
         if dw_of(&rest) <= dw {

@@ -45,65 +45,6 @@ fn rest_last(dw: u16, last: u8) -> u8
     if dw == 1 { 0 } else { last }
 }
 
-/// The same operation. The bytes of a write are lent.
-pub fn whole<'a>(op: &OpRef<'a>) -> OpRef<'a>
-    ensures { result ≡ op.now }
-{
-    match op {
-        OpRef::Read {
-            address,
-            dw,
-            first,
-            last,
-        } => OpRef::Read {
-            address: *address,
-            dw: *dw,
-            first: *first,
-            last: *last,
-        },
-        OpRef::Write {
-            address,
-            first,
-            last,
-            bytes,
-        } => OpRef::Write {
-            address: *address,
-            first: *first,
-            last: *last,
-            bytes: PayloadRef::new(bytes.as_slice()),
-        },
-        OpRef::FetchAdd {
-            address,
-            width,
-            operand,
-        } => OpRef::FetchAdd {
-            address: *address,
-            width: *width,
-            operand: *operand,
-        },
-        OpRef::Swap {
-            address,
-            width,
-            operand,
-        } => OpRef::Swap {
-            address: *address,
-            width: *width,
-            operand: *operand,
-        },
-        OpRef::Cas {
-            address,
-            width,
-            compare,
-            swap,
-        } => OpRef::Cas {
-            address: *address,
-            width: *width,
-            compare: *compare,
-            swap: *swap,
-        },
-    }
-}
-
 /// The first so many DW. The bytes of a write are lent.
 pub fn front<'a>(dw: u16, op: &OpRef<'a>) -> OpRef<'a>
     requires { dw < spec.dw_of op.now }

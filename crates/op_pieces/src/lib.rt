@@ -10,4 +10,4 @@ mod halves;
 pub mod laws;
 
 pub use cutting::cut;
-pub use halves::{back, dw_of, dw_to, front, whole};
+pub use halves::{back, dw_of, dw_to, front};

@@ -2,7 +2,7 @@
 use seq_memory::{ALIGNMENT, MAX_SIZE, MIN_SIZE};
 
 /// What is expected next in a line, by its name.
-#[derive(Clone, Copy, Debug, PartialEq, Eq)]
+#[derive(Clone, Copy, PartialEq)]
 pub enum Expected {
     /// The name says it all.
     Named(&'static str),
@@ -41,7 +41,7 @@ pub const SIZE: Expected = Expected::Multiple(
 pub const BLOCK: Expected = Expected::Of("a block", "64, 128");
 
 /// The first word of a line that doesn't fit, or the line's end, and what is expected there.
-#[derive(Clone, Copy, Debug, PartialEq, Eq)]
+#[derive(Clone, Copy, PartialEq)]
 pub struct Misfit {
     pub expected: Expected,
     /// The bytes of the line from the misfit on, none where the line has ended.

@@ -14,7 +14,7 @@ pub const MOST_TURNS: u64 = 1_000_000_000;
 pub const MOST_WORKERS: u64 = 64;
 
 /// How many requesters add how often 1 to the first word of a memory, over what links.
-#[derive(Clone, Copy, Debug, PartialEq, Eq)]
+#[derive(Clone, Copy)]
 pub struct Counting {
     /// 1 to 7.
     pub requesters: u64,

@@ -8,7 +8,7 @@ use switch_ports::REQUESTERS;
 pub const MOST_EVENTS: u64 = 1_000_000_000;
 
 /// How many events happen to what fabric, over what links, and where their choice begins.
-#[derive(Clone, Copy, Debug, PartialEq, Eq)]
+#[derive(Clone, Copy)]
 pub struct Storm {
     /// The seed of the generator that chooses the events, any number of 64 bits.
     pub seed: u64,

@@ -5,11 +5,11 @@ ghost use Rattle.record_text.specs.Names.{number_of, name_of, fault_line};
 
 use arrayvec::ArrayString;
 use operation_text::{Expected, Misfit, write_decimal};
+use std::fmt;
 use thiserror::Error;
 
 /// The faults of a trace's text, in the order of their numbers.
-#[derive(Clone, Copy, Debug, PartialEq, Eq, Error)]
-#[error("{}", self.name())]
+#[derive(Clone, Copy, Debug, PartialEq)]
 pub enum ReadFaultKind {
     /// The first line is not `pciex-trace 1` or `pciex-trace 2`, or there is none.
     Head,
@@ -22,6 +22,14 @@ pub enum ReadFaultKind {
     /// An allocation failed: nothing is known of the text from that line on.
     Memory,
 }
+
+impl fmt::Display for ReadFaultKind {
+    fn fmt<W: fmt::Write>(&self, f: &mut fmt::Formatter<W>) -> fmt::Result {
+        f.write_str(self.name())
+    }
+}
+
+impl std::error::Error for ReadFaultKind {}
 
 impl ReadFaultKind {
     /// The number under which the fault is told, 1 to 4.
@@ -51,7 +59,7 @@ impl ReadFaultKind {
 
 /// The first fault, and the number of its line, from 1. What is missing is told with the number
 /// behind that of the last line.
-#[derive(Clone, Copy, Debug, PartialEq, Eq, Error)]
+#[derive(Clone, Copy, Debug, PartialEq, Error)]
 #[error("{kind} in line {line}")]
 pub struct ReadFault {
     pub kind: ReadFaultKind,
@@ -59,7 +67,7 @@ pub struct ReadFault {
 }
 
 /// What is wrong at a fault, for people.
-#[derive(Clone, Copy, Debug, PartialEq, Eq)]
+#[derive(Clone, Copy, PartialEq)]
 pub enum Cause {
     /// This doesn't fit in the line.
     Misfit(Misfit),
@@ -70,7 +78,7 @@ pub enum Cause {
 }
 
 /// The first fault of a text, and its cause, which says nothing for the kind `Memory`.
-#[derive(Clone, Copy, Debug, PartialEq, Eq)]
+#[derive(Clone, Copy)]
 pub struct Misread {
     pub fault: ReadFault,
     pub cause: Cause,

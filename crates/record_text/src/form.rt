@@ -9,7 +9,7 @@ use std::alloc::AllocError;
 use tlp_core::MAX_PAYLOAD;
 
 /// The part of a text that goes on.
-#[derive(Clone, Copy, Debug, PartialEq, Eq)]
+#[derive(Clone, Copy)]
 pub enum Section {
     /// The first line is due.
     FirstLine,
@@ -24,7 +24,7 @@ pub enum Section {
 }
 
 /// What comes of a line.
-#[derive(Clone, Copy, Debug, PartialEq, Eq)]
+#[derive(Clone, Copy)]
 pub enum Taken {
     /// The line is due: what is to be kept of it is kept, and this section goes on.
     Kept(Section),

@@ -4,7 +4,5 @@
 #![tactic(auto)]
 
 pub mod laws;
-#[cfg(test)]
-mod tests;
 
 pub use laws::{Pusher, ROOM, Recorder, Taker};

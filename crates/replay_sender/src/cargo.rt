@@ -9,7 +9,7 @@ use tlp_core::MAX_TLP;
 pub const CARGO_BYTES: usize = MAX_TLP;
 
 /// The bytes of a transaction layer packet, and a mark that rides beside them and isn't on the wire.
-#[derive(Debug, PartialEq, Eq, Drop)]
+#[derive(Drop)]
 pub struct Cargo {
     pub bytes: ArrayVec<u8, CARGO_BYTES>,
     pub mark: u32,

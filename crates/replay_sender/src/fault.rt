@@ -1,11 +1,11 @@
 //! What a sender refuses.
 ghost use Rattle.std.specs.Prelude.{◌≡◌};
 
-use thiserror::Error;
+use std::error::Error;
+use std::fmt;
 
 /// Why a packet wasn't accepted.
-#[derive(Clone, Copy, Debug, PartialEq, Eq, Error)]
-#[error("{}", self.name())]
+#[derive(Clone, Copy, Debug, PartialEq)]
 pub enum SendRefusal {
     /// 2047 packets are unacknowledged.
     WindowFull,
@@ -13,13 +13,28 @@ pub enum SendRefusal {
     Memory,
 }
 
+impl fmt::Display for SendRefusal {
+    fn fmt<W: fmt::Write>(&self, f: &mut fmt::Formatter<W>) -> fmt::Result {
+        f.write_str(self.name())
+    }
+}
+
+impl Error for SendRefusal {}
+
 /// Why an Ack or Nak is a protocol error.
-#[derive(Clone, Copy, Debug, PartialEq, Eq, Error)]
-#[error("{}", self.name())]
+#[derive(Clone, Copy, Debug, PartialEq)]
 pub enum AckFault {
     /// The number is neither ACKD_SEQ nor that of an unacknowledged packet.
     NotOutstanding,
 }
+
+impl fmt::Display for AckFault {
+    fn fmt<W: fmt::Write>(&self, f: &mut fmt::Formatter<W>) -> fmt::Result {
+        f.write_str(self.name())
+    }
+}
+
+impl Error for AckFault {}
 
 impl SendRefusal {
     ghost use Rattle.replay_sender.specs.Refusals.{refusal_number, refusal_name};

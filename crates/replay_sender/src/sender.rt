@@ -16,7 +16,7 @@ pub const WINDOW: usize = 2047;
 const LAST_REPLAY: u8 = 3;
 
 /// The transmitter's side of a link: packets that aren't acknowledged, and which of them is sent next.
-#[derive(Debug, Drop)]
+#[derive(Drop)]
 pub struct Sender {
     acked: Seq12,
     kept: VecDeque<Cargo>,

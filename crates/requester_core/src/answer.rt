@@ -4,7 +4,7 @@ ghost use Rattle.std.specs.Prelude.{◌≡◌};
 use seq_memory::{Reply, ReplyRef};
 
 /// What a completion tells its requester, with the reply kept as an `R`.
-#[derive(Clone, Debug, PartialEq, Drop)]
+#[derive(PartialEq, Drop)]
 pub struct AnswerOf<R> {
     /// The number of the request.
     pub number: u32,

@@ -2,11 +2,12 @@
 ghost use Rattle.std.specs.Prelude.{◌≡◌};
 ghost use Rattle.requester_core.specs.Faults.{refusal_number, refusal_name, fault_number, fault_name};
 
+use std::fmt;
 use thiserror::Error;
 use tlp_core::TlpFault;
 
 /// Why no request is prepared, in the order of the tests.
-#[derive(Clone, Copy, Debug, PartialEq, Eq, Error)]
+#[derive(Clone, Copy, Debug, PartialEq, Error)]
 pub enum SubmitRefusal {
     /// No request can ask for the operation.
     #[error("Profile {0}")]
@@ -44,14 +45,21 @@ impl SubmitRefusal {
 }
 
 /// Why a packet completes no request, in the order of the tests.
-#[derive(Clone, Copy, Debug, PartialEq, Eq, Error)]
-#[error("{}", self.name())]
+#[derive(Clone, Copy, Debug, PartialEq)]
 pub enum CompletionFault {
     /// No completion, one for another Requester ID, or one with a tag that is not open.
     Unexpected,
     /// Status SC without data, data with another status, or data of another length.
     Mismatch,
 }
+
+impl fmt::Display for CompletionFault {
+    fn fmt<W: fmt::Write>(&self, f: &mut fmt::Formatter<W>) -> fmt::Result {
+        f.write_str(self.name())
+    }
+}
+
+impl std::error::Error for CompletionFault {}
 
 impl CompletionFault {
     /// The number under which it is told, 1 or 2.

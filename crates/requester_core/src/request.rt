@@ -9,7 +9,7 @@ use arrayvec::ArrayVec;
 use tlp_core::{Body, Kind, OpRef, Payload, Tlp, TlpFault, Width};
 
 /// Whose request it is, under which tag, and with which Traffic Class and attributes.
-#[derive(Clone, Copy, Debug, PartialEq, Eq)]
+#[derive(Clone, Copy)]
 pub struct Origin {
     /// Requester ID.
     pub requester: u16,

@@ -16,7 +16,7 @@ pub const TAGS: usize = 256;
 pub const NUMBERS: u32 = 4_294_967_295;
 
 /// A request that waits for its completion.
-#[derive(Clone, Copy, Debug, PartialEq, Eq)]
+#[derive(Clone, Copy)]
 pub struct OpenRequest {
     /// Its number.
     pub number: u32,

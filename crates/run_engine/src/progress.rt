@@ -20,7 +20,7 @@ const FIRST_PAUSE: u64 = 2000;
 const LONGEST_PAUSE: u64 = 16_000;
 
 /// How it is told how far a run is.
-#[derive(Clone, Copy, Debug, PartialEq, Eq)]
+#[derive(Clone, Copy, PartialEq)]
 pub enum Progress {
     Hidden,
     /// In lines, for a file.

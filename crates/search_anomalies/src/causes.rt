@@ -8,7 +8,7 @@ use seq_memory::ReplyRef;
 use std::alloc::{AllocError, Global};
 
 /// Why a word isn't there where a request acts that was answered it.
-#[derive(Clone, Copy, Debug, PartialEq, Eq)]
+#[derive(Clone, Copy, PartialEq)]
 pub enum WordCause {
     /// No request that was submitted before the record puts this there.
     NothingPuts(Word, usize),

@@ -10,7 +10,7 @@ use tlp_core::OpRef;
 const ROUNDS: usize = 16;
 
 /// A record of a log that is kept in a shorter one, by its place, and the number that its request has there.
-#[derive(Clone, Copy, Debug, PartialEq, Eq)]
+#[derive(Clone, Copy)]
 pub struct Kept {
     pub place: usize,
     pub number: u32,

@@ -16,14 +16,14 @@ use tlp_core::OpRef;
 const BEHIND: usize = 32;
 
 /// A request, by its place among all, and why it acts before another one.
-#[derive(Clone, Copy, Debug, PartialEq, Eq)]
+#[derive(Clone, Copy)]
 pub(crate) struct Hop {
     pub(crate) request: usize,
     pub(crate) edge: Edge,
 }
 
 /// What put a word there.
-#[derive(Clone, Copy, Debug, PartialEq, Eq)]
+#[derive(Clone, Copy, PartialEq)]
 enum Origin {
     /// It was there at the start.
     Start,

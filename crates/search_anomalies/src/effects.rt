@@ -5,12 +5,11 @@ use crate::words::Sight;
 use search_effects::{
     are_apart, breaks, clashes, is_put, is_quiet, left, never_gives, never_puts, spans,
 };
-use search_undo::refusal;
-use seq_memory::{Extent, ReplyRef};
+use seq_memory::{Extent, ReplyRef, refusal_lent};
 use tlp_core::OpRef;
 
 /// What becomes of a word by a request.
-#[derive(Clone, Copy, Debug, PartialEq, Eq)]
+#[derive(Clone, Copy, PartialEq)]
 pub(crate) enum Effect {
     /// Its bytes stay as they are.
     Keeps,
@@ -88,7 +87,7 @@ pub(crate) fn effect_by(
     if are_apart(op, &sight.read) {
         return Effect::Keeps;
     }
-    match refusal(extent.base(), extent.block(), extent.size(), op) {
+    match refusal_lent(extent.base(), extent.block(), extent.size(), op) {
         None => effect_where_served(extent.block(), sight, op, told),
         Some(_) => Effect::Keeps,
     }

@@ -5,7 +5,7 @@ use log_requests::{Prefix, Requests};
 use std::alloc::{AllocError, Global};
 
 /// Why a request acts before the next one.
-#[derive(Clone, Copy, Debug, PartialEq, Eq)]
+#[derive(Clone, Copy)]
 pub enum Edge {
     /// Its answer shows this, which the next one overwrote. Where the request was
     /// submitted that put it there, if it wasn't there at the start.
@@ -19,7 +19,7 @@ pub enum Edge {
 }
 
 /// A request, by the places of its records, and why it acts before another one.
-#[derive(Clone, Copy, Debug, PartialEq, Eq)]
+#[derive(Clone, Copy)]
 pub struct Link {
     pub submission: usize,
     pub answer: Option<usize>,

@@ -2,12 +2,11 @@
 use crate::tallies::Question;
 use log_requests::Request;
 use search_effects::{are_apart, is_needed, is_quiet};
-use search_undo::refusal;
-use seq_memory::ReplyRef;
+use seq_memory::{ReplyRef, refusal_lent};
 use tlp_core::{OpRef, Width};
 
 /// What additions make, which is not what an answer shows.
-#[derive(Clone, Copy, Debug, PartialEq, Eq)]
+#[derive(Clone, Copy, PartialEq)]
 pub enum Bound {
     /// All that were submitted before the record make that, which is less.
     Most(u64, usize),
@@ -16,7 +15,7 @@ pub enum Bound {
 }
 
 /// A number that additions don't make.
-#[derive(Clone, Copy, Debug, PartialEq, Eq)]
+#[derive(Clone, Copy, PartialEq)]
 pub struct Sum {
     pub address: u64,
     /// How many bytes it has: 4 or 8.
@@ -114,7 +113,7 @@ impl<'a> Question<'a> {
         {
             return false;
         }
-        refusal(extent.base(), extent.block(), extent.size(), op).is_none()
+        refusal_lent(extent.base(), extent.block(), extent.size(), op).is_none()
     }
 
     /// Takes a request into account; false if it may change the bytes otherwise than by an addition to them.

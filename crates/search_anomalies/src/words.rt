@@ -4,7 +4,7 @@ use seq_memory::ReplyRef;
 use tlp_core::{OpRef, PayloadRef};
 
 /// Bytes of one DW of the memory, as many of them as are looked at.
-#[derive(Clone, Copy, Debug, PartialEq, Eq)]
+#[derive(Clone, Copy, PartialEq)]
 pub struct Word {
     /// A multiple of 4.
     pub address: u64,

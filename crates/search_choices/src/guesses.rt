@@ -5,7 +5,7 @@ use log_runs::{Event, Log};
 use search_places::Place;
 
 /// When a request acts in a run through a part of the log.
-#[derive(Clone, Copy, Debug, PartialEq, Eq)]
+#[derive(Clone, Copy)]
 pub struct Turn {
     /// A number of the part; [`NO_PART`] if it isn't in one.
     pub part: u32,

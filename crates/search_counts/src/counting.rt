@@ -14,7 +14,7 @@ use std::alloc::{AllocError, Global};
 const LOOKS: usize = 200_000;
 
 /// How often something was taken, and may have been put.
-#[derive(Clone, Copy, Debug, PartialEq, Eq)]
+#[derive(Clone, Copy)]
 struct Tally {
     takes: usize,
     puts: usize,

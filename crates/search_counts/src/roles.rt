@@ -17,7 +17,7 @@ use seq_memory::ReplyRef;
 use tlp_core::OpRef;
 
 /// What a request does to what another one found.
-#[derive(Clone, Copy, Debug, PartialEq, Eq)]
+#[derive(Clone, Copy)]
 pub enum Role {
     /// It finds the same, and takes it away.
     Takes,

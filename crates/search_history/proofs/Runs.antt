@@ -18,7 +18,7 @@ use Rattle.history_words.specs.Trace.{Explains}
 use Rattle.history_words.specs.Clocks.{IsClocked}
 use Rattle.log_runs.specs.EventView.{EventView}
 use Rattle.log_runs.specs.Explainable.{IsSeenAs, AreSeenAs, IsExplainable, SeenAlike, prefix}
-use Rattle.log_runs.specs.Histories.{submitted, history_of, timed_from, timed, with_answer, with_replies, completed}
+use Rattle.log_runs.specs.Histories.{history_of, timed_from, timed, with_answer, with_replies, completed}
 use Rattle.log_runs.specs.LogView.{LogView}
 use Rattle.log_runs.specs.Runs.{Live, Dead, start}
 use Rattle.log_runs.specs.Tasks.{AreAllEvents, IsWellFormed}
@@ -28,7 +28,7 @@ use Rattle.log_events.specs.Formed.{AreFormed}
 use Rattle.search_run.specs.Outcomes.{IsRun, IsRight}
 use Rattle.search_run.specs.declared.exploring.Outcome.{Outcome}
 use Rattle.search_run.specs.declared.exploring.Outcome.TheVariants as outcomes
-use Rattle.trace_store.specs.Changes.{seen_by, with_n}
+use Rattle.trace_store.specs.Changes.{seen_by, submitted, with_n}
 use Rattle.search_history.specs.Runs.{IsRunOf, IsOutcomeOf, IsVerdictOf}
 use Rattle.search_history.specs.declared.searching.Verdict.{Verdict}
 use Rattle.search_history.proofs.Prefixing.{of}

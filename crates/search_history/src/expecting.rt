@@ -15,23 +15,25 @@ use log_events::form_of;
 use log_replies::perform;
 use log_runs::Step;
 use search_run::Bounds;
-use seq_memory::{Extent, Reply, ReplyData, ReplyRef};
+use seq_memory::{EntryRef, Extent, Reply, ReplyData, ReplyRef};
 use std::alloc::{AllocError, Global};
 use tlp_core::OpRef;
 use trace_store::{RecordStore, Records};
 
 /// A request, by its requester and its number.
-#[derive(Clone, Copy, Debug, PartialEq, Eq)]
+#[derive(Clone, Copy, PartialEq)]
 struct Name {
     requester: u8,
     number: u32,
 }
 
-/// A request that is submitted.
-#[derive(Drop)]
-struct Submitted<'a> {
-    name: Name,
-    op: OpRef<'a>,
+impl Name {
+    fn of(request: &EntryRef<'_>) -> Name {
+        Name {
+            requester: request.requester,
+            number: request.number,
+        }
+    }
 }
 
 /// The request that the record at the place answers.
@@ -44,24 +46,6 @@ fn answered_at(records: &Records<'_>, place: usize) -> Option<Name> {
                 ..
             },
         ) => Some(Name { requester, number }),
-        _ => None,
-    }
-}
-
-/// The request that the record at the place submits.
-fn submitted_at<'a>(records: &Records<'a>, place: usize) -> Option<Submitted<'a>> {
-    match records.get(place) {
-        Some(
-            RecordRef::Sub {
-                requester,
-                number,
-                op,
-                ..
-            },
-        ) => Some(Submitted {
-            name: Name { requester, number },
-            op,
-        }),
         _ => None,
     }
 }
@@ -99,10 +83,10 @@ impl Contents {
     fn replay(&mut self, records: &Records<'_>, steps: &[Step], asked: Name) -> Option<Reply> {
         for step in steps {
             if let Step::Act(place) = step
-                && let Some(request) = submitted_at(records, *place)
+                && let Some(request) = records.submitted(*place)
             {
                 let reply = self.perform(&request.op, *place);
-                if request.name == asked {
+                if Name::of(&request) == asked {
                     return Some(reply.to_owned());
                 }
             }
@@ -113,13 +97,13 @@ impl Contents {
     /// Does the posted writes of the requester that weren't done, up to the request that is asked for, and that.
     fn answer(&mut self, records: &Records<'_>, asked: Name) -> Option<Reply> {
         for place in 0..records.len() {
-            let Some(request) = submitted_at(records, place) else {
+            let Some(request) = records.submitted(place) else {
                 continue;
             };
-            if request.name == asked {
+            if Name::of(&request) == asked {
                 return Some(self.perform(&request.op, place).to_owned());
             }
-            let is_own = request.name.requester == asked.requester;
+            let is_own = request.requester == asked.requester;
             if is_own && request.op.is_posted() && self.done.get(place) == Some(&false) {
                 let _ = self.perform(&request.op, place);
             }

@@ -21,7 +21,7 @@ use std::alloc::{AllocError, Global};
 use trace_store::{RecordStore, TraceStore};
 
 /// What a search says of a log.
-#[derive(Clone, Copy, Debug, PartialEq, Eq)]
+#[derive(Clone, Copy)]
 pub enum Sought {
     /// The store has a history now that explains the log, with the n's that it has now.
     Found,

@@ -151,7 +151,7 @@ pub fn is_explained(
 }
 
 /// What is known of the records but for the last one.
-#[derive(Debug, Drop)]
+#[derive(Drop)]
 pub struct Before {
     /// How many of them a history explains: all.
     pub count: usize,

@@ -11,7 +11,7 @@ use search_places::Place;
 use search_words::{Stretch, near_value};
 
 /// A word of the memory that was changed.
-#[derive(Clone, Copy, Debug, PartialEq, Eq)]
+#[derive(Clone, Copy)]
 pub struct Loss {
     pub word: u64,
     /// What stood there, its first byte the lowest.

@@ -11,7 +11,7 @@ use std::alloc::{AllocError, Global};
 use trace_store::RecordStore;
 
 /// Why answers have no history.
-#[derive(Clone, Copy, Debug, PartialEq, Eq)]
+#[derive(Clone, Copy, PartialEq)]
 pub enum Cause {
     /// No memory gives one of the replies.
     Misreply(Misreply),

@@ -1,11 +1,11 @@
 //! What is wrong with the form of a log.
 ghost use Rattle.std.specs.Prelude.{ℕ, ◌≡◌, IfErr, OnOk};
 ghost use Rattle.std.specs.Io.KnownBytes.{Keeps};
-ghost use Rattle.diagnostics.specs.Told.{IsReasonToldAt, IsReasonBegunAt};
+ghost use Rattle.diagnostics.specs.Told.{IsPartTold, IsPartBegun};
 ghost use Rattle.line_loop.specs.declared.fault.EngineFault.{EngineFault};
 
 use crate::telling::lines_of;
-use diagnostics::Reason;
+use diagnostics::{Part, Reason};
 use history_words::{Flaw, FlawKind, RecordHeader};
 use line_loop::EngineFault;
 use std::alloc::Global;
@@ -14,7 +14,7 @@ use trace_diagnostics::TraceLines;
 use trace_store::{RecordStore, Records};
 
 /// A request, by its requester and its number.
-#[derive(Clone, Copy, Debug, PartialEq, Eq)]
+#[derive(Clone, Copy, PartialEq)]
 struct Request {
     requester: u8,
     number: u32,
@@ -104,7 +104,7 @@ fn flaw_reason(seen: &RecordStore, flaw: Flaw, lines: &TraceLines) -> Reason {
     reason
 }
 
-/// Tells on which line of the text the first flaw of the log's form lies, and what is wrong there, in one line. Nothing is
+/// Tells on which record the first flaw of the log's form lies, which line of the text that is, and what is wrong there, in one line. Nothing is
 /// written if memory can't be allocated.
 #[tactic(auto, using(crate::proofs::TellLemmas::told_somewhere, crate::proofs::TellLemmas::begun_somewhere))]
 pub fn tell_flaw<E: Write>(
@@ -114,13 +114,14 @@ pub fn tell_flaw<E: Write>(
     flaw: Flaw,
     errors: &mut E,
 ) -> Result<(), EngineFault>
-    ensures ok { OnOk result ((line : ℕ) × IsReasonToldAt line (E.contents errors.old) (E.contents errors.new)) }
+    ensures ok { OnOk result ((line : ℕ) × IsPartTold (Part.Record flaw.place) line (E.contents errors.old) (E.contents errors.new)) }
     ensures memory { IfErr result (λ f. f ≡ EngineFault.Memory → Keeps (E.contents errors.old) (E.contents errors.new)) }
-    ensures part { IfErr result (λ f. f ≡ EngineFault.Write → (line : ℕ) × IsReasonBegunAt line (E.contents errors.old) (E.contents errors.new)) }
+    ensures part { IfErr result (λ f. f ≡ EngineFault.Write → (line : ℕ) × IsPartBegun (Part.Record flaw.place) line (E.contents errors.old) (E.contents errors.new)) }
 {
     let Ok(lines) = lines_of(alloc, text) else {
         return Err(EngineFault::Memory);
     };
     let reason = flaw_reason(seen, flaw, &lines);
-    reason.tell_at(lines.of_record(flaw.place), errors)
+    let line = lines.of_record(flaw.place);
+    reason.tell_of(Part::Record(flaw.place), line, errors)
 }

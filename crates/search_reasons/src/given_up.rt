@@ -9,11 +9,12 @@ use crate::telling::lines_of;
 use crate::wording::put_line;
 use arrayvec::ArrayString;
 use line_loop::{EngineFault, write_out};
-use operation_text::write_hexadecimal;
+use operation_text::{split_word, write_hexadecimal};
 use search_anomalies::Prefix;
 use search_history::{Spot, is_explained};
 use std::alloc::{AllocError, Global};
 use std::io::Write;
+use text_lines::is_skipped;
 use trace_diagnostics::TraceLines;
 
 /// How many prefixes are searched for a history, at most.
@@ -49,20 +50,24 @@ fn range_text(range: Option<(u64, u64)>) -> ArrayString<512> {
     text
 }
 
-/// Adds how far the search came, and which lines have a history.
-fn put_given_up(
-    out: &mut Vec<u8>,
-    lines: &TraceLines,
-    line: u64,
-    spot: Spot,
-    known: usize,
-) -> Result<(), AllocError> {
-    let text = range_text(spot.range);
-    let (shown, open) = (text.as_str(), spot.open);
+/// Adds on which line the search ended, and how more of it is seen.
+fn put_end(out: &mut Vec<u8>, line: u64, given_up: GivenUp<'_>) -> Result<(), AllocError> {
+    let Spot { open, range, .. } = given_up.spot;
+    let text = range_text(range);
+    let shown = text.as_str();
+    let hint = if given_up.hints_at_progress {
+        "; --progress shows how far it is"
+    } else {
+        ""
+    };
     put_line(
         out,
-        format_args!("given up at line {line}{shown} (open requests: {open})"),
-    )?;
+        format_args!("given up at line {line}{shown} (open requests: {open}){hint}"),
+    )
+}
+
+/// Adds which lines have a history.
+fn put_explained(out: &mut Vec<u8>, lines: &TraceLines, known: usize) -> Result<(), AllocError> {
     match known.checked_sub(1) {
         Some(last) => {
             let (first, end) = (lines.of_record(0), lines.of_record(last));
@@ -72,16 +77,28 @@ fn put_given_up(
     }
 }
 
+/// The text is a trace, which has a history of its own.
+fn is_trace(text: &[u8]) -> bool {
+    for line in text.split(|byte| *byte == b'\n') {
+        if !is_skipped(line) {
+            return split_word(line).0 == b"pciex-trace".as_slice();
+        }
+    }
+    false
+}
+
 /// A log of which the search was given up, and the farthest choice that it looked at.
 #[derive(Clone, Copy)]
 pub struct GivenUp<'a> {
     pub case: Case<'a>,
     pub spot: Spot,
+    /// Whether the option is named by which it is told how far a search is.
+    pub hints_at_progress: bool,
 }
 
 /// Tells how far a search came that was given up: the line of the farthest record that it came to, how many requests were
 /// submitted there and hadn't acted, and which of the lines before have a history, as far as that is found out, which takes
-/// no more than `limit` choices. Nothing is written if memory can't be allocated.
+/// no more than `limit` choices; and of a trace, what judges its history. Nothing is written if memory can't be allocated.
 pub fn tell_given_up<E: Write>(
     alloc: Global,
     text: &[u8],
@@ -93,7 +110,7 @@ pub fn tell_given_up<E: Write>(
     ensures memory { IfErr result (λ f. f ≡ EngineFault.Memory → Keeps (E.contents errors.old) (E.contents errors.new)) }
     ensures part { OnErr result ((lines : List ℕ) × Appends (E.contents errors.old) (E.contents errors.new) lines) }
 {
-    let GivenUp { case, spot } = given_up;
+    let GivenUp { case, spot, .. } = given_up;
     let before = Prefix {
         seen: case.searched.seen,
         count: spot.event,
@@ -102,6 +119,10 @@ pub fn tell_given_up<E: Write>(
     let lines = lines_of(alloc, text)?;
     let mut out = Vec::new(alloc);
     let line = lines.of_record(case.record_with(spot.event));
-    put_given_up(&mut out, &lines, line, spot, case.record_with(explained))?;
+    put_end(&mut out, line, given_up)?;
+    put_explained(&mut out, &lines, case.record_with(explained))?;
+    if is_trace(text) {
+        put_line(&mut out, "'pciex check' judges a trace's history")?;
+    }
     write_out(errors, &out)
 }

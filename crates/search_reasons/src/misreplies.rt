@@ -5,11 +5,11 @@ ghost use Rattle.seq_memory.specs.Step.{answer, answer_by, refusal};
 ghost use Rattle.search_reasons.specs.Reasons.{IsMisreply};
 
 use search_effects::{is_needed, never_gives};
-use seq_memory::{Extent, Refusal, ReplyRef};
+use seq_memory::{Extent, Refusal, ReplyRef, refusal_lent};
 use tlp_core::OpRef;
 
 /// What is wrong with a reply that no memory gives.
-#[derive(Clone, Copy, Debug, PartialEq, Eq)]
+#[derive(Clone, Copy, PartialEq)]
 pub enum Misreply {
     /// The access at this address isn't served: UR.
     Unsupported(u64),
@@ -76,7 +76,7 @@ fn served_misreply(op: &OpRef<'_>, reply: &ReplyRef<'_>) -> Option<Misreply>
 pub(crate) fn misreply_of(extent: Extent, op: &OpRef<'_>, reply: &ReplyRef<'_>) -> Option<Misreply>
     ensures { IfSome result (λ c. IsMisreply extent op.now reply.now) }
 {
-    match search_undo::refusal(extent.base(), extent.block(), extent.size(), op) {
+    match refusal_lent(extent.base(), extent.block(), extent.size(), op) {
         Some(refused) => if is_refusal(refused, reply) {
             None
         } else {

@@ -45,17 +45,21 @@ pub fn lines_of(alloc: Global, text: &[u8]) -> Result<TraceLines, AllocError>
     Ok(lines)
 }
 
-/// Adds on which lines the first `count` records have no history, and on which they have one.
+/// Adds which record is told on standard output and which line that is, on which lines the records up to it have no history,
+/// and on which they have one.
 fn put_lines(
     out: &mut Vec<u8>,
     lines: &TraceLines,
     count: usize,
     explained: Option<usize>,
 ) -> Result<(), AllocError> {
-    let first = lines.of_record(0);
-    let last = lines.of_record(count.saturating_sub(1));
+    let record = count.saturating_sub(1);
+    let (first, last) = (lines.of_record(0), lines.of_record(record));
     if first == last {
-        return put_line(out, format_args!("line {first} has no history"));
+        return put_line(
+            out,
+            format_args!("record {record} is line {last}: line {last} has no history"),
+        );
     }
     match explained {
         Some(known) if known > 0 => {
@@ -63,11 +67,14 @@ fn put_lines(
             put_line(
                 out,
                 format_args!(
-                    "lines {first} to {last} have no history, lines {first} to {end} have one"
+                    "record {record} is line {last}: lines {first} to {last} have no history, lines {first} to {end} have one"
                 ),
             )
         }
-        _ => put_line(out, format_args!("lines {first} to {last} have no history")),
+        _ => put_line(
+            out,
+            format_args!("record {record} is line {last}: lines {first} to {last} have no history"),
+        ),
     }
 }
 

@@ -9,7 +9,7 @@ ghost use Rattle.search_rules.specs.Rules.{Answers, NeverSuits};
 use crate::laws::what_is_never_answered_is_dead;
 use log_runs::{Event, EventHeader, Log};
 use search_effects::never_gives;
-use seq_memory::{Refusal, ReplyRef};
+use seq_memory::{Refusal, ReplyRef, refusal_lent};
 use tlp_core::OpRef;
 
 /// A request that is refused so is answered so.
@@ -39,7 +39,7 @@ fn is_unanswerable(log: &Log, op: &OpRef<'_>, reply: &ReplyRef<'_>) -> bool
     ensures { IsTrue result → (m : List ℕ) → length m ≡ log.now.extent.size → reply_of log.now.extent m op.now ≡ reply.now → ⊥ }
 {
     let extent = log.extent();
-    match search_undo::refusal(extent.base(), extent.block(), extent.size(), op) {
+    match refusal_lent(extent.base(), extent.block(), extent.size(), op) {
         Some(refused) => !is_refusal(refused, reply),
         None => is_never_answered(op, reply),
     }

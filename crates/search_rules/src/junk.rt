@@ -11,9 +11,8 @@ ghost use Rattle.search_rules.specs.Junk as specs;
 
 use log_runs::{Event, Log};
 use search_effects::{are_apart, breaks, covers, sees_none, spans, waits};
-use search_undo::refusal;
-use seq_memory::ReplyRef;
 use seq_memory::laws::refused_and_read_change_nothing;
+use seq_memory::{ReplyRef, refusal_lent};
 use tlp_core::OpRef;
 
 /// A request: its operation, and its answer, if it has one.
@@ -29,7 +28,7 @@ pub fn is_served(log: &Log, op: &OpRef<'_>) -> bool
     ensures no { result ≡ false → (r : Refusal) × (step.refusal log.now.extent.base log.now.extent.size log.now.extent.block op.now ≡ Some r) }
 {
     let extent = log.extent();
-    match refusal(extent.base(), extent.block(), extent.size(), op) {
+    match refusal_lent(extent.base(), extent.block(), extent.size(), op) {
         None => true,
         Some(_) => false,
     }

@@ -16,7 +16,7 @@ use seq_memory::ReplyRef;
 use tlp_core::OpRef;
 
 /// What the byte at a place of the memory has to be.
-#[derive(Clone, Copy, Debug, PartialEq, Eq)]
+#[derive(Clone, Copy, Debug, PartialEq)]
 pub struct Need {
     pub place: usize,
     pub value: u8,

@@ -14,7 +14,7 @@ use search_forced::{Catalog, Way, catalog_of};
 use std::alloc::{AllocError, Global};
 
 /// Which bound ended a search.
-#[derive(Clone, Copy, Debug, PartialEq, Eq)]
+#[derive(Clone, Copy, PartialEq)]
 pub enum Bound {
     /// It looked at as many choices as it may.
     Choices,
@@ -23,7 +23,7 @@ pub enum Bound {
 }
 
 /// What a search for a run says.
-#[derive(Debug, Drop)]
+#[derive(Drop)]
 pub enum Outcome {
     /// These steps lead from the start to the end.
     Run(Vec<Step>),
@@ -34,7 +34,7 @@ pub enum Outcome {
 }
 
 /// What a search found out.
-#[derive(Debug, Drop)]
+#[derive(Drop)]
 pub struct Exploration {
     pub outcome: Outcome,
     /// How many choices were looked at.
@@ -46,7 +46,7 @@ pub struct Exploration {
 }
 
 /// How much a search may do.
-#[derive(Clone, Copy, Debug, PartialEq, Eq)]
+#[derive(Clone, Copy)]
 pub struct Bounds {
     /// How many choices it looks at.
     pub choices: u64,
@@ -55,7 +55,7 @@ pub struct Bounds {
 }
 
 /// How the search of a walk ended.
-#[derive(Clone, Copy, Debug)]
+#[derive(Clone, Copy)]
 pub(crate) enum End {
     /// The walk led from the start of the log to its end.
     Run,

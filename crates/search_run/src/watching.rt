@@ -1,7 +1,7 @@
 //! How far a search is, seen while it goes on.
 
 /// How far a search is, at a choice.
-#[derive(Clone, Copy, Debug, PartialEq, Eq)]
+#[derive(Clone, Copy)]
 pub struct Spot {
     /// How many events of the log were passed.
     pub event: usize,
@@ -26,7 +26,7 @@ pub trait Watch {
 }
 
 /// Sees nothing.
-#[derive(Clone, Copy, Debug, PartialEq, Eq)]
+#[derive(Clone, Copy)]
 pub struct Unwatched;
 
 impl Watch for Unwatched {

@@ -4,16 +4,13 @@
 //! were before it. Nothing here takes memory.
 #![tactic(auto)]
 
-mod serving;
-
 ghost use Rattle.std.specs.Prelude.{◌≡◌, ℕ, List};
 ghost use Rattle.seq_memory.specs.Limits.{IsBlock};
 ghost use Rattle.seq_memory.specs.Step.{after, answer};
 ghost use Rattle.search_undo.specs.Saved.{saved_at};
 
 use seq_memory::laws::{only_the_place_changes, refused_and_read_change_nothing};
-use seq_memory::{Refusal, ReplyData, ReplyRef, perform_lent};
-pub use serving::refusal;
+use seq_memory::{Refusal, ReplyData, ReplyRef, perform_lent, refusal_lent};
 use tlp_core::{OpRef, Payload, payload_of};
 
 /// What the memory whose bytes begin at `base` would answer to the operation, by blocks of `block`
@@ -29,7 +26,7 @@ pub fn reply<'r>(
     requires { IsBlock block }
     ensures { result ≡ answer base block bytes.now op.now }
 {
-    match refusal(base, block, bytes.len(), op) {
+    match refusal_lent(base, block, bytes.len(), op) {
         Some(Refusal::Aborted) => ReplyRef::Aborted,
         Some(Refusal::Unsupported) => ReplyRef::Unsupported,
         None => {
@@ -46,7 +43,7 @@ pub fn act(base: u64, block: u16, bytes: &mut [u8], op: &OpRef<'_>)
     ensures { bytes.new ≡ after base block bytes.old op.now }
 {
     refused_and_read_change_nothing();
-    if refusal(base, block, bytes.len(), op).is_some() {
+    if refusal_lent(base, block, bytes.len(), op).is_some() {
         return;
     }
     let mut room = ReplyData::new();
@@ -61,7 +58,7 @@ pub fn overwrite(base: u64, block: u16, bytes: &mut [u8], op: &OpRef<'_>) -> Pay
     ensures old { result.items ≡ saved_at base block bytes.old op.now }
 {
     refused_and_read_change_nothing();
-    if refusal(base, block, bytes.len(), op).is_some() {
+    if refusal_lent(base, block, bytes.len(), op).is_some() {
         return payload_of(&[]);
     }
     let from = (op.address() - base) as usize;
@@ -78,7 +75,7 @@ pub fn put_back(base: u64, block: u16, bytes: &mut [u8], op: &OpRef<'_>, old: &[
 {
     only_the_place_changes();
     refused_and_read_change_nothing();
-    if refusal(base, block, bytes.len(), op).is_some() {
+    if refusal_lent(base, block, bytes.len(), op).is_some() {
         return;
     }
     let from = (op.address() - base) as usize;

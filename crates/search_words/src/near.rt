@@ -32,7 +32,7 @@ pub struct Near<'a> {
 }
 
 /// The requests at a word, from one place of the log on and before another.
-#[derive(Clone, Copy, Debug, PartialEq, Eq)]
+#[derive(Clone, Copy)]
 pub struct Stretch {
     pub word: u64,
     pub from: usize,

@@ -5,7 +5,7 @@ ghost use Rattle.seq12.specs.Numbers.{class_of, true_class};
 use crate::Seq12;
 
 /// A packet's sequence number beside NEXT_RCV_SEQ, the number that is waited for (section 3.6.3.1).
-#[derive(Clone, Copy, Debug, PartialEq, Eq)]
+#[derive(Clone, Copy, PartialEq)]
 pub enum SequenceClass {
     /// The number that is waited for.
     Expected,

@@ -13,7 +13,7 @@ pub use class::{SequenceClass, classify};
 pub const SEQUENCE_NUMBERS: u16 = 4096;
 
 /// A sequence number, 0 to 4095.
-#[derive(Clone, Copy, Debug, PartialEq, Eq)]
+#[derive(Clone, Copy, Debug, PartialEq)]
 pub struct Seq12 {
     number: u16,
 }

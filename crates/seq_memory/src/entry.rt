@@ -4,7 +4,7 @@ ghost use Rattle.std.specs.Prelude.{◌≡◌};
 use tlp_core::{Op, OpRef};
 
 /// A request in the history, with its operation kept as an `O`.
-#[derive(Clone, Debug, PartialEq, Drop)]
+#[derive(PartialEq, Drop)]
 pub struct EntryOf<O> {
     /// The port of its requester.
     pub requester: u8,

@@ -7,7 +7,7 @@ use std::marker::Model;
 
 /// `size` bytes from the address `base` on, to which accesses are served by blocks of `block` bytes.
 /// All three are within the limits of a memory.
-#[derive(Clone, Copy, Debug, PartialEq, Eq)]
+#[derive(Clone, Copy)]
 pub struct Extent {
     base: u64,
     size: usize,

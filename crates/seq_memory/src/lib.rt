@@ -28,11 +28,12 @@ pub use entry::{Entry, EntryOf, EntryRef};
 pub use extent::Extent;
 pub use limits::{ALIGNMENT, MAX_SIZE, MIN_SIZE, is_base, is_block, is_size};
 pub use memory::Memory;
+pub use place::refusal_lent;
 pub use reply::{Reply, ReplyOf, ReplyRef};
 pub use step::{enabled_bytes, perform, perform_lent};
 
 /// Why an access is not served. It then changes no byte.
-#[derive(Clone, Copy, Debug, PartialEq, Eq)]
+#[derive(Clone, Copy, PartialEq)]
 pub enum Refusal {
     /// The operation has a fault, or its place crosses a block: CA (section 2.2.9).
     Aborted,

@@ -5,7 +5,7 @@ ghost use Rattle.seq_memory.specs.Limits.{IsBlock};
 ghost use Rattle.seq_memory.specs.Step.{is_in_block, is_inside, refusal};
 
 use crate::Refusal;
-use tlp_core::{Op, op_fault};
+use tlp_core::{Op, OpRef, op_fault};
 
 /// Whether `count` bytes from `address` on lie in one block.
 #[tactic(auto, using(crate::proofs::Places::by_offset))]
@@ -70,6 +70,22 @@ pub(crate) fn refusal_of(base: u64, block: u16, size: usize, op: &Op) -> Option<
     ensures high { IfNone result (address_of op.now + count_of op.now ≤ base + size) }
 {
     if op_fault(op).is_some() {
+        return Some(Refusal::Aborted);
+    }
+    refusal_at(base, block, size, op.address(), op.size())
+}
+
+/// Why an operation that lends its bytes is not served by a memory of `size` bytes from `base` on, in blocks of
+/// `block` bytes; none where it is.
+pub fn refusal_lent(base: u64, block: u16, size: usize, op: &OpRef<'_>) -> Option<Refusal>
+    requires { IsBlock block }
+    ensures value { result ≡ refusal base size block op.now }
+    ensures sound { IfNone result (op_fault op.now ≡ None) }
+    ensures few { IfNone result (count_of op.now ≤ 128) }
+    ensures low { IfNone result (base ≤ address_of op.now) }
+    ensures high { IfNone result (address_of op.now + count_of op.now ≤ base + size) }
+{
+    if op.fault().is_some() {
         return Some(Refusal::Aborted);
     }
     refusal_at(base, block, size, op.address(), op.size())

@@ -4,7 +4,7 @@ ghost use Rattle.std.specs.Prelude.{◌≡◌};
 use tlp_core::{Payload, PayloadRef};
 
 /// What the memory answers to one operation, with the data kept as a `B`.
-#[derive(Clone, Debug, PartialEq, Drop)]
+#[derive(Debug, PartialEq, Drop)]
 pub enum ReplyOf<B> {
     /// A write was done.
     Done,

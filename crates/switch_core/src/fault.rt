@@ -6,7 +6,7 @@ use lane_core::LaneRefusal;
 use thiserror::Error;
 
 /// Why a packet isn't forwarded, in the order of the tests.
-#[derive(Clone, Copy, Debug, PartialEq, Eq, Error)]
+#[derive(Clone, Copy, Debug, PartialEq, Error)]
 pub enum ForwardRefusal {
     /// There is no packet at the place, or it may not pass an earlier one.
     #[error("NotTakeable")]

@@ -2,15 +2,23 @@
 ghost use Rattle.std.specs.Prelude.{◌≡◌};
 ghost use Rattle.switch_ports.specs.Faults.{fault_number, fault_name};
 
-use thiserror::Error;
+use std::error::Error;
+use std::fmt;
 
 /// Why a packet goes nowhere.
-#[derive(Clone, Copy, Debug, PartialEq, Eq, Error)]
-#[error("{}", self.name())]
+#[derive(Clone, Copy, Debug, PartialEq)]
 pub enum RouteFault {
     /// A request from the memory, a completion from a requester, or one for no requester's ID.
     NoPort,
 }
+
+impl fmt::Display for RouteFault {
+    fn fmt<W: fmt::Write>(&self, f: &mut fmt::Formatter<W>) -> fmt::Result {
+        f.write_str(self.name())
+    }
+}
+
+impl Error for RouteFault {}
 
 impl RouteFault {
     /// The number under which it is told, 1.

@@ -10,7 +10,7 @@ use tlp_core::Tlp;
 pub const REQUESTERS: u8 = 7;
 
 /// A port of the switch: 0 is the memory's, 1 to 7 the requesters'. The ID of port n is 256 n.
-#[derive(Clone, Copy, Debug, PartialEq, Eq)]
+#[derive(Clone, Copy)]
 pub struct Port {
     number: u8,
 }

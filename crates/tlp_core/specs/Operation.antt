@@ -39,6 +39,14 @@ address_of (ops.FetchAdd a w x) = a
 address_of (ops.Swap a w x) = a
 address_of (ops.Cas a w x y) = a
 
+-- the same operation with another first address
+abbrev pub at_address : ℕ → Op → Op
+at_address n (ops.Read a dw f l) = ops.Read n dw f l
+at_address n (ops.Write a f l bytes) = ops.Write n f l bytes
+at_address n (ops.FetchAdd a w x) = ops.FetchAdd n w x
+at_address n (ops.Swap a w x) = ops.Swap n w x
+at_address n (ops.Cas a w x y) = ops.Cas n w x y
+
 -- how many bytes it has
 abbrev pub count_of : Op → ℕ
 count_of (ops.Read a dw f l) = 4 * dw

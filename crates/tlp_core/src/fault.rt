@@ -3,12 +3,12 @@ ghost use Rattle.std.specs.Prelude.{◌≡◌, Some, IfSome};
 ghost use Rattle.tlp_core.specs.declared.fault.TlpFault as faults;
 ghost use Rattle.tlp_core.specs.Fault.{number_of, name_of};
 
-use thiserror::Error;
+use std::error::Error;
+use std::fmt;
 
 /// The faults of a packet's bytes, in the order in which they are tested: the first that holds is
 /// told. An operation has the last five alone, but for `PayloadTooLong`.
-#[derive(Clone, Copy, Debug, PartialEq, Eq, Error)]
-#[error("{}", self.name())]
+#[derive(Clone, Copy, Debug, PartialEq)]
 pub enum TlpFault {
     /// Fewer bytes than the header has: 12, or 16 where bit 5 of byte 0 is 1.
     Short,
@@ -38,6 +38,14 @@ pub enum TlpFault {
     /// An address that is no multiple of the operand's size, or for a read or write operation of 4.
     Unaligned,
 }
+
+impl fmt::Display for TlpFault {
+    fn fmt<W: fmt::Write>(&self, f: &mut fmt::Formatter<W>) -> fmt::Result {
+        f.write_str(self.name())
+    }
+}
+
+impl Error for TlpFault {}
 
 impl TlpFault {
     /// The number under which the fault is told, 1 to 13 in the order of the tests.

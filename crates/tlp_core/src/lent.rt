@@ -153,6 +153,66 @@ impl<'a> OpOf<PayloadRef<'a>> {
         None
     }
 
+    /// The same operation at another address. The bytes of a write stay borrowed.
+    #[inline(always)]
+    pub fn at(&self, address: u64) -> OpRef<'a>
+        ensures { result ≡ spec.at_address address self.now }
+    {
+        match self {
+            OpRef::Read {
+                dw,
+                first,
+                last,
+                ..
+            } => OpRef::Read {
+                address,
+                dw: *dw,
+                first: *first,
+                last: *last,
+            },
+            OpRef::Write {
+                first,
+                last,
+                bytes,
+                ..
+            } => OpRef::Write {
+                address,
+                first: *first,
+                last: *last,
+                bytes: PayloadRef::new(bytes.as_slice()),
+            },
+            OpRef::FetchAdd { width, operand, .. } => OpRef::FetchAdd {
+                address,
+                width: *width,
+                operand: *operand,
+            },
+            OpRef::Swap { width, operand, .. } => OpRef::Swap {
+                address,
+                width: *width,
+                operand: *operand,
+            },
+            OpRef::Cas {
+                width,
+                compare,
+                swap,
+                ..
+            } => OpRef::Cas {
+                address,
+                width: *width,
+                compare: *compare,
+                swap: *swap,
+            },
+        }
+    }
+
+    /// The same operation again. The bytes of a write stay borrowed.
+    #[inline(always)]
+    pub fn again(&self) -> OpRef<'a>
+        ensures { result ≡ self.now }
+    {
+        self.at(self.address())
+    }
+
     /// The operation with bytes of its own. Takes no memory.
     #[inline(always)]
     pub fn to_owned(&self) -> Op

@@ -9,7 +9,7 @@ use crate::packet::Tlp;
 use crate::payload::{Payload, PayloadRef};
 
 /// The size of an AtomicOp's operand (section 6.15).
-#[derive(Clone, Copy, Debug, PartialEq, Eq)]
+#[derive(Clone, Copy, PartialEq)]
 pub enum Width {
     /// 4 bytes.
     Four,
@@ -35,7 +35,7 @@ impl Width {
 
 /// An operation on the memory, with the bytes of a write kept as a `B`. Not each is one that a request can ask for:
 /// [`op_fault`] tells.
-#[derive(Clone, Debug, PartialEq, Drop)]
+#[derive(PartialEq, Drop)]
 pub enum OpOf<B> {
     /// Reads `dw` DW from `address` on; `first` and `last` enable bytes of the first and last DW.
     Read {

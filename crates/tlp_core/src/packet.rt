@@ -14,7 +14,7 @@ use std::marker::Model;
 pub const MAX_PAYLOAD: usize = 128;
 
 /// What a packet asks or answers (section 2.2.1, Fmt and Type), whatever the size of its header.
-#[derive(Clone, Copy, Debug, PartialEq, Eq)]
+#[derive(Clone, Copy, Debug, PartialEq)]
 pub enum Kind {
     /// MRd.
     MemoryRead,
@@ -40,7 +40,7 @@ impl Kind {
 }
 
 /// Completion Status (section 2.2.9).
-#[derive(Clone, Copy, Debug, PartialEq, Eq)]
+#[derive(Clone, Copy, Debug, PartialEq)]
 pub enum Status {
     /// SC.
     Success,
@@ -51,7 +51,7 @@ pub enum Status {
 }
 
 /// What only requests or only completions have.
-#[derive(Clone, Copy, Debug, PartialEq, Eq)]
+#[derive(Clone, Copy, Debug, PartialEq)]
 pub enum Body {
     Request {
         /// A multiple of 4.
@@ -73,7 +73,7 @@ pub enum Body {
 }
 
 /// A packet of the grammar.
-#[derive(Clone, Debug, PartialEq, Drop)]
+#[derive(Debug, PartialEq, Drop)]
 pub struct Tlp {
     pub kind: Kind,
     /// Traffic Class, 0 to 7.
@@ -130,7 +130,7 @@ impl Model for Tlp {
 }
 
 /// All of a packet but its payload.
-#[derive(Clone, Copy, Debug, PartialEq, Eq)]
+#[derive(Clone, Copy)]
 pub struct Header {
     pub kind: Kind,
     /// Traffic Class, 0 to 7.

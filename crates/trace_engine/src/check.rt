@@ -2,10 +2,9 @@
 ghost use Rattle.std.specs.Prelude.{◌≡◌, ◌++◌, ◌∷◌, [], codes, Some, IfOk, IfErr, OnOk, OnErr};
 ghost use Rattle.trace_text.specs.TraceReaderView.{nothing_read, at_end};
 ghost use Rattle.line_loop.specs.Run.{IsAnswer, IsWhole, IsPart};
-ghost use Rattle.diagnostics.specs.Told.{IsReasonTold, IsReasonBegun};
 ghost use Rattle.flaw_places.specs.Places.{flaw_line};
 ghost use Rattle.trace_engine.specs.Check.{judged, if_clocked, flaw_with, checked_with, out_check, out_check_clocked, out_check_with};
-ghost use Rattle.trace_engine.specs.Reasons.{flawed_line};
+ghost use Rattle.trace_engine.specs.Reasons.{IsFlawTold, IsFlawBegun};
 
 use crate::traces::{TraceInput, tell_fault};
 use arrayvec::ArrayString;
@@ -66,9 +65,9 @@ fn judge<E: Write + Drop>(
 ) -> Result<(Verdict, Result<(), EngineFault>), AllocError>
     ensures ok { IfOk result (λ answered. IsAnswer nothing_read out.old.items out.new.items answered.0 (judged (flaw_with is_clocked claim.now))) }
     ensures err { OnErr result (out.new.items ≡ out.old.items) }
-    ensures reason { IfOk result (λ answered. OnOk answered.1 (IsReasonTold (flawed_line lines.now claim.now) reasons.old.errors reasons.new.errors)) }
+    ensures reason { IfOk result (λ answered. OnOk answered.1 (IsFlawTold lines.now claim.now reasons.old.errors reasons.new.errors)) }
     ensures fault { IfOk result (λ answered. IfErr answered.1 (λ f. f ≡ EngineFault.Write)) }
-    ensures part { IfOk result (λ answered. OnErr answered.1 (IsReasonBegun (flawed_line lines.now claim.now) reasons.old.errors reasons.new.errors)) }
+    ensures part { IfOk result (λ answered. OnErr answered.1 (IsFlawBegun lines.now claim.now reasons.old.errors reasons.new.errors)) }
     ensures told { reasons.new.told ≡ reasons.old.told }
 {
     match check_claim_with_clock(alloc, claim) {

@@ -10,6 +10,11 @@ use Rattle.history_words.specs.declared.record.RecordOf.TheVariants as records
 abbrev pub seen_by : Claim → TraceView
 seen_by c = record { base = c.memory.base; size = c.memory.size; block = c.memory.block; records = c.records }
 
+-- the request that the record submits
+abbrev pub submitted : Record → Option Entry
+submitted (records.Sub i k op n) = Some (record { requester = i; number = k; op = op })
+submitted (records.Ans i k reply n) = None
+
 -- the record, but with that n
 abbrev pub with_n : ℕ → Record → Record
 with_n n (records.Sub i k op m) = records.Sub i k op n

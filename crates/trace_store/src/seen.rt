@@ -8,7 +8,7 @@ ghost use Rattle.history_words.specs.Lookup.{is_told_at};
 ghost use Rattle.history_words.specs.Records.{Record};
 ghost use Rattle.history_words.specs.TraceView.{observed};
 ghost use Rattle.history_words.specs.declared.record.RecordOf.TheVariants as kinds;
-ghost use Rattle.trace_store.specs.Changes.{with_n, with_reply};
+ghost use Rattle.trace_store.specs.Changes.{submitted, with_n, with_reply};
 ghost use Rattle.trace_store.specs.Kept.{op_in};
 ghost use Rattle.trace_store.specs.Ranges.{range_of};
 ghost use Rattle.trace_store.specs.Stored.{record_in, HasEntry, HasRecord};
@@ -16,7 +16,7 @@ ghost use Rattle.trace_store.specs.Stored.{record_in, HasEntry, HasRecord};
 use crate::kept::{EMPTY, keep_op, keep_reply};
 use crate::stored::{RecordKind, StoredEntry, StoredRecord};
 use history_words::{Record, RecordHeader, RecordRef, Trace};
-use seq_memory::{Extent, ReplyRef};
+use seq_memory::{EntryRef, Extent, ReplyRef};
 use std::alloc::{AllocError, Global};
 use std::marker::Model;
 use tlp_core::OpRef;
@@ -79,6 +79,28 @@ impl<'a> Records<'a> {
         ensures { result ≡ slice_get self.now place }
     {
         Some(self.all.get(place)?.record(self.bytes))
+    }
+
+    /// The request that the record at the place submits.
+    #[inline(always)]
+    pub fn submitted(&self, place: usize) -> Option<EntryRef<'a>>
+        ensures { result ≡ option_and_then submitted (slice_get self.now place) }
+    {
+        match self.get(place) {
+            Some(
+                RecordRef::Sub {
+                    requester,
+                    number,
+                    op,
+                    ..
+                },
+            ) => Some(EntryRef {
+                requester,
+                number,
+                op,
+            }),
+            _ => None,
+        }
     }
 
     /// The record at the place, without its operation or its reply.

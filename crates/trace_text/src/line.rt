@@ -21,7 +21,7 @@ const VERSION: Expected = Expected::Of("a version", "1, 2");
 const LENGTH: Expected = Expected::Of("n", "a number of 64 bits");
 
 /// The version of a trace's text.
-#[derive(Clone, Copy, Debug, PartialEq, Eq)]
+#[derive(Clone, Copy)]
 pub(crate) enum Version {
     /// Blocks have 64 bytes.
     One,

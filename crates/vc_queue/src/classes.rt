@@ -27,7 +27,7 @@ pub(crate) struct Classes {
 }
 
 /// How many packets of each class stand before a place.
-#[derive(Clone, Copy, Debug, PartialEq, Eq)]
+#[derive(Clone, Copy)]
 pub(crate) struct Cut {
     pub(crate) posted: usize,
     pub(crate) non_posted: usize,

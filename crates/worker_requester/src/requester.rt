@@ -29,7 +29,7 @@ pub struct Requester<'a> {
 }
 
 /// What became of a round.
-#[derive(Clone, Copy, Debug, PartialEq, Eq)]
+#[derive(Clone, Copy, PartialEq)]
 pub enum Round {
     Done,
     Nothing,

@@ -3,7 +3,7 @@
 use fabric_core::Refusal;
 
 /// Why a worker ends the run.
-#[derive(Clone, Copy, Debug, PartialEq, Eq)]
+#[derive(Clone, Copy, PartialEq)]
 pub enum Stop {
     /// It had used up its turns.
     Turns,

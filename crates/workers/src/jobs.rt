@@ -15,7 +15,7 @@ use worker_turns::{
 };
 
 /// What a worker does in each round, call by call.
-#[derive(Clone, Copy, Debug, PartialEq, Eq)]
+#[derive(Clone, Copy)]
 pub enum Job {
     /// A lane's first worker: `Transmit`, `DeliverDllp`, and `Retrained` if there was nothing to transmit.
     Sender(LaneName),
@@ -54,7 +54,7 @@ impl Job {
 }
 
 /// What became of a call.
-#[derive(Clone, Copy, Debug, PartialEq, Eq)]
+#[derive(Clone, Copy, PartialEq)]
 enum Tried {
     Done,
     /// A packet was lost, failed its check or came too early.
@@ -77,7 +77,7 @@ fn tried_of(seen: &Seen) -> Tried
 }
 
 /// What became of a round.
-#[derive(Clone, Copy, Debug, PartialEq, Eq)]
+#[derive(Clone, Copy, PartialEq)]
 pub(crate) enum Went {
     /// The worker got on.
     On,

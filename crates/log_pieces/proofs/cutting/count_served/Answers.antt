@@ -14,10 +14,10 @@ loop-turn-init c =
     let op = c.args.op.now in
     let all : dw_of op - 0 ≡ dw_of op = omega arith in
     record {
-      same = more_zero (count_if_served x (cut b (dw_of op - 0) c.whole-rest.result))
-          ∙ ap (λ k. count_if_served x (cut b k c.whole-rest.result)) all
-          ∙ ap (λ (o : Op). count_if_served x (cut b (dw_of op) o)) c.whole-rest.ensures;
-      fits = omega (arith, c.requires.fits, ap address_of c.whole-rest.ensures, ap count_of c.whole-rest.ensures);
+      same = more_zero (count_if_served x (cut b (dw_of op - 0) c.again-rest.result))
+          ∙ ap (λ k. count_if_served x (cut b k c.again-rest.result)) all
+          ∙ ap (λ (o : Op). count_if_served x (cut b (dw_of op) o)) c.again-rest.ensures;
+      fits = omega (arith, c.requires.fits, ap address_of c.again-rest.ensures, ap count_of c.again-rest.ensures);
     }
 
 pub returns-then-dw_of-dw : goal.returns-then-dw_of-dw
@@ -38,7 +38,7 @@ returns-then-not-is_served c =
     let n = dw_of c.args.op.now - (c.loop-turn.turn + 1) in
     let to : c.dw_to-dw.result ≡ dw_to b (address_of rest) = c.dw_to-dw.ensures.value ∙ ap (dw_to b) c.address.ensures in
     let less : dw_to b (address_of rest) < dw_of rest = omega (arith, to, c.dw_of.ensures, c.if-dw_of-dw.false) in
-    let next : suc n ≡ dw_of c.args.op.now - c.loop-turn.turn = omega (arith, c.loop-turn-test.true, c.dw_of-all.ensures, ap dw_of c.whole-rest.ensures) in
+    let next : suc n ≡ dw_of c.args.op.now - c.loop-turn.turn = omega (arith, c.loop-turn-test.true, c.dw_of-all.ensures, ap dw_of c.again-rest.ensures) in
     let refused : is_served x (front (dw_to b (address_of rest)) rest) ≡ false =
     sym (ap (is_served x) (c.front.ensures ∙ ap (λ k. front k rest) to)) ∙ sym c.is_served.ensures.value ∙ c.if-not-is_served.true in
     sym (ap (more c.loop-turn.turn) (sym (ap (λ k. count_if_served x (cut b k rest)) next) ∙ none_counted x b n rest less refused)) ∙ c.loop-turn.invariant.same
@@ -52,7 +52,7 @@ loop-turn-preserved c =
     let n = dw_of c.args.op.now - (turn + 1) in
     let to : c.dw_to-dw.result ≡ dw_to b (address_of rest) = c.dw_to-dw.ensures.value ∙ ap (dw_to b) c.address.ensures in
     let less : dw_to b (address_of rest) < dw_of rest = omega (arith, to, c.dw_of.ensures, c.if-dw_of-dw.false) in
-    let next : suc n ≡ dw_of c.args.op.now - turn = omega (arith, c.loop-turn-test.true, c.dw_of-all.ensures, ap dw_of c.whole-rest.ensures) in
+    let next : suc n ≡ dw_of c.args.op.now - turn = omega (arith, c.loop-turn-test.true, c.dw_of-all.ensures, ap dw_of c.again-rest.ensures) in
     let other : c.back-rest.result ≡ back (dw_to b (address_of rest)) rest = c.back-rest.ensures.value ∙ ap (λ k. back k rest) to in
     let served : is_served x (front (dw_to b (address_of rest)) rest) ≡ true =
     sym (ap (is_served x) (c.front.ensures ∙ ap (λ k. front k rest) to)) ∙ sym c.is_served.ensures.value ∙ c.if-not-is_served.false in
@@ -71,7 +71,7 @@ returns c =
     let b = c.args.bytes in
     let rest = c.loop-turn.rest in
     let turn = c.loop-turn.turn in
-    let over : dw_of c.args.op.now - turn ≡ 0 = omega (arith, c.loop-turn-test.false, c.dw_of-all.ensures, ap dw_of c.whole-rest.ensures) in
+    let over : dw_of c.args.op.now - turn ≡ 0 = omega (arith, c.loop-turn-test.false, c.dw_of-all.ensures, ap dw_of c.again-rest.ensures) in
     let end : c.dw_of-all.result ≡ turn = omega (arith, c.loop-turn.auto.turn-end, c.loop-turn-test.false) in
     c.with_last-2.ensures
     ∙ ap (λ (k : ℕ). if◌then◌else◌ {A = Option ℕ} (is_served x rest) (Some (k + 1)) None) end

@@ -24,7 +24,7 @@ loop-turn-preserved c =
     let less : dw_to b (address_of rest) < dw_of rest = omega (arith, to, c.dw_of.ensures, c.if-dw_of-dw.false) in
     let first : c.front.result ≡ front (dw_to b (address_of rest)) rest = c.front.ensures ∙ ap (λ k. front k rest) to in
     let other : c.back-rest.result ≡ back (dw_to b (address_of rest)) rest = c.back-rest.ensures.value ∙ ap (λ k. back k rest) to in
-    let next : suc n ≡ dw_of c.args.op.now - c.loop-turn.turn = omega (arith, c.loop-turn-test.true, c.dw_of-turn-end.ensures, ap dw_of c.whole-rest.ensures) in
+    let next : suc n ≡ dw_of c.args.op.now - c.loop-turn.turn = omega (arith, c.loop-turn-test.true, c.dw_of-turn-end.ensures, ap dw_of c.again-rest.ensures) in
     record {
       same = ap (λ (ys : List Op). ys ++ cut b n c.back-rest.result) c.in_ok-push-2.ensures.items
           ∙ one_more xs c.front.result (cut b n c.back-rest.result)
@@ -40,7 +40,7 @@ pub returns : goal.returns
 returns c =
     let b = c.args.bytes in
     let rest = c.loop-turn.rest in
-    let over : dw_of c.args.op.now - c.loop-turn.turn ≡ 0 = omega (arith, c.loop-turn-test.false, c.dw_of-turn-end.ensures, ap dw_of c.whole-rest.ensures) in
+    let over : dw_of c.args.op.now - c.loop-turn.turn ≡ 0 = omega (arith, c.loop-turn-test.false, c.dw_of-turn-end.ensures, ap dw_of c.again-rest.ensures) in
     c.in_ok-push-3.ensures.items
     ∙ sym (ap (λ k. c.loop-turn.pieces.items ++ cut b k rest) over ∙ ap (λ (xs : List Op). c.loop-turn.pieces.items ++ xs) (cut_last b rest))
     ∙ c.loop-turn.invariant.same
