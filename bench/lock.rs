@@ -2,7 +2,8 @@
 //! requester takes the lock, submits what it may, and makes the events that move its packets.
 use dllp_core::Class;
 use fabric_core::{ANSWER_ROOM, Config, Event, Fabric, LaneName, record_of};
-use history_check::{Record, Trace, check};
+use history_check::check;
+use history_words::{Record, Trace};
 use kit::alloc::Global;
 use lane_core::{DllpKind, Fate, LaneCredits};
 use std::sync::Mutex;
@@ -25,7 +26,7 @@ impl Session {
             return false;
         };
         if let Some(record) = record_of(&lent, &seen, n) {
-            self.records.push(record).expect("memory");
+            self.records.push(record).ok().expect("memory");
         }
         true
     }
@@ -68,7 +69,7 @@ fn main() {
     let words: Vec<u64> = std::env::args().skip(1).map(|word| word.parse().expect("a number")).collect();
     let [requesters, each] = words[..] else { panic!("lock REQUESTERS EACH") };
     let config = Config { requesters: requesters as u8, base: 0, size: 4096, credits: LaneCredits::DEFAULT, block: 64 };
-    let fabric = Fabric::new(config, Global).expect("a configuration within its limits");
+    let fabric = Fabric::new(config, Global).ok().expect("a configuration within its limits");
     let session = Mutex::new(Session { fabric, records: kit::Vec::new(Global) });
     std::thread::scope(|threads| {
         for port in 1..=requesters as u8 {

@@ -2,7 +2,9 @@
 # Measures the built program and the built library for C, and prints a table in Markdown: run.sh [RUNS], 5 if not given.
 # With --alone ENGINE [FOLDER] it counts one engine's instructions a unit, in the whole program and in the program that
 # scripts/engine_alone.sh made in FOLDER, where each is built. With --threads [RUNS] it prints the processor seconds of
-# `run` by its number of workers, and of bench/lock.rs, which has the same fabric behind a lock, both in plain Rust.
+# `run` by its number of workers, and of bench/lock.rs, which has the same fabric behind a lock, both in plain Rust. With
+# --check FOLDER nothing is measured: each input and each program is made, small, and has to go through, over the workspace
+# of plain Rust in FOLDER and its optimized build (scripts/plain_rust.sh --check calls it).
 #
 # Seconds are processor seconds (user and system), the least of the runs. Instructions are counted by callgrind, as the
 # difference of two inputs of about 10,000 and 20,000 units, divided by the difference of the units. Peak memory is the
@@ -13,10 +15,17 @@
 # shellcheck disable=SC2016 # backquotes of Markdown, and words of an inner shell
 set -eu
 unset CDPATH
-cd "$(dirname "$0")/.."
+usage() {
+    echo "usage: run.sh [RUNS], run.sh --threads [RUNS], run.sh --alone ENGINE [FOLDER], or run.sh --check FOLDER" >&2
+    exit 2
+}
 alone=''
 if [ "${1:-}" = --alone ]; then
-    [ $# -ge 2 ] || { echo "run.sh: --alone ENGINE [FOLDER]" >&2; exit 2; }
+    case $#,${2:-},${3-.} in
+        2,[!,-]* | 3,[!,-]*,[!-]*) ;;
+        *) usage ;;
+    esac
+    [ $# -eq 2 ] || set -- "$1" "$2" "$(realpath -m -- "$3")"
     alone=$2
     program=${3:-${XDG_CACHE_HOME:-$HOME/.cache}/pciex/alone-$2}/crates/alone/out/alone
     shift $#
@@ -26,7 +35,17 @@ if [ "${1:-}" = --threads ]; then
     threads=yes
     shift
 fi
-runs=${1:-5}
+workspace=''
+if [ "${1:-}" = --check ]; then
+    case $#,${2-} in 2,[!-]*) ;; *) usage ;; esac
+    workspace=$(cd "$2" && pwd)
+    shift 2
+fi
+runs=${1-5}
+case $#,$runs in
+    *,0* | *,*[!0-9]* | *, | [!01],*) usage ;;
+esac
+cd "$(dirname "$0")/.."
 pciex=$PWD/crates/pciex/out/pciex
 library=$PWD/crates/pciex_c/out/libpciex_c.a
 left_out="the hall against the fabric and the receive queue alone (both need a program in Rattle)"
@@ -91,27 +110,82 @@ count() {
     per_unit=$(((instructions - first) / (units - first_units)))
 }
 
+# lock_over FOLDER WORD..: builds bench/lock.rs over the workspace in FOLDER, into its folder target, with these words for
+# cargo.
+lock_over() {
+    out=$1
+    shift
+    mkdir -p "$room/lock"
+    {
+        printf '%s\n' '[package]' 'name = "lock"' 'edition = "2024"' '[workspace]' '[[bin]]' 'name = "lock"' "path = \"$PWD/bench/lock.rs\"" '[dependencies]'
+        sed -n 's/^use \([a-z_]*\)::.*/\1/p' bench/lock.rs | grep -v '^std$' | sort -u | while read -r crate; do
+            echo "$crate = { path = \"$out/$crate\" }"
+        done
+        sed -n '/^\[profile.release\]/,/^$/p' "$out/Cargo.toml"
+    } > "$room/lock/Cargo.toml"
+    (cd "$room/lock" && CARGO_TARGET_DIR="$out/target" cargo build --offline --quiet "$@") >&2
+}
+
 if [ -n "$threads" ]; then
     python3 plain/translator/translate.py "$PWD" "$room/out" > /dev/null
-    mkdir -p "$room/lock/src"
-    cp bench/lock.rs "$room/lock/src/main.rs"
-    {
-        printf '%s\n' '[package]' 'name = "lock"' 'edition = "2024"' '[workspace]' '[dependencies]'
-        for crate in kit tlp_core dllp_core lane_core seq_memory history_check fabric_core; do
-            echo "$crate = { path = \"../out/$crate\" }"
-        done
-        sed -n '/^\[profile.release\]/,/^$/p' "$room/out/Cargo.toml"
-    } > "$room/lock/Cargo.toml"
-    export CARGO_TARGET_DIR="$room/target"
     (cd "$room/out" && cargo build --offline --quiet --release --bin pciex) >&2
-    (cd "$room/lock" && cargo build --offline --quiet --release) >&2
+    lock_over "$room/out" --release
     : > "$room/input"
     echo "140000 additions of 7 requesters: processor seconds, peak kilobytes"
-    echo "one lock: $("$room/measure" "$runs" "$room/input" "$room/target/release/lock" 7 20000)"
+    echo "one lock: $("$room/measure" "$runs" "$room/input" "$room/out/target/release/lock" 7 20000)"
     for workers in 1 2 4 8 34; do
-        echo "run --workers $workers: $("$room/measure" "$runs" "$room/input" "$room/target/release/pciex" run --requesters 7 --each 20000 --workers $workers)"
+        echo "run --workers $workers: $("$room/measure" "$runs" "$room/input" "$room/out/target/release/pciex" run --requesters 7 --each 20000 --workers $workers)"
     done
     exit 0
+fi
+
+# of_library ARCHIVE ARCHIVE: compiles the programs in C over the library's archive and the toolchain's.
+of_library() {
+    for name in device fabric endpoint; do
+        cc -O2 -Wall -Wextra -Werror -std=c99 -Ic -o "$room/$name" bench/$name.c "$@"
+    done
+}
+
+# goes KIND SCALE COMMAND..: whether the command has status 0 on the input, which has a line.
+goes() {
+    input "$1" "$2"
+    kind=$1
+    shift 2
+    tried=$((tried + 1))
+    [ "$kind" = nothing1 ] || [ -s "$room/input" ] || { echo "bench: no $kind"; failed=1; }
+    "$@" < "$room/input" > "$room/output" 2>&1 && return
+    tail -n 3 "$room/output"
+    echo "bench: failed on $kind: $*"
+    failed=1
+}
+if [ -n "$workspace" ]; then
+    failed=0
+    tried=0
+    built=$workspace/target/release
+    of_library "$built/libpciex_c.a" "$workspace/liblibc_c.a"
+    lock_over "$workspace"
+    goes nothing1 1 "$room/device" 9
+    goes nothing1 1 "$room/endpoint" 9
+    goes nothing1 1 "$room/endpoint" 9 link
+    goes nothing1 1 "$room/endpoint" 9 crc
+    goes script 1 "$room/fabric"
+    goes script 1 "$built/pciex" step
+    goes lines 9 "$built/pciex" tlp
+    goes lines 9 "$built/pciex" decode
+    goes trace 9 "$built/pciex" check
+    goes trace 9 "$built/pciex" upgrade
+    for kind in each short long; do
+        goes $kind 9 "$built/pciex" endpoint
+    done
+    for kind in counter mixed locks; do
+        goes $kind 99 "$built/pciex" search
+    done
+    goes nothing1 1 "$workspace/target/debug/lock" 2 20
+    "$built/pciex" run --requesters 2 --each 20 > "$room/counted"
+    cmp "$room/counted" "$room/output" || failed=1
+    goes nothing1 1 "$room/measure" 1 /dev/null "$built/pciex" --version
+    echo "bench: $tried runs, $([ $failed -eq 0 ] && echo "all go through" || echo "not all go through")"
+    exit $failed
 fi
 
 if [ -n "$alone" ]; then
@@ -181,9 +255,7 @@ else
 fi
 if [ -e "$library" ]; then
     kit=$(dirname "$(rt doc)")/c
-    for name in device fabric endpoint; do
-        cc -O2 -Wall -Wextra -Werror -std=c99 -Ic -o "$room/$name" bench/$name.c "$library" "$kit/liblibc_c.a"
-    done
+    of_library "$library" "$kit/liblibc_c.a"
     row '`pciex_answer` from C' calls nothing1 1000000 10000 "$room/device" N
     row '`pciex_endpoint_tlp` and `_next` from C' requests nothing1 1000000 10000 "$room/endpoint" N
     row '`pciex_linked_packet` and `_next` from C, an Ack for each' requests nothing1 1000000 10000 "$room/endpoint" N link

@@ -3,13 +3,19 @@
 # run that prints or ends otherwise: built_program.sh [PROGRAM], that of program.sh if none is named. A run of
 # threads has 10 minutes.
 unset CDPATH
-pciex=$(sh "$(dirname "$0")/program.sh" "$@") || exit 1
+pciex=$(sh "$(dirname "$0")/program.sh" "$@") || exit
 cd "$(dirname "$0")/.." || exit 1
+. scripts/left_out.sh
 room=$(mktemp -d) || exit 1
 trap 'rm -rf "$room"' EXIT
 trap 'exit 1' HUP INT TERM
 runs=0
 failed=0
+
+# part WHAT: says what is run from here on.
+part() {
+    echo "built program: $1" >&2
+}
 
 # wants WHAT STATUS OUTPUT ERRORS: whether the last run, which ended with $status, had this exit status and wrote these
 # files.
@@ -31,6 +37,7 @@ of_file() {
 }
 
 # The examples, with status 0 or 1.
+part "examples"
 : > "$room/nothing"
 cat > "$room/faults" << 'end'
 pciex: line 18: Short (3 bytes, and a header has 12, or 16 where Fmt says so)
@@ -53,12 +60,12 @@ wants "endpoint --link on linked.txt" 1 examples/linked.out "$room/reasons"
 grep -v '^4C0000' examples/packets.txt | grep -v ' 01000500 .* 07000000$' > "$room/sound.txt"
 grep -v '^fault' examples/packets.out > "$room/faultless"
 cat > "$room/reasons" << 'end'
-pciex: line 17: 'add 41 07000000 from 0100 tag 05' is refused: Unaligned (an operand's address is a multiple of the operand's size, any other of 4)
-pciex: line 18, column 16: the line ends where 'from' is expected
+pciex: line 21: 'add 41 07000000 from 0100 tag 05' is refused: Unaligned (an operand's address is a multiple of the operand's size, any other of 4)
+pciex: line 22, column 16: the line ends where 'from' is expected
 end
 of_file examples/words.txt encode
 wants "encode on words.txt" 1 examples/words.out "$room/reasons"
-grep -v '^#' examples/words.txt | sed '/^$/d' | head -n 9 > "$room/words"
+grep -v '^#' examples/words.txt | sed '/^$/d' | head -n 12 > "$room/words"
 grep -v '^fault' examples/words.out > "$room/bytes"
 of_file "$room/words" encode
 wants "encode on the packets of words.txt" 0 "$room/bytes" "$room/nothing"
@@ -89,6 +96,7 @@ for name in lost_ack write_passes_read credits stopped_link; do
     wants "check on what step --trace prints of $name.txt" 0 "$room/ok" "$room/nothing"
 done
 
+part "searches"
 # A history is searched for: what is found is checked, and where there is none, or the search is given up, that is told.
 for name in lost_ack write_passes_read credits stopped_link; do
     "$pciex" step --trace < examples/$name.txt | "$pciex" search > "$room/told" 2> /dev/null
@@ -108,7 +116,7 @@ done
 { cat "$room/begun"; echo end; } > "$room/lost_update"
 echo "none 3" > "$room/none"
 cat > "$room/reasons" << 'end'
-pciex: lines 3 to 6 have no history, lines 3 to 5 have one
+pciex: record 3 is line 6: lines 3 to 6 have no history, lines 3 to 5 have one
 pciex: line 6: ans 2 0 data 00000000, against these answers:
 pciex: line 5: ans 1 0 data 00000000
 pciex: with data 01000000 in line 6, lines 3 to 6 have a history
@@ -126,7 +134,7 @@ of_file "$room/begun" search
 wants "search on a log without its end" 1 "$room/fault" "$room/reasons"
 { cat "$room/begun"; printf 'ans 2 0 data 00000000\nend\n'; } > "$room/answered_twice"
 echo "flaw 6 Again 4" > "$room/flaw"
-echo "pciex: line 7: a second answer to request 0 of requester 2, the first is on line 6" > "$room/reasons"
+echo "pciex: record 4 is line 7: a second answer to request 0 of requester 2, the first is on line 6" > "$room/reasons"
 of_file "$room/answered_twice" search
 wants "search on a log with a second answer" 1 "$room/flaw" "$room/reasons"
 cat > "$room/hard" << 'the end'
@@ -144,8 +152,9 @@ end
 the end
 echo "limit 1" > "$room/limit"
 of_file "$room/hard" search --limit 1
+printf 'pciex: given up at line 8 (open requests: 5); --progress shows how far it is\npciex: lines 3 to 7 have a history\n' > "$room/hinted"
 printf 'pciex: given up at line 8 (open requests: 5)\npciex: lines 3 to 7 have a history\n' > "$room/far"
-wants "search --limit 1" 3 "$room/limit" "$room/far"
+wants "search --limit 1" 3 "$room/limit" "$room/hinted"
 { printf '8 records\n1 of 1 choices\n' && cat "$room/far"; } > "$room/stages"
 of_file "$room/hard" search --limit 1 --progress
 wants "search --progress" 3 "$room/limit" "$room/stages"
@@ -166,7 +175,10 @@ echo 'submit 1 read 40 1 F 0 -> sub 1 0' > "$room/told"
 of_file "$room/short_script" step --echo
 wants "step --echo" 0 "$room/told" "$room/nothing"
 
+part "storms and sweeps"
 # A storm is the same each time, each of its events happens, and its history is explained; its picture is one of XML.
+reads_xml=
+has python3 "whether pictures of storms are XML" && reads_xml=1
 for words in "--seed 1 --events 0" "--seed 7 --events 3000 --lose 8" "--seed 18446744073709551615 --events 2000 --requesters 7 --corrupt 5 --block 128"; do
     # shellcheck disable=SC2086
     of_file /dev/null generate $words
@@ -178,7 +190,7 @@ for words in "--seed 1 --events 0" "--seed 7 --events 3000 --lose 8" "--seed 184
     of_file "$room/told" check
     wants "check on the storm of $words" 0 "$room/ok" "$room/nothing"
     of_file "$room/told" draw --to 20
-    if command -v python3 > /dev/null; then
+    if [ -n "$reads_xml" ]; then
         python3 -c 'import sys, xml.dom.minidom; xml.dom.minidom.parse(sys.argv[1])' "$room/output" || : > "$room/output"
     fi
     [ -s "$room/output" ] && cp "$room/output" "$room/picture" || echo "a picture" > "$room/picture"
@@ -232,7 +244,7 @@ done
 sed 's/^ans 1 0 2 data 01020304/ans 1 0 2 data 00000000/' examples/trace.txt > "$room/flawed"
 echo "flaw 10 Reply 2" > "$room/flaw"
 cat > "$room/reasons" << 'end'
-pciex: line 6: data 00000000 where data 01020304 is expected, and the request is at index 1 (line 9)
+pciex: record 2 is line 6: data 00000000 where data 01020304 is expected; entry 1, line 9
 end
 of_file "$room/flawed" check
 wants "check on a trace with a wrong reply" 1 "$room/flaw" "$room/reasons"
@@ -261,9 +273,10 @@ refuses "invalid value '2' for --to: expected 0 to 18446744073709551615, at leas
 refuses "invalid value 'x' for --seed: expected 0 to 18446744073709551615" generate --seed x --events 1
 refuses "invalid value '5..3' for --seeds: expected FIRST..LAST, each 0 to 18446744073709551615, LAST at least FIRST" sweep --seeds 5..3 --events 1 --workers 0
 refuses "invalid value '8' for --requesters: expected 1 to 7" run --requesters 8 --each 1
-of_file examples/packets.txt tlp "$(printf '\377')"
-wants "a word that is no text" 2 "$room/nothing" "$room/options"
-for words in "" "tpl" "tlp 0 --size 128" "step --trace=no" "check --trace" "help tpl"; do
+of_file examples/packets.txt tlp "$(printf 'a\377')"
+{ cat "$room/options"; printf '%s\n' "pciex: 'a\\xFF' is not UTF-8"; } > "$room/told"
+wants "a word that is no text" 2 "$room/nothing" "$room/told"
+for words in "" "tpl" "tlp 0 1 --size 128" "step --trace=no" "check --trace" "help tpl"; do
     # shellcheck disable=SC2086
     of_file examples/packets.txt $words
     [ -s "$room/errors" ] && cp "$room/errors" "$room/told" || echo "a text" > "$room/told"
@@ -277,6 +290,7 @@ status=$?
 echo "Usage: pciex step [OPTIONS]" > "$room/told"
 wants "step -h under another name" 0 "$room/told" "$room/nothing"
 
+part "threads"
 # Runs of worker threads, with status 0 where each addition was counted once, and 3 where a part had used up its turns.
 # counts NUMBER WORD..: whether `run` with these words tells that number of answers.
 counts() {
@@ -317,6 +331,7 @@ for words in --version --help -h help "help step" "tlp --help" "endpoint --help"
     wants "the words '$words'" 0 "$room/told" "$room/nothing"
 done
 
+part "streams that fail"
 # A reader and a writer that fail have status 1.
 echo "pciex: read: Is a directory (os error 21)" > "$room/read"
 echo "pciex: write: No space left on device (os error 28)" > "$room/write"
@@ -329,12 +344,53 @@ for words in tlp endpoint "endpoint --trace" "endpoint --link" decode encode che
     wants "$words, where the file is a folder" 1 "$room/nothing" "$room/read"
 done
 
-# The file that the last word names is read in place of standard input. One that isn't there is told.
-of_file / check --clocked examples/trace.txt
-wants "check of a file" 0 "$room/ok" "$room/nothing"
-echo "pciex: $room/absent: No such file or directory (os error 2)" > "$room/told"
-of_file / check "$room/absent"
+# A stream that is closed is an error where it is used, and not an empty file.
+echo "pciex: read: Bad file descriptor (os error 9)" > "$room/no_read"
+echo "pciex: write: Bad file descriptor (os error 9)" > "$room/no_write"
+: > "$room/output"
+"$pciex" check examples/trace.txt < /dev/null >&- 2> "$room/errors"
+status=$?
+wants "check, where standard output is closed" 1 "$room/nothing" "$room/no_write"
+"$pciex" --help < /dev/null >&- 2> "$room/errors"
+status=$?
+wants "--help, where standard output is closed" 1 "$room/nothing" "$room/no_write"
+"$pciex" check <&- > "$room/output" 2> "$room/errors"
+status=$?
+wants "check, where standard input is closed" 1 "$room/nothing" "$room/no_read"
+"$pciex" generate --seed 1 --events 9 < /dev/null > "$room/told" 2> "$room/errors"
+"$pciex" generate --seed 1 --events 9 < /dev/null > "$room/output" 2>&-
+status=$?
+wants "generate, where standard error is closed" 0 "$room/told" "$room/nothing"
+: > "$room/output"
+: > "$room/errors"
+"$pciex" check examples/trace.txt <&- >&- 2>&-
+status=$?
+wants "check, where all three are closed" 1 "$room/nothing" "$room/nothing"
+
+# The file that a word names is read in place of standard input, wherever it stands. One that isn't there is told.
+for words in "--clocked examples/trace.txt" "examples/trace.txt --clocked" "-- examples/trace.txt"; do
+    # shellcheck disable=SC2086
+    of_file / check $words
+    wants "check $words" 0 "$room/ok" "$room/nothing"
+done
+of_file / draw --from 0 examples/trace.txt --to 1
+cp "$room/output" "$room/picture"
+of_file examples/trace.txt draw --from 0 --to 1
+wants "draw of a file between options" 0 "$room/picture" "$room/nothing"
+echo "pciex: 'absent': No such file or directory (os error 2)" > "$room/told"
+of_file / check absent
 wants "check of a file that isn't there" 1 "$room/nothing" "$room/told"
+while read -r text subcommand does file; do
+    of_file / "$file"
+    tail -n 1 "$room/errors" > "$room/last"
+    echo "pciex: $file is a $text, which 'pciex $subcommand $file' $does" > "$room/told"
+    cp "$room/last" "$room/errors"
+    wants "a $text without a subcommand" 2 "$room/nothing" "$room/told"
+done << end
+script step runs examples/lost_ack.txt
+trace check judges examples/trace.txt
+log search judges examples/qemu/guest.txt
+end
 
 # Of an output that nobody reads any more nothing is told.
 { "$pciex" generate --seed 1 --events 100000 < /dev/null 2> "$room/errors"; echo $? > "$room/status"; } | head -n 1 > "$room/output"
@@ -357,21 +413,43 @@ of_file examples/credits_used_up.txt chart
 cp "$room/output" "$room/picture"
 echo "pciex: line 9: 'submit 1 add 40 01000000' is refused: NoCredits NP (the lane that the packet would enter has too few non-posted credits)" > "$room/told"
 wants "chart of a script with a refusal" 1 "$room/picture" "$room/told"
-if [ -c /dev/full ]; then
+
+# is_full INPUT WORD..: whether a run on the file tells that its output is full, and nothing else.
+is_full() {
+    input=$1
+    shift
     : > "$room/output"
+    timeout 10 "$pciex" "$@" < "$input" > /dev/full 2> "$room/errors"
+    status=$?
+    wants "$*, where standard output is full" 1 "$room/nothing" "$room/write"
+}
+if [ -c /dev/full ]; then
+    echo 4C000001 01000500 00000040 07000000 > "$room/packet"
+    echo reset > "$room/reset"
+    echo up > "$room/up"
+    printf 'pciex-log 1\nmemory 0 4096 64\nend\n' > "$room/log"
+    is_full "$room/packet" tlp
+    is_full "$room/reset" endpoint
+    is_full "$room/up" endpoint --link
+    is_full "$room/packet" decode
+    is_full "$room/words" encode
+    is_full examples/trace.txt check
+    is_full examples/trace.txt upgrade
+    is_full examples/trace.txt draw --from 0 --to=7
+    is_full "$room/log" search
+    is_full examples/first_script.txt step
+    is_full examples/first_script.txt step --echo --keep-going
+    is_full examples/first_script.txt step --trace
+    is_full examples/first_script.txt chart --lane up1 --brief --levels
+    is_full /dev/null --help
+    is_full /dev/null generate --seed 1 --events 0
+    is_full /dev/null generate --seed 1 --events 9
+    is_full /dev/null run --requesters 1 --each 1
+    is_full /dev/null sweep --seeds 1..2 --events 9
+    cat "$room/faults" "$room/write" > "$room/told"
     timeout 10 "$pciex" tlp < examples/packets.txt > /dev/full 2> "$room/errors"
     status=$?
-    cat "$room/faults" "$room/write" > "$room/told"
-    wants "tlp, where standard output is full" 1 "$room/nothing" "$room/told"
-    timeout 10 "$pciex" run --requesters 1 --each 1 < /dev/null > /dev/full 2> "$room/errors"
-    status=$?
-    wants "run, where standard output is full" 1 "$room/nothing" "$room/write"
-    timeout 10 "$pciex" generate --seed 1 --events 9 < /dev/null > /dev/full 2> "$room/errors"
-    status=$?
-    wants "generate, where standard output is full" 1 "$room/nothing" "$room/write"
-    timeout 10 "$pciex" sweep --seeds 1..2 --events 9 < /dev/null > /dev/full 2> "$room/errors"
-    status=$?
-    wants "sweep, where standard output is full" 1 "$room/nothing" "$room/write"
+    wants "tlp with faults, where standard output is full" 1 "$room/nothing" "$room/told"
 fi
 
 # Each answer is written before more is read: this user waits for it, and the input has not ended.
@@ -388,5 +466,5 @@ done
 exec 3>&- 4<&-
 wait
 
-echo "built program: $runs runs, $([ $failed -eq 0 ] && echo "all as they should be" || echo "not all as they should be")"
+echo "built program: $runs runs, $([ $failed -eq 0 ] && echo "all as they should be" || echo "not all as they should be")" || failed=1
 exit $failed

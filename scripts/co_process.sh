@@ -3,8 +3,9 @@
 # answered before another one is written. Then runs what docs/without-the-library.md and docs/python.md show, and the tests
 # of the class `Program` of the Python package, without the library. Says what it left out because a tool is missing.
 unset CDPATH
-pciex=$(sh "$(dirname "$0")/program.sh" "$@") || exit 1
+pciex=$(sh "$(dirname "$0")/program.sh" "$@") || exit
 cd "$(dirname "$0")/.." || exit 1
+. scripts/left_out.sh
 say() { echo "co-process: $*"; }
 room=$(mktemp -d) || exit 1
 trap 'rm -rf "$room"' EXIT
@@ -12,7 +13,6 @@ trap 'exit 1' HUP INT TERM
 ln -s "$pciex" "$room/pciex"
 export PATH="$room:$PATH" PYTHONDONTWRITEBYTECODE=1 PYTHONPATH="$PWD/c/python/src" PCIEX_PROGRAM="$pciex" PCIEX_SO=/no/library
 failed=0
-left_out=
 
 # block PAGE HEADING LANGUAGE: the lines of the first block of code in that language below the heading.
 block() {
@@ -25,10 +25,7 @@ block() {
 
 # shows TOOL PAGE HEADING LANGUAGE WANTED: whether what the page shows prints this file, if the tool is there.
 shows() {
-    if ! command -v "$1" > /dev/null; then
-        left_out="$left_out, $1"
-        return
-    fi
+    has "$1" "what docs/$2 shows in $4" || return 0
     block "$2" "$3" "$4" > "$room/shown"
     timeout 60 "$1" "$room/shown" > "$room/printed" 2>&1 < /dev/null && cmp -s "$5" "$room/printed" && return
     say "what docs/$2 shows in $4 prints"
@@ -40,7 +37,7 @@ shows bash without-the-library.md "## From any language, without the library" ba
 shows tclsh without-the-library.md "## From any language, without the library" tcl "$room/completion"
 block python.md "## Without the library" "" > "$room/wanted"
 shows python3 python.md "## Without the library" python "$room/wanted"
-if command -v python3 > /dev/null; then
+if has python3 "the program by two pipes"; then
     python3 scripts/co_process.py "$pciex" || failed=1
     if ! python3 -m unittest -q c/python/tests/test_program.py > "$room/log" 2>&1; then
         tail -n 20 "$room/log"
@@ -48,5 +45,4 @@ if command -v python3 > /dev/null; then
         failed=1
     fi
 fi
-[ -z "$left_out" ] || say "left out, as a tool is missing: ${left_out#, }"
 exit $failed

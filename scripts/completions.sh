@@ -8,11 +8,12 @@ if [ "${1:-}" = --check ]; then
     check=1
     shift
 fi
-pciex=$(sh "$(dirname "$0")/program.sh" "$@") || exit 1
+pciex=$(sh "$(dirname "$0")/program.sh" "$@") || exit
 cd "$(dirname "$0")/.." || exit 1
 room=$(mktemp -d) || exit 1
 trap 'rm -rf "$room"' EXIT
 trap 'exit 1' HUP INT TERM
+. scripts/left_out.sh
 say() { echo "completions: $*"; }
 
 # entries SUBCOMMAND: the help of the program or of a subcommand as lines of four fields: a subcommand, an option, the name
@@ -45,7 +46,7 @@ for name in $(cut -f 1 "$room/table" | grep .); do
     [ "$name" = help ] || entries "$name" >> "$room/table"
 done
 
-# write SHELL: the file of that shell.
+# write SHELL: the file of that shell. Behind a subcommand that reads, files are completed, too.
 write() {
     awk -F '\t' -v shell="$1" '
         function values(option) {
@@ -62,6 +63,11 @@ write() {
         function bracketed(text) {
             gsub(/[][]/, "\\\\&", text)
             return "[" text "]"
+        }
+        function reads(name) { return name !~ /^(generate|sweep|run|help)$/ }
+        function readers(    i, all) {
+            for (i = 1; i <= count; i++) if (reads(names[i])) all = all (all == "" ? "" : shell == "bash" ? "|" : " ") names[i]
+            return all
         }
         $2 == "" { names[++count] = $1; about[$1] = $4; next }
         { number[$1]++; option[$1, number[$1]] = $2; value[$1, number[$1]] = $3; help[$1, number[$1]] = $4 }
@@ -103,10 +109,11 @@ write() {
             print "# Completion of `pciex` for " shell ", made by scripts/completions.sh from the program\047s help."
             if (shell == "bash") {
                 print "_pciex() {"
-                print "    local word=${COMP_WORDS[COMP_CWORD]} words"
+                print "    local word=${COMP_WORDS[COMP_CWORD]} words files="
                 print "    case \"${COMP_WORDS[COMP_CWORD - 1]}\" in"
                 bash_values()
                 print "        *)"
+                print "            files=1"
                 print "            case \"$COMP_CWORD ${COMP_WORDS[1]}\" in"
                 print "                \"1 \"*) words=\"" list() " " words("") "\" ;;"
                 print "                \"2 help\") words=\"" list() "\" ;;"
@@ -116,6 +123,10 @@ write() {
                 print "            ;;"
                 print "    esac"
                 print "    mapfile -t COMPREPLY < <(compgen -W \"$words\" -- \"$word\")"
+                print "    [[ $files && $COMP_CWORD -gt 1 && $word != -* ]] || return"
+                print "    case ${COMP_WORDS[1]} in"
+                print "        " readers() ") mapfile -t COMPREPLY < <(compgen -f -- \"$word\") ;;"
+                print "    esac"
                 print "}"
                 print "complete -F _pciex pciex"
             }
@@ -138,6 +149,7 @@ write() {
                         print "                " names[i] ")"
                         printf "                    _arguments"
                         for (j = 1; j <= number[names[i]]; j++) printf " \\\n                        %s", zsh_option(names[i], j)
+                        if (reads(names[i])) printf " \\\n                        \047*:file:_files\047"
                         print "\n                    ;;"
                     }
                 print "            esac"
@@ -148,6 +160,7 @@ write() {
             }
             if (shell == "fish") {
                 print "complete -c pciex -f"
+                print "complete -c pciex -n \"__fish_seen_subcommand_from " readers() "\" -F"
                 for (i = 1; i <= count; i++)
                     print "complete -c pciex -n \"__fish_use_subcommand; or __fish_seen_subcommand_from help\" -a " names[i] " -d " quoted(about[names[i]])
                 for (i = 1; i <= number[""]; i++) print fish_option("", i)
@@ -189,9 +202,8 @@ completes() {
     say "$1 completes '$2' by '$got', and not by '$3'"
     failed=1
 }
-left_out=
 for shell in bash fish; do
-    if command -v $shell > /dev/null; then
+    if has $shell "completion"; then
         completes $shell "pciex st" step
         completes $shell "pciex step --k" --keep-going
         completes $shell "pciex search --" "--core --draw --granularity --help --limit --progress --work"
@@ -199,14 +211,13 @@ for shell in bash fish; do
         completes $shell "pciex tlp --block 1" 128
         completes $shell "pciex chart --lane i" in
         completes $shell "pciex help enc" encode
-    else
-        left_out="$left_out, $shell"
+        completes $shell "pciex draw crates.t" crates.txt
+        completes $shell "pciex check --clocked crates.t" crates.txt
+        completes $shell "pciex generate crates.t" ""
     fi
 done
-if command -v zsh > /dev/null; then
+if has zsh "completion"; then
     zsh -n scripts/completions/_pciex || failed=1
-else
-    left_out="$left_out, zsh"
 fi
-say "$(cut -f 1 "$room/table" | grep -c .) lines of help, $([ $failed -eq 0 ] && echo "each file as they say" || echo "not each file as they say"); shells that are not there: ${left_out:-, none}" | sed 's/: , /: /'
+say "$(cut -f 1 "$room/table" | grep -c .) lines of help, $([ $failed -eq 0 ] && echo "each file as they say" || echo "not each file as they say")" || failed=1
 exit $failed

@@ -3,9 +3,9 @@
 # behind a link, by a peer of its own over bad wires (linked.py): endpoint.sh [PROGRAM], the program of program.sh if none is
 # named. It needs python3, and says so if there is none.
 unset CDPATH
-program=$(sh "$(dirname "$0")/program.sh" "$@") || exit 1
+program=$(sh "$(dirname "$0")/program.sh" "$@") || exit
 if ! command -v python3 > /dev/null; then
-    echo "endpoint: left out, there is no python3"
+    echo "left out: an endpoint under a root complex, since there is no python3"
     exit 0
 fi
 export PYTHONDONTWRITEBYTECODE=1

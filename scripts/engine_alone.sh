@@ -12,7 +12,10 @@
 # The first build takes 45 seconds; after an edit of a body, all above it is proved and built in about 80.
 set -eu
 unset CDPATH
-if [ $# -lt 1 ] || [ $# -gt 2 ]; then echo "engine_alone.sh: ENGINE [FOLDER]" >&2; exit 2; fi
+case $#,${1:-},${2-.} in
+    1,[!,-]* | 2,[!,-]*,[!-]*) ;;
+    *) echo "usage: engine_alone.sh ENGINE [FOLDER]" >&2; exit 2 ;;
+esac
 engine=$1
 folder=${2:-${XDG_CACHE_HOME:-$HOME/.cache}/pciex/alone-$engine}
 case $folder in

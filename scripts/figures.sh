@@ -28,6 +28,10 @@ out=$(count crates/*/wrong-bodies/*.edit)
     echo "wrong_bodies $((in + out))"
     echo "wrong_bodies_in $in"
     echo "wrong_bodies_out $out"
+    echo "rows $(cat rows/*.rows | grep -c '^\$')"
+    # Each test of the crates is one of plain Rust, too; so are those of the kit, without what stands for crates of crates.io.
+    echo "plain_tests $(find crates/*/src plain/kit plain/tests \( -name '*.rt' -o -name '*.rs' \) ! -path '*/originals/*' \
+        ! -path '*/target/*' -exec cat {} + | grep -c '^ *#\[test\]')"
     if command -v rt > /dev/null; then
         echo "logic $(rt version | sed 's/.* //')"
     fi
@@ -86,5 +90,5 @@ for page in README.md CONTRIBUTING.md CHANGELOG.md docs/*.md; do
     cited=$((cited + $(cat "$room/cited")))
     put "$page" "$room/page"
 done
-[ $failed -ne 0 ] || echo "figures: $cited cited, each as docs/figures.txt has it"
+[ $failed -ne 0 ] || echo "figures: $cited cited, each as docs/figures.txt has it" || failed=1
 exit $failed

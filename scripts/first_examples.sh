@@ -3,11 +3,11 @@
 # examples/first: first_examples.sh [PROGRAM], that of program.sh if none is named. Both have to print the same, with
 # the same status. Tells each file where they don't.
 unset CDPATH
-pciex=$(sh "$(dirname "$0")/program.sh" "$@") || exit 1
+pciex=$(sh "$(dirname "$0")/program.sh" "$@") || exit
 cd "$(dirname "$0")/.." || exit 1
 say() { echo "first examples: $*"; }
 if ! command -v rt > /dev/null; then
-    say "left out, there is no rt"
+    echo "left out: the first examples without proofs, since there is no rt"
     exit 0
 fi
 room=$(mktemp -d) || exit 1
@@ -34,5 +34,5 @@ for file in examples/first/*.txt; do
     cat "$room/printed"
     failed=1
 done
-say "$files, $([ $failed -eq 0 ] && echo "each alike without proofs" || echo "not each alike without proofs")"
+say "$files, $([ $failed -eq 0 ] && echo "each alike without proofs" || echo "not each alike without proofs")" || failed=1
 exit $failed

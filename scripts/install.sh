@@ -12,7 +12,7 @@
 # It builds nothing of Rattle. The program is the proved one, which `rt ci` or `rt run` (in crates/pciex) builds, the
 # library that of c/check.sh or `rt lib` (in crates/pciex_c). With one option only its part is installed, with both both:
 # FILE is a program, as of unproved.sh, FOLDER has libpciex_c.a and liblibc_c.a, as of `unproved.sh --library`. With DESTDIR
-# the files go below that folder. The last line says what was left out.
+# the files go below that folder. The last line says what of the two is not installed.
 set -eu
 unset CDPATH
 umask 022
@@ -49,7 +49,7 @@ for file in ${program:+"$program"} ${library:+"$library/libpciex_c.a" "$kit/libl
     [ -f "$file" ] || fail "there is no $file: it is built first"
 done
 version=$(sh scripts/version.sh)
-left_out=
+without=
 room=$(mktemp -d)
 trap 'rm -rf "$room"' EXIT
 trap 'exit 1' HUP INT TERM
@@ -72,7 +72,7 @@ Cflags: -I\${includedir}
 Libs: -L\${libdir} -lpciex
 end
 else
-    left_out=", the library"
+    without="the library"
 fi
 if [ -n "$program" ]; then
     [ ! -d "$program.parts" ] || fail "$program needs the folder $program.parts, and can't be installed"
@@ -81,7 +81,7 @@ if [ -n "$program" ]; then
     install -D -m 644 scripts/completions/_pciex "$files/share/zsh/site-functions/_pciex"
     install -D -m 644 scripts/completions/pciex.fish "$files/share/fish/vendor_completions.d/pciex.fish"
 else
-    left_out=", the program"
+    without="the program"
 fi
 if [ -n "$program" ] && command -v help2man > /dev/null; then
     # The help of each subcommand is a section of the page, as it is. help2man hands the program's path to a shell.
@@ -95,12 +95,17 @@ if [ -n "$program" ] && command -v help2man > /dev/null; then
     (cd "$files/bin" && help2man --no-info --name "a PCI Express memory device, fabric and checker of histories" \
         --include "$room/sections" --output ../share/man/man1/pciex.1 ./pciex)
 elif [ -n "$program" ]; then
-    left_out="$left_out, the manual page, since there is no help2man"
+    echo "left out: the manual page, since there is no help2man" >&2
 fi
 mkdir -p "$files/share/pciex"
 (cd "$files" && find . ! -type d -printf '%P\n' && echo share/pciex/files) > "$room/list"
-mkdir -p "$prefix/share/pciex"
-touch "$prefix/share/pciex/files"
-LC_ALL=C sort -u "$room/list" "$prefix/share/pciex/files" > "$files/share/pciex/files"
-cp -RP --remove-destination "$files/." "$prefix"
-echo "installed: pciex $version in $prefix; left out: ${left_out:-, nothing}" | sed 's/: , /: /'
+cp "$room/list" "$room/all"
+[ ! -f "$prefix/share/pciex/files" ] || [ -h "$prefix/share/pciex/files" ] || cat "$prefix/share/pciex/files" >> "$room/all"
+LC_ALL=C sort -u "$room/all" > "$files/share/pciex/files"
+# Each file is copied beside its place and moved there. A folder may be a link to one.
+while read -r name; do
+    mkdir -p "$prefix/$(dirname "$name")"
+    cp -P "$files/$name" "$prefix/$name.part"
+    mv -fT "$prefix/$name.part" "$prefix/$name"
+done < "$room/list"
+echo "installed: pciex $version in $prefix${without:+, without $without}"

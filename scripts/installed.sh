@@ -2,14 +2,27 @@
 # Tries a release: makes its archive, unpacks it in an empty folder, compares the sums, runs the program on an example,
 # compiles a C program with the flags of pkg-config alone, once against the static library and once against the shared
 # object, runs the Python package and a SystemVerilog testbench, reads the manual page, completes words in bash, runs the
-# commands of the pages, and removes what was installed. Program and library were built before, or are named by the options
-# of install.sh. Fails if one of them fails. The last line says what was left out for lack of a tool.
+# worked rows and the commands of the pages, and removes what was installed. Program and library were built before, or are named by the options
+# of install.sh. Fails if one of them fails. Says what it leaves out, since a tool is missing.
 # shellcheck disable=SC2016 # words of inner shells
 unset CDPATH
+case ${1---program} in
+    --program | --library) ;;
+    *) echo "usage: installed.sh [--program FILE] [--library FOLDER]" >&2; exit 2 ;;
+esac
+for word in "$@"; do
+    case $word in
+        --program | --library) ;;
+        *) word=$(realpath -m -- "$word") ;;
+    esac
+    set -- "$@" "$word"
+    shift
+done
 cd "$(dirname "$0")/.." || exit 1
+. scripts/left_out.sh
 say() { echo "installed: $*"; }
 if ! command -v cc > /dev/null || { [ $# -eq 0 ] && [ ! -e crates/pciex_c/out/libpciex_c.a ]; }; then
-    say "not tried: the library isn't built, or there is no cc"
+    echo "left out: a release, since there is no library that is built, or no cc"
     exit 0
 fi
 room=$(mktemp -d) || exit 1
@@ -18,7 +31,6 @@ trap 'exit 1' HUP INT TERM
 version=$(sh scripts/version.sh)
 runs=0
 failed=0
-left_out=
 
 # prints WHAT TEXT WORD..: whether a run has status 0 and prints this text.
 prints() {
@@ -33,8 +45,8 @@ prints() {
     fi
 }
 
-tar=$(sh scripts/release.sh "$room" "$@" 2> "$room/log") || { cat "$room/log"; exit 1; }
-grep -q 'left out: nothing$' "$room/log" || left_out=$(sed -n 's/^installed: .*; left out: /, /p' "$room/log")
+tar=$(sh scripts/release.sh "$room" --changed "$@" 2> "$room/log") || { cat "$room/log"; exit 1; }
+grep '^left out: .* no help2man$' "$room/log"
 mkdir "$room/empty" || exit 1
 tar -C "$room/empty" -xzf "$tar" || exit 1
 home=$room/empty/pciex-$version
@@ -42,19 +54,20 @@ prints "the archive's sum" "$(basename "$tar"): OK" sh -c 'cd "$0" && sha256sum 
 prints "the files' sums" "" sh -c 'cd "$0" && sha256sum -c --quiet SHA256SUMS' "$home"
 prints "the program" "pciex $version" "$home/bin/pciex" --version
 prints "the first script" "$(cat examples/first_script.out)" sh -c 'cd "$0" && bin/pciex step < examples/first_script.txt' "$home"
-if [ -e "$home/share/man/man1/pciex.1" ] && command -v man > /dev/null; then
+if [ -e "$home/share/man/man1/pciex.1" ] && has man "the manual page of a release"; then
     prints "the manual page's example" 1 sh -c 'man -l "$0" 2> /dev/null | grep -cF "| pciex decode"' "$home/share/man/man1/pciex.1"
 fi
 if command -v python3 > /dev/null; then
     prints "the Python package" "ok" env PCIEX_SO="$home/lib/libpciex.so" PYTHONPATH="$home/c/python/src" PYTHONDONTWRITEBYTECODE=1 \
         sh -c 'python3 "$0/c/python/examples/check.py" < "$0/examples/trace.txt"' "$home"
 else
-    left_out="$left_out, the Python package, since there is no python3"
+    echo "left out: the Python package of a release, since there is no python3"
 fi
 if command -v verilator > /dev/null; then
-    prints "the SystemVerilog testbench" "" make -s -C "$home/c/sv/test" ARCHIVES="$home/lib/libpciex.a" OUT="$room/sv"
+    prints "the SystemVerilog testbench" "$(printf 'verilator: %s, a minute\n' calls_tb scoreboard_tb)" \
+        make -s -C "$home/c/sv/test" ARCHIVES="$home/lib/libpciex.a" OUT="$room/sv"
 else
-    left_out="$left_out, the SystemVerilog testbench, since there is no verilator"
+    echo "left out: the SystemVerilog testbench of a release, since there is no verilator"
 fi
 
 cat > "$room/first.c" << 'end'
@@ -98,7 +111,7 @@ if command -v pkg-config > /dev/null; then
         failed=1
     fi
 else
-    left_out="$left_out, the C programs, since there is no pkg-config"
+    echo "left out: the C programs of a release, since there is no pkg-config"
 fi
 
 if command -v bash > /dev/null; then
@@ -108,10 +121,13 @@ if command -v bash > /dev/null; then
     prints "a subcommand completed" "step" bash -c "$complete" "$home" pciex st
     prints "an option completed" "--keep-going" bash -c "$complete" "$home" pciex step --k
 else
-    left_out="$left_out, the completion, since there is no bash"
+    echo "left out: the completion of a release, since there is no bash"
+fi
+if has python3 "the worked rows of a release"; then
+    prints "the worked rows" "" sh -c 'sh "$0/scripts/rows.sh" > /dev/null' "$home"
 fi
 prints "the commands of the pages" "" sh -c 'sh "$0/scripts/pages.sh" > /dev/null' "$home"
 prints "a log of this machine" "" sh -c 'sh "$0/scripts/this_machine.sh" > /dev/null' "$home"
 prints "the removal of what was installed" "" sh -c 'cd "$0" && xargs rm < share/pciex/files && find bin include lib share ! -type d' "$home"
-say "$runs runs of $(basename "$tar"), $([ $failed -eq 0 ] && echo "each as it should be" || echo "not each as it should be"); left out: ${left_out:-, nothing}" | sed 's/: , /: /'
+say "$runs runs of $(basename "$tar"), $([ $failed -eq 0 ] && echo "each as it should be" || echo "not each as it should be")" || failed=1
 exit $failed

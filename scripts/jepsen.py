@@ -1,8 +1,9 @@
-"""Compares `pciex search` on the logs of examples/jepsen.py with a decider of its own: jepsen.py PROGRAM CONVERTER.
+"""Compares `pciex search` on the logs of examples/jepsen.py and csv_to_log.py with a decider of its own: jepsen.py PROGRAM.
 
 80 random histories of registers and 20 of counters, as Jepsen writes them: reads, writes and compare-and-sets, or reads
 and additions, of several processes, some of which end in a crash. Half of the histories are right, the others are of
-registers with a defect that shows or not.
+registers with a defect that shows or not. Each is searched as Jepsen writes it, and as a table: of events, or of operations
+with times, of which some are equal. Above each record its log has to say the entry, or the row, that it comes from.
 What is right is known by a search of Wing and Gong's kind, which knows nothing of logs. The histories are the same in each
 run.
 """
@@ -49,6 +50,17 @@ class Operation:
             value = "[%s]" % value
         return "{:type :%s, :f :%s, :value [%d %s], :process %d, :time 0}" % (
             outcome, self.kind, self.register, value, self.process)
+
+
+    def row(self, event, columns):
+        """The operation's row of a table, with these columns; of operations with times if there is no event."""
+        old, value = self.arguments if self.kind == "cas" else ("", *self.arguments) if self.arguments else ("", "")
+        if self.kind == "read" and event in ("ok", None) and self.result != "nil":
+            value = self.result or ""
+        has_end = self.end is not NEVER
+        cells = {"client": f"c{self.process}", "event": event, "op": self.kind, "key": self.register, "value": value, "old": old,
+                 "start": self.begin, "end": self.end if has_end else "", "note": '"a, b"'}
+        return ",".join(str(cells[column]) for column in columns)
 
 
 class Registers:
@@ -135,7 +147,7 @@ def has_order(operations, initial):
         left = [(bit, it) for bit, it in enumerate(todo) if not done >> bit & 1]
         soonest = min(it.end for bit, it in left if it.outcome == "ok")
         for bit, it in left:
-            if it.begin < soonest and after(value, it) is not None:
+            if it.begin <= soonest and after(value, it) is not None:
                 places.append((done | 1 << bit, after(value, it)))
     return False
 
@@ -145,21 +157,80 @@ def is_right(operations, initial):
                for register in {it.register for it in operations})
 
 
-def main(program, converter):
+EVENT_COLUMNS = ("note", "value", "client", "op", "event", "key", "old")
+TIME_COLUMNS = ("old", "start", "client", "key", "end", "note", "op", "value")
+
+
+def coarse(operations):
+    """The operations that had an effect or an answer, with times that are equal for up to five entries. What begins at a time
+    begins before what ends at it."""
+    kept = []
+    for it in operations:
+        if it.outcome != "fail":
+            timed = Operation(it.process, it.kind, it.register, it.arguments, it.begin // 5)
+            timed.result, timed.outcome = it.result, it.outcome
+            timed.end = NEVER if it.outcome == "info" else it.end // 5
+            kept.append(timed)
+    return kept
+
+
+def table_of_times(operations):
+    return "\n".join([",".join(TIME_COLUMNS), *(it.row(None, TIME_COLUMNS) for it in operations), ""])
+
+
+def table_of_events(text, operations):
+    """The same history as a row for each of its entries."""
+    rows, at_work = [",".join(EVENT_COLUMNS)], {}
+    begins = {it.begin: it for it in operations}
+    for place, line in enumerate(text.splitlines()):
+        process = line.split(":process ")[1].split(",")[0]
+        if place in begins:
+            at_work[process] = begins[place]
+            rows.append(begins[place].row("call", EVENT_COLUMNS))
+        else:
+            rows.append(at_work.pop(process).row(line.split(":type :")[1].split(",")[0], EVENT_COLUMNS))
+    return "\n".join([*rows, ""])
+
+
+def is_said(log, begins):
+    """Whether above each record stands a comment, and each is about an operation of the text."""
+    lines = log.splitlines()
+    records = [place for place, line in enumerate(lines) if line[:4] in ("sub ", "ans ")]
+    return all(lines[place - 1].startswith(begins) for place in records) and sum(line[0] == "#" for line in lines) == len(records)
+
+
+def judged(program, converter, text, begins, wanted):
+    """What is wrong with the search of the text's log, or nothing."""
+    log = subprocess.run([sys.executable, converter], input=text, stdout=subprocess.PIPE, text=True, check=True).stdout
+    searched = subprocess.run([program, "search"], input=log, capture_output=True, text=True, check=False)
+    if not is_said(log, begins):
+        return f"{text}\n{log}\n{converter}: a record has no origin"
+    if searched.returncode != (0 if wanted else 1) or searched.stdout.startswith("none") == wanted:
+        return "%s\n%s\n%s: search has status %d and prints %s, and %s order explains it" % (
+            text, log, converter, searched.returncode, searched.stdout[:20], "an" if wanted else "no")
+    return ""
+
+
+def main(program):
     found = {True: 0, False: 0}
+    wrong = ""
     for seed in range(1, HISTORIES + 1):
         defect = (None, "stale read", None, "lost write", None, "no comparison")[seed % 6]
         counts = seed > HISTORIES - COUNTERS
         text, operations = drawn(Random(seed), counts, "lost write" if counts and defect else defect)
-        log = subprocess.run([sys.executable, converter], input=text, stdout=subprocess.PIPE, text=True, check=True).stdout
-        searched = subprocess.run([program, "search"], input=log, capture_output=True, text=True, check=False)
-        wanted = is_right(operations, ZERO if counts else INITIAL)
-        if searched.returncode != (0 if wanted else 1) or searched.stdout.startswith("none") == wanted:
-            print(text, log, sep="\n")
-            sys.exit("jepsen: history %d, %s: search has status %d and prints %s, and %s order explains it" % (
-                seed, defect or "no defect", searched.returncode, searched.stdout[:20], "an" if wanted else "no"))
+        initial = ZERO if counts else INITIAL
+        wanted = is_right(operations, initial)
+        wrong = wrong or judged(program, "examples/jepsen.py", text, "# entry ", wanted)
+        if seed % 2:
+            wrong = wrong or judged(program, "examples/csv_to_log.py", table_of_events(text, operations), "# line ", wanted)
+        else:
+            timed = coarse(operations)
+            right = is_right(timed, initial)
+            wrong = wrong or judged(program, "examples/csv_to_log.py", table_of_times(timed), "# line ", right)
+        if wrong:
+            sys.exit("%s\njepsen: history %d, %s" % (wrong, seed, defect or "no defect"))
         found[wanted] += 1
-    print("jepsen: %d histories with an order, %d with none, each as search says of its log" % (found[True], found[False]))
+    print("jepsen: %d histories with an order, %d with none, each as search says of its logs" % (found[True], found[False]))
     return 0 if min(found.values()) >= 10 else "jepsen: too few of one kind"
 
 

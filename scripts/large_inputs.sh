@@ -9,7 +9,7 @@ folder=
 if [ -d "${1:-}" ]; then
     folder=$(cd "$1" && pwd) || exit 1
 else
-    pciex=$(sh "$(dirname "$0")/program.sh" "$@") || exit 1
+    pciex=$(sh "$(dirname "$0")/program.sh" "$@") || exit
 fi
 cd "$(dirname "$0")/.." || exit 1
 room=$(mktemp -d) || exit 1
@@ -232,8 +232,8 @@ if [ -n "$folder" ]; then
     exit
 fi
 
-# within SECONDS MEGABYTES: bounds the runs that follow. A program that doesn't start in so little room, as one with checks at
-# run time, has all memory that there is.
+# within SECONDS MEGABYTES: bounds the runs that follow, in seconds of a processor. A program that doesn't start in so little
+# room, as one with checks at run time, has all memory that there is.
 within() {
     seconds=$1
     kilobytes=$(($2 * 1024))
@@ -249,7 +249,7 @@ ends() {
     what=$1 want=$2 input=$3
     shift 3
     # shellcheck disable=SC3045
-    (ulimit -v "$kilobytes" && exec timeout "$seconds" "$pciex" "$@") < "$input" > "$room/output" 2> "$room/errors"
+    (ulimit -v "$kilobytes" && ulimit -t "$seconds" && exec timeout 3600 "$pciex" "$@") < "$input" > "$room/output" 2> "$room/errors"
     status=$?
     runs=$((runs + 1))
     tail -n "$(wc -l < "$room/told")" "$room/output" > "$room/end"
@@ -325,5 +325,5 @@ ends "search on 100,000 records with a wrong answer" 1 "$room/wrong_log" search
 ends "search in pieces of 4 bytes on 100,000 records with a wrong answer" 1 "$room/wrong_log" search --granularity 4
 awk -v rounds=99 -f bench/script.awk > "$room/long_script"
 draws "chart on 100,486 lines" "$room/long_script" chart
-echo "large inputs: $runs runs, $([ $failed -eq 0 ] && echo "all as they should be" || echo "not all as they should be")"
+echo "large inputs: $runs runs, $([ $failed -eq 0 ] && echo "all as they should be" || echo "not all as they should be")" || failed=1
 exit $failed

@@ -8,7 +8,7 @@
 #     libpciex.so       a link to it, for the compiler
 set -eu
 unset CDPATH
-if [ $# -ne 3 ]; then
+if [ $# -ne 3 ] || [ -z "$1" ] || [ "${1#-}" != "$1" ]; then
     echo "usage: link_library.sh FOLDER LIBRARY_C LIBC_C" >&2
     exit 2
 fi
@@ -22,10 +22,19 @@ trap 'rm -rf "$room"' EXIT
 trap 'exit 1' HUP INT TERM
 cp "$2" "$room/library.a"
 cp "$3" "$room/kit.a"
-(cd "$room" && printf 'CREATE libpciex.a\nADDLIB library.a\nADDLIB kit.a\nSAVE\nEND\n' | ar -M)
+# quietly WORD..: runs a command. Where ar and the linker have a plugin for LLVM's modules that is older than what compiled
+# them, they say so of each member, and do without; these lines aren't shown.
+quietly() {
+    status=0
+    (cd "$room" && "$@") > "$room/said" 2>&1 || status=$?
+    grep -v '^bfd plugin: ' "$room/said" >&2 || :
+    return $status
+}
+printf 'CREATE libpciex.a\nADDLIB library.a\nADDLIB kit.a\nSAVE\nEND\n' > "$room/parts"
 echo '{ global: pciex_*; local: *; };' > "$room/exports"
-cc -shared -o "$room/$shared" "-Wl,-soname,$shared" -Wl,--version-script="$room/exports" -Wl,--no-undefined \
-    -Wl,--whole-archive "$room/libpciex.a" -Wl,--no-whole-archive
+quietly ar -M < "$room/parts"
+quietly cc -shared -o "$shared" "-Wl,-soname,$shared" -Wl,--version-script=exports -Wl,--no-undefined \
+    -Wl,--whole-archive libpciex.a -Wl,--no-whole-archive
 mkdir -p "$folder"
 install -m 644 "$room/libpciex.a" "$folder/libpciex.a"
 install -m 755 "$room/$shared" "$folder/$shared"

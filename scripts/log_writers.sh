@@ -4,21 +4,19 @@
 # memory, and none for that of the same memory when it loses additions. Then turns packets into a log. Says what it left out
 # because a tool is missing.
 unset CDPATH
-pciex=$(sh "$(dirname "$0")/program.sh" "$@") || exit 1
+pciex=$(sh "$(dirname "$0")/program.sh" "$@") || exit
 cd "$(dirname "$0")/.." || exit 1
+. scripts/left_out.sh
 say() { echo "log writers: $*"; }
 room=$(mktemp -d) || exit 1
 trap 'rm -rf "$room"' EXIT
 trap 'exit 1' HUP INT TERM
 failed=0
 logs=0
-left_out=
 
-# has_tool WORD: whether there is such a command. If not, notes that it is left out.
+# has_tool WORD: whether there is such a command. If not, says that it is left out.
 has_tool() {
-    command -v "$1" > /dev/null && return
-    left_out="$left_out, $1"
-    return 1
+    has "$1" "a testbench that writes a log"
 }
 
 # with_hook FILE LANGUAGE: the testbench with the first block in that language of the page in place of the line HOOK.
@@ -70,13 +68,20 @@ if has_tool verilator && passes "Verilator doesn't compile" verilator --binary -
     judged "the memory, Verilator" 0 verilated/Vlog_tb
     judged "a memory that loses additions, Verilator" 1 verilated/Vlog_tb +lose
 fi
-with_hook log_tb.vhd vhdl
-if has_tool ghdl && passes "GHDL doesn't compile" ghdl -a --std=08 log_tb.vhd; then
+# What the page shows of this one stands in it.
+awk '/^```/ { inside = $0 == "```vhdl"; next } inside' docs/without-the-library.md > "$room/shown"
+while read -r line; do
+    grep -qF -- "$line" c/hooks/log_tb.vhd && continue
+    say "docs/without-the-library.md shows what isn't in c/hooks/log_tb.vhd: $line"
+    failed=1
+done < "$room/shown"
+if has_tool ghdl && passes "GHDL doesn't compile" ghdl -a --std=08 "$PWD/c/hooks/log_tb.vhd"; then
     judged "the memory, GHDL" 0 ghdl --elab-run --std=08 log_tb
     judged "a memory that loses additions, GHDL" 1 ghdl --elab-run --std=08 log_tb -gloses=true
 fi
 
-# Packets: the requests of two requesters, and behind each the completion of `tlp`, if it has one.
+# Packets: a configuration read with its completion, then the requests of two requesters, and behind each the completion of
+# `tlp`, if it has one.
 for turn in $(seq 0 99); do
     tag=$(printf %02X "$turn")
     id=0$((turn % 2 + 1))00
@@ -85,11 +90,12 @@ for turn in $(seq 0 99); do
     echo "read $(printf %X $((128 + turn % 7 * 4))) 1 F 0 from $id tag $tag"
     echo "read 2000 1 F 0 from $id tag $tag"
 done | "$pciex" encode > "$room/requests"
-"$pciex" tlp < "$room/requests" | paste -d '\n' "$room/requests" - | grep -v '^-$' > "$room/packets"
+printf '04000001 0100000F 01000000\n4A000001 00000004 01000000 34121E7C\n' > "$room/packets"
+"$pciex" tlp < "$room/requests" | paste -d '\n' "$room/requests" - | grep -v '^-$' >> "$room/packets"
 # shellcheck disable=SC2016
 to_log='"$0" decode < packets | awk -f "$1" > memory.log'
 judged "packets" 0 sh -c "$to_log" "$pciex" "$PWD/examples/packets_to_log.awk"
 sed -i 's/^\(4A000001 0000[0-9]* 02006300\) .*/\1 FFFFFFFF/' "$room/packets"
 judged "packets with a wrong completion" 1 sh -c "$to_log" "$pciex" "$PWD/examples/packets_to_log.awk"
-[ $failed -ne 0 ] || say "$logs logs, each as the memory is; left out: ${left_out:-, nothing}" | sed 's/: , /: /'
+[ $failed -ne 0 ] || say "$logs logs, each as the memory is" || failed=1
 exit $failed

@@ -2,14 +2,18 @@
 # Whether the pages say of the crates what the tree has: map.sh. Fails if not. It tests that
 #   docs/crates.md has the headings and crates of crates.txt, in its order, says in at most 12 words what each does, and
 #     names functions, clauses, types and modules that the crate's src/ declares
-#   crates/README.md and docs/architecture.md have each heading as the name of a layer
+#   crates/README.md has each heading as the name of a layer
 #   where a layer's row in crates/README.md begins with names, each crate of the layer begins or ends with one of them
 #   docs/promises.md names clauses that their functions have, definitions with their number of lines, and wrong bodies
-#     that exist, in at most 25 rows, and that the rows of README.md's table of promises are its first ones
+#     that exist, in at most 25 rows, and has above its table, word for word, each sentence that README.md says is proved
 #   each contract and definition quoted in docs/reading-proofs.md stands in the file that is named last above it
 #   each record in docs/adr has its four parts, in at most 150 words
 # map.sh --write puts the numbers of lines into docs/promises.md.
 unset CDPATH
+case "$#${1:-}" in
+    0 | 1--write) ;;
+    *) echo "usage: map.sh [--write]" >&2; exit 2 ;;
+esac
 cd "$(dirname "$0")/.." || exit 1
 room=$(mktemp -d) || exit 1
 trap 'rm -rf "$room"' EXIT
@@ -34,9 +38,7 @@ if ! diff "$room/listed" "$room/rows" > "$room/differ"; then
 fi
 grep '^# ' "$room/listed" | cut -c 3- > "$room/layers"
 while read -r layer; do
-    for page in crates/README.md docs/architecture.md; do
-        grep -qiE "^[|] (\[)?$layer(\]| )" "$page" || fail "$page has no layer '$layer'"
-    done
+    grep -qiE "^[|] (\[)?$layer(\]| )" crates/README.md || fail "crates/README.md has no layer '$layer'"
 done < "$room/layers"
 # The layers whose crates have names in common, and from each of the other lines of crates.txt the crate, with its layer.
 awk -F ' [|] ' '
@@ -123,13 +125,13 @@ while read -r column text file behind; do
 done < "$room/promised"
 sed -n '/^| Layer |/,/^$/p' docs/promises.md | sed -n '3,$p' | sed 's/\[\([^]]*\)\]([^)]*)/\1/g' \
     | awk -F ' [|] ' 'NF { print $1 " | " $2 " | " $3 " |" }' > "$room/promises"
-sed -n '/^| Layer | Proved |/,/^$/p' README.md | sed -n '3,$p' | sed '/^$/d' > "$room/readme"
+sed -n '/^## What is proved$/,/^## /s/^\([0-9]\. .*\)/\1/p' README.md > "$room/readme"
+sed '/^| Layer |/,$d' docs/promises.md > "$room/above"
 [ "$(wc -l < "$room/promises")" -le 25 ] || fail "docs/promises.md has more than 25 rows"
-[ -s "$room/readme" ] || fail "README.md has no table of promises"
-if ! head -n "$(wc -l < "$room/readme")" "$room/promises" | diff - "$room/readme" > "$room/differ"; then
-    fail "the first rows of docs/promises.md (<) and those of README.md (>) differ:"
-    cat "$room/differ"
-fi
+[ "$(wc -l < "$room/readme")" -ge 3 ] || fail "README.md has no three sentences of what is proved"
+while read -r sentence; do
+    grep -qxF -- "$sentence" "$room/above" || fail "docs/promises.md doesn't have above its table: $sentence"
+done < "$room/readme"
 
 # Quoted contracts and definitions, each as a line of its file and its text.
 awk '
@@ -149,5 +151,5 @@ for record in docs/adr/*.md; do
 done
 
 [ $failed -ne 0 ] || echo "map of crates: $(grep -cv '^#' "$room/listed") crates, $(wc -l < "$room/cited") names," \
-    "$(wc -l < "$room/promises") promises, each as the pages have it"
+    "$(wc -l < "$room/promises") promises, each as the pages have it" || failed=1
 exit $failed

@@ -3,7 +3,7 @@
 # picture that is no XML, and whether docs/overlaps.svg, examples/lost_ack.svg, examples/first_script.svg and
 # examples/overtaken.svg are the pictures of their examples: pictures.sh [PROGRAM], that of program.sh if none is named.
 unset CDPATH
-pciex=$(sh "$(dirname "$0")/program.sh" "$@") || exit 1
+pciex=$(sh "$(dirname "$0")/program.sh" "$@") || exit
 cd "$(dirname "$0")/.." || exit 1
 room=$(mktemp -d) || exit 1
 trap 'rm -rf "$room"' EXIT
@@ -132,6 +132,6 @@ done
     echo "pictures: examples/overtaken.svg is not the picture of examples/overtaken.txt"
     failed=1
 }
-command -v python3 > /dev/null || echo "pictures: not parsed, since there is no python3"
-echo "pictures: $count drawn, $([ $failed -eq 0 ] && echo "all as they should be" || echo "not all as they should be")"
+command -v python3 > /dev/null || echo "left out: pictures as XML, since there is no python3"
+echo "pictures: $count drawn, $([ $failed -eq 0 ] && echo "all as they should be" || echo "not all as they should be")" || failed=1
 exit $failed

@@ -1,10 +1,14 @@
 #!/bin/sh
-# Runs built programs with each of their allocations refused in turn, and tells each run that does not end as it should.
-# `rt ci` has to have built them: it refuses no allocation itself. Without a C compiler nothing is run, and that is told.
+# Runs built programs with each of their allocations refused in turn, and tells each run that does not end as it should:
+# refused_allocations.sh [PROGRAM], that of program.sh if none is named. `rt ci` has to have built them: it refuses no
+# allocation itself. If a program is named, that of tests isn't run. Without a C compiler nothing is run, and
+# that is told.
 unset CDPATH
+pciex=$(sh "$(dirname "$0")/program.sh" "$@") || exit
+named=${1:-}
 cd "$(dirname "$0")/.." || exit 1
 if ! command -v cc > /dev/null; then
-    echo "refused allocations: left out, since there is no cc"
+    echo "left out: refused allocations, since there is no cc"
     exit 0
 fi
 room=$(mktemp -d) || exit 1
@@ -34,9 +38,12 @@ stops_for_memory() {
 }
 
 # What a run of worker threads that was refused an allocation has to be: status 1, and either `halt Memory` alone on
-# standard output or `pciex: memory` alone on the error stream; or as it is where nothing is refused.
+# standard output or `pciex: memory` alone on the error stream; or as it is where nothing is refused. Rust's own library
+# aborts where a thread's handle has no memory, and asks no allocator of the program's: so may one that is named.
 halts_for_memory() {
-    if [ "$1" -eq 1 ]; then
+    if [ "$1" -eq 134 ] && [ -n "$named" ] && [ ! -s "$room/output" ]; then
+        head -n 1 "$room/errors" | grep -q '^memory allocation of [0-9]* bytes failed'
+    elif [ "$1" -eq 1 ]; then
         [ "$(cat "$room/output" "$room/errors")" = "halt Memory" ] || [ "$(cat "$room/output" "$room/errors")" = "pciex: memory" ]
     else
         is_as_ever "$1"
@@ -79,61 +86,52 @@ each_refused() {
 }
 
 # What a run that tries each refused call again has to be: status 0, one line that tells the refusal, and else the output
-# that is written where nothing is refused; or as it is there.
+# that is written where nothing is refused; or as it is there. The line tells a refused event, or call of
+# a hall, by its number: 6, or 5 with the lane's 3.
 tries_again() {
-    if [ "$1" -eq 0 ] && [ "$(grep -c '^refused' "$room/output")" -eq 1 ]; then
-        grep -v '^refused' "$room/output" | cmp -s - "$room/whole"
-    else
-        is_as_ever "$1"
-    fi
-}
-
-# The same, where the line tells the refused event by its number: 6, or 5 with the lane's 3.
-tells_the_number() {
-    tries_again "$1" || return 1
     refused=$(grep '^refused' "$room/output")
     case $refused in
-    '' | 'refused fabric 5 0' | 'refused list 0 0' | 'refused event 6 0' | 'refused event 5 3') ;;
+    '') is_as_ever "$1"; return ;;
+    'refused fabric 5 0' | 'refused hall 2 0' | 'refused list 0 0') ;;
+    'refused event 6 0' | 'refused event 5 3' | 'refused call 6 0' | 'refused call 5 3') ;;
     *) return 1 ;;
     esac
     echo "$refused" >> "$room/refusals"
+    [ "$1" -eq 0 ] && grep -v '^refused' "$room/output" | cmp -s - "$room/whole"
 }
 
-pciex=crates/pciex/out/pciex
-if [ ! -x $pciex ]; then
-    echo "refused allocations: there is no $pciex: run rt ci first"
-    exit 1
-fi
-each_refused stops_for_memory examples/packets.txt $pciex tlp
-each_refused stops_for_memory examples/packets.txt $pciex tlp --base 0 --size 256 --block 128
-each_refused stops_for_memory examples/packets.txt $pciex tlp --size 100
-each_refused stops_for_memory examples/packets.txt $pciex tpl
-each_refused stops_for_memory examples/packets.txt $pciex step --help
-each_refused stops_for_memory examples/endpoint.txt $pciex endpoint --trace
-each_refused stops_for_memory examples/endpoint.txt $pciex endpoint --size 65536
-each_refused stops_for_memory examples/packets.txt $pciex decode
-each_refused stops_for_memory examples/words.txt $pciex encode
-each_refused stops_for_memory examples/trace.txt $pciex check
-each_refused stops_for_memory examples/trace.txt $pciex search
-each_refused stops_for_memory examples/trace.txt $pciex draw
-each_refused stops_for_memory examples/trace.txt $pciex upgrade
-each_refused stops_for_memory /dev/null $pciex generate --seed 1 --events 300 --lose 8 --corrupt 9
-each_refused stops_for_memory /dev/null $pciex sweep --seeds 1..2 --events 20 --workers 1
-each_refused stops_for_memory examples/credits_used_up.txt $pciex step --keep-going --echo
+each_refused stops_for_memory examples/packets.txt "$pciex" tlp
+each_refused stops_for_memory examples/packets.txt "$pciex" tlp --base 0 --size 256 --block 128
+each_refused stops_for_memory examples/packets.txt "$pciex" tlp --size 100
+each_refused stops_for_memory examples/packets.txt "$pciex" tpl
+each_refused stops_for_memory examples/packets.txt "$pciex" step --help
+each_refused stops_for_memory examples/endpoint.txt "$pciex" endpoint --trace
+each_refused stops_for_memory examples/endpoint.txt "$pciex" endpoint --size 65536
+each_refused stops_for_memory examples/packets.txt "$pciex" decode
+each_refused stops_for_memory examples/words.out "$pciex" decode
+each_refused stops_for_memory examples/words.txt "$pciex" encode
+each_refused stops_for_memory examples/trace.txt "$pciex" check
+each_refused stops_for_memory examples/trace.txt "$pciex" search
+each_refused stops_for_memory examples/trace.txt "$pciex" draw
+each_refused stops_for_memory examples/trace.txt "$pciex" upgrade
+each_refused stops_for_memory /dev/null "$pciex" generate --seed 1 --events 300 --lose 8 --corrupt 9
+each_refused stops_for_memory /dev/null "$pciex" sweep --seeds 1..2 --events 20 --workers 1
+each_refused stops_for_memory examples/credits_used_up.txt "$pciex" step --keep-going --echo
 for script in lost_ack write_passes_read credits_used_up stopped_link first_script; do
-    each_refused stops_for_memory examples/$script.txt $pciex step
-    each_refused stops_for_memory examples/$script.txt $pciex step --trace
-    each_refused stops_for_memory examples/$script.txt $pciex chart
+    each_refused stops_for_memory examples/$script.txt "$pciex" step
+    each_refused stops_for_memory examples/$script.txt "$pciex" step --trace
+    each_refused stops_for_memory examples/$script.txt "$pciex" chart
 done
-each_refused halts_for_memory /dev/null $pciex run --requesters 2 --each 3
-each_refused tries_again /dev/null crates/hall_tests_alloc/out/hall_tests_alloc
-: > "$room/refusals"
-each_refused tells_the_number /dev/null crates/fabric_tests_alloc/out/fabric_tests_alloc
-for numbers in '6 0' '5 3'; do
-    if ! grep -q "^refused event $numbers\$" "$room/refusals"; then
-        echo "refused allocations: no event of a fabric was refused by the numbers $numbers"
-        failed=1
-    fi
-done
-echo "refused allocations: $runs runs, $([ $failed -eq 0 ] && echo "all as they should be" || echo "not all as they should be")"
+each_refused halts_for_memory /dev/null "$pciex" run --requesters 2 --each 3
+if [ -z "$named" ]; then
+    : > "$room/refusals"
+    each_refused tries_again /dev/null crates/fabric_tests/out/fabric_tests
+    for what in 'hall 2 0' 'event 6 0' 'event 5 3' 'call 6 0' 'call 5 3'; do
+        if ! grep -q "^refused $what\$" "$room/refusals"; then
+            echo "refused allocations: no run tells 'refused $what'"
+            failed=1
+        fi
+    done
+fi
+echo "refused allocations: $runs runs, $([ $failed -eq 0 ] && echo "all as they should be" || echo "not all as they should be")" || failed=1
 exit $failed

@@ -597,8 +597,8 @@ class Judge:
 def prefix_of(count, errors):
     """How many records are told to have a history, by lines: the first record stands on line 3."""
     if count == 1:
-        return 0 if errors.startswith("pciex: line 3 has no history\n") else None
-    told = re.match("pciex: lines 3 to ([0-9]+) have no history, lines 3 to ([0-9]+) have one\n", errors)
+        return 0 if errors.startswith("pciex: record 0 is line 3: line 3 has no history\n") else None
+    told = re.match("pciex: record [0-9]+ is line [0-9]+: lines 3 to ([0-9]+) have no history, lines 3 to ([0-9]+) have one\n", errors)
     if not told or int(told.group(1)) != count + 2:
         return None
     return int(told.group(2)) - 2

@@ -9,11 +9,11 @@ folder=
 if [ -d "${1:-}" ]; then
     folder=$(cd "$1" && pwd) || exit 1
 else
-    pciex=$(sh "$(dirname "$0")/program.sh" "$@") || exit 1
+    pciex=$(sh "$(dirname "$0")/program.sh" "$@") || exit
 fi
 cd "$(dirname "$0")/.." || exit 1
 if ! command -v python3 > /dev/null; then
-    echo "searches: left out, there is no python3"
+    echo "left out: searches beside all histories, since there is no python3"
     exit 0
 fi
 export PYTHONDONTWRITEBYTECODE=1

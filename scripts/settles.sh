@@ -9,7 +9,7 @@ folder=
 if [ -d "${1:-}" ]; then
     folder=$(cd "$1" && pwd) || exit 1
 else
-    pciex=$(sh "$(dirname "$0")/program.sh" "$@") || exit 1
+    pciex=$(sh "$(dirname "$0")/program.sh" "$@") || exit
 fi
 cd "$(dirname "$0")/.." || exit 1
 number=2000

@@ -6,17 +6,18 @@
 # machines, which are two sshd on this one: one is ended by `kill -9`, and each portion stands once in the log and is ok.
 # Without GNU parallel nothing is run, and that is told.
 unset CDPATH
-pciex=$(sh "$(dirname "$0")/program.sh" "$@") || exit 1
+pciex=$(sh "$(dirname "$0")/program.sh" "$@") || exit
 cd "$(dirname "$0")/.." || exit 1
 say() { echo "sweeps: $*"; }
 for tool in parallel setsid pkill; do
     command -v $tool > /dev/null && continue
-    say "left out, there is no $tool"
+    echo "left out: sweeps, since there is no $tool"
     exit 0
 done
 room=$(mktemp -d) || exit 1
+made=
 machines=
-trap 'lose $machines; rm -rf "$room"' EXIT
+trap 'lose $machines; rm -rf "$room"; [ -z "$made" ] || rmdir /run/sshd' EXIT
 trap 'exit 1' HUP INT TERM
 failed=0
 
@@ -145,13 +146,16 @@ two_machines() {
     { [ "$on_first" -ge 1 ] && [ "$on_first" -lt 59 ]; } || wrong "two machines: the first did $on_first of 60 portions"
     shared="60 portions on two machines, of which one was lost after $on_first"
 }
-shared="more machines left out"
+shared="no more machines"
 sshd=$(PATH=$PATH:/usr/sbin:/sbin command -v sshd)
+for tool in sshd ssh; do
+    PATH=$PATH:/usr/sbin:/sbin command -v $tool > /dev/null || echo "left out: sweeps over machines, since there is no $tool"
+done
 if [ -n "$sshd" ] && command -v ssh > /dev/null; then
     ssh-keygen -q -t ed25519 -N '' -f "$room/key" && ssh-keygen -q -t ed25519 -N '' -f "$room/host_key"
     printf 'StrictHostKeyChecking no\nUserKnownHostsFile /dev/null\nLogLevel ERROR\nIdentitiesOnly yes\nIdentityFile %s\n' "$room/key" > "$room/ssh"
-    # sshd of root wants this folder, which the system makes when it starts its own.
-    [ "$(id -u)" -ne 0 ] || mkdir -p /run/sshd
+    # sshd of root wants this folder, which the system makes when it starts its own. One that is made here goes at the end.
+    [ "$(id -u)" -ne 0 ] || [ -d /run/sshd ] || { mkdir /run/sshd && made=1; }
     port=$((20000 + $$ % 20000))
     machine first $port
     machine second $((port + 1))
@@ -159,9 +163,9 @@ if [ -n "$sshd" ] && command -v ssh > /dev/null; then
     if ssh -F "$room/ssh" first true 2> "$room/errors" && ssh -F "$room/ssh" second true 2>> "$room/errors"; then
         two_machines
     else
-        say "sshd can't be used here: $(head -n 1 "$room/errors")"
+        echo "left out: sweeps over machines, since there is no sshd that starts ($(head -n 1 "$room/errors"))"
     fi
 fi
 
-say "100 portions, ended by force after $before and resumed ($again that ran then were begun again), $shared, $([ $failed -eq 0 ] && echo "all as it should be" || echo "not all as it should be")"
+say "100 portions, ended by force after $before and resumed ($again that ran then were begun again), $shared, $([ $failed -eq 0 ] && echo "all as it should be" || echo "not all as it should be")" || failed=1
 exit $failed

@@ -4,10 +4,10 @@
 # of another word have one, unless both threads loaded 0. It tells each log that is judged otherwise: this_machine.sh
 # [PROGRAM], that of program.sh if none is named.
 unset CDPATH
-pciex=$(sh "$(dirname "$0")/program.sh" "$@") || exit 1
+pciex=$(sh "$(dirname "$0")/program.sh" "$@") || exit
 cd "$(dirname "$0")/.." || exit 1
 if ! command -v cc > /dev/null; then
-    echo "this machine: left out, there is no cc"
+    echo "left out: this machine, since there is no cc"
     exit 0
 fi
 room=$(mktemp -d) || exit 1
@@ -41,5 +41,5 @@ judges split 7 1
 judges stores 1
 judges stores 10000
 
-echo "this machine: $runs logs, $([ $failed -eq 0 ] && echo "each judged as it should be" || echo "not all judged as they should be")"
+echo "this machine: $runs logs, $([ $failed -eq 0 ] && echo "each judged as it should be" || echo "not all judged as they should be")" || failed=1
 exit $failed

@@ -3,6 +3,10 @@
 # and fails if one names another.
 set -eu
 unset CDPATH
+case "$#${1:-}" in
+    0 | 1--check) ;;
+    *) echo "usage: version.sh [--check]" >&2; exit 2 ;;
+esac
 cd "$(dirname "$0")/.."
 version=$(sed -n 's/^version = "\(.*\)"$/\1/p' c/rust/Cargo.toml | head -n 1)
 failed=0

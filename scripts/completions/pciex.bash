@@ -1,6 +1,6 @@
 # Completion of `pciex` for bash, made by scripts/completions.sh from the program's help.
 _pciex() {
-    local word=${COMP_WORDS[COMP_CWORD]} words
+    local word=${COMP_WORDS[COMP_CWORD]} words files=
     case "${COMP_WORDS[COMP_CWORD - 1]}" in
         --base) words="" ;;
         --size) words="" ;;
@@ -23,6 +23,7 @@ _pciex() {
         --each) words="" ;;
         --turns) words="" ;;
         *)
+            files=1
             case "$COMP_CWORD ${COMP_WORDS[1]}" in
                 "1 "*) words="tlp endpoint decode encode check search draw upgrade step chart generate sweep run help --help --version" ;;
                 "2 help") words="tlp endpoint decode encode check search draw upgrade step chart generate sweep run help" ;;
@@ -43,5 +44,9 @@ _pciex() {
             ;;
     esac
     mapfile -t COMPREPLY < <(compgen -W "$words" -- "$word")
+    [[ $files && $COMP_CWORD -gt 1 && $word != -* ]] || return
+    case ${COMP_WORDS[1]} in
+        tlp|endpoint|decode|encode|check|search|draw|upgrade|step|chart) mapfile -t COMPREPLY < <(compgen -f -- "$word") ;;
+    esac
 }
 complete -F _pciex pciex

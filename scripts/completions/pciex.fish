@@ -1,5 +1,6 @@
 # Completion of `pciex` for fish, made by scripts/completions.sh from the program's help.
 complete -c pciex -f
+complete -c pciex -n "__fish_seen_subcommand_from tlp endpoint decode encode check search draw upgrade step chart" -F
 complete -c pciex -n "__fish_use_subcommand; or __fish_seen_subcommand_from help" -a tlp -d 'Answer request TLPs with their completions'
 complete -c pciex -n "__fish_use_subcommand; or __fish_seen_subcommand_from help" -a endpoint -d 'Act as a memory device that a root complex brings up'
 complete -c pciex -n "__fish_use_subcommand; or __fish_seen_subcommand_from help" -a decode -d 'Print TLPs and DLLPs in words'
