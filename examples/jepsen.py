@@ -4,7 +4,8 @@
 
 Each register is a word of the memory, and each value a number, `nil` 0; of a counter, which has an `add`, a value is
 itself. What becomes of each operation stands in docs/other-logs.md. Operations are `read`, `write`, `cas` and `add`, with
-or without a key; others are refused.
+or without a key; others are refused. Above each record a comment has the entry that it comes from: its `:index`, or its
+place from 0.
 """
 
 import re
@@ -65,8 +66,26 @@ class Operation:
             self.value = value[1] if isinstance(value, list) else value
 
 
-def operations(entries):
-    """What happened, in order: each operation where it was invoked, and once more where it ended."""
+def edn(form):
+    """A form, as it was written."""
+    if isinstance(form, list):
+        return "[" + " ".join(map(edn, form)) + "]"
+    return "nil" if form is None else str(form)
+
+
+def origin_of(place, entry):
+    """What is said above a record of the entry that it comes from."""
+    number = f":index {entry[':index']}" if ":index" in entry else f"entry {place}"
+    return f"{number}, process {entry[':process']}: {entry[':type']} {entry[':f']} {edn(entry.get(':value'))}"
+
+
+def comment(said):
+    """A comment of one line: what isn't printable ASCII is left out, and so is all behind 200 bytes."""
+    return "".join(c for c in f"# {said}" if " " <= c <= "~")[:200]
+
+
+def operations(entries, origin):
+    """What happened, in order: each operation where it was invoked, and once more where it ended, with the comment."""
     events, open_ones = [], {}
     for place, entry in enumerate(entries):
         try:
@@ -75,11 +94,11 @@ def operations(entries):
                 continue
             if entry[":type"] == ":invoke" and process not in open_ones:
                 open_ones[process] = Operation(entry)
-                events.append((open_ones[process], True))
+                events.append((open_ones[process], True, comment(origin(place, entry))))
             else:
                 operation = open_ones.pop(process)
                 operation.ends(entry)
-                events.append((operation, False))
+                events.append((operation, False, comment(origin(place, entry))))
         except (KeyError, IndexError, TypeError, ValueError):
             sys.exit(f"jepsen: entry {place} is none of a register test: {entry}")
     return events or sys.exit("jepsen: there is no operation")
@@ -93,7 +112,12 @@ class Log:
         self.numbers = {}  # of each operation that was submitted
 
     def bytes_of(self, value):
-        number = (value or 0) % 2**32 if self.values is None else self.values.setdefault(value, len(self.values))
+        if self.values is not None:
+            number = self.values.setdefault(value, len(self.values))
+        elif value is None or isinstance(value, int):
+            number = (value or 0) % 2**32
+        else:
+            sys.exit(f"jepsen: {edn(value)} is no number, and a counter has numbers")
         return number.to_bytes(4, "little").hex().upper()
 
     def submitted(self, operation):
@@ -106,13 +130,13 @@ class Log:
         values = operation.value if operation.kind == "cas" else [operation.value]
         return " ".join(["swap" if operation.kind == "write" else operation.kind, at, *map(self.bytes_of, values)])
 
-    def invoke(self, operation):
+    def invoke(self, operation, said):
         words = self.submitted(operation)
         if words:
             number = self.numbers[operation] = len(self.numbers)
-            self.lines.append(f"sub 1 {number} {words}")
+            self.lines += [said, f"sub 1 {number} {words}"]
 
-    def answer(self, operation):
+    def answer(self, operation, said):
         if operation.end != ":ok":
             return
         reply = "done"  # it acted, and its old value isn't known
@@ -120,7 +144,7 @@ class Log:
             reply = "data " + self.bytes_of(operation.value)
         elif operation.kind == "cas":
             reply = "data " + self.bytes_of(operation.value[0])
-        self.lines.append(f"ans 1 {self.numbers[operation]} {reply}")
+        self.lines += [said, f"ans 1 {self.numbers[operation]} {reply}"]
 
     def text(self):
         if len(self.words) > MOST_WORDS:
@@ -129,12 +153,17 @@ class Log:
         return "\n".join(["pciex-log 2", f"memory 0 {size} 64", *self.lines, "end", ""])
 
 
+def log_of(entries, origin=origin_of):
+    """The text of the log. `origin` says of an entry, by its place and itself, where it comes from."""
+    events = operations(entries, origin)
+    log = Log(any(operation.kind == "add" for operation, _, _ in events))
+    for operation, is_invoked, said in events:
+        (log.invoke if is_invoked else log.answer)(operation, said)
+    return log.text()
+
+
 def main():
-    events = operations(history(sys.stdin.read()))
-    log = Log(any(operation.kind == "add" for operation, _ in events))
-    for operation, is_invoked in events:
-        (log.invoke if is_invoked else log.answer)(operation)
-    sys.stdout.write(log.text())
+    sys.stdout.write(log_of(history(sys.stdin.read())))
 
 
 if __name__ == "__main__":

@@ -4,7 +4,7 @@
 #
 # Each Requester ID is a requester of its own, at most seven, in the order in which they occur. A completion answers the
 # request of its Requester ID and tag, of which there is one at a time, and whole: parts of a split completion are not put
-# together.
+# together. Configuration requests and their completions are left out.
 function wrong(what) {
     print "packets_to_log: line " NR " " what ": " $0 > "/dev/stderr"
     exit status = 1
@@ -19,6 +19,14 @@ $1 == "fault" { wrong("is no packet") }
     split(substr($0, match($0, / (from|to) [0-9A-F]+ tag /) + 1), words, " ")
     id = words[2]
     request = id " " words[4]
+}
+/^cfg/ {
+    configures[request]
+    next
+}
+$1 == "completion" && request in configures {
+    delete configures[request]
+    next
 }
 $1 == "completion" {
     if (!(request in number)) wrong("answers no request")
