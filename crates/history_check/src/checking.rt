@@ -105,23 +105,6 @@ pub fn check(alloc: Global, trace: &Trace, history: &[Entry]) -> Result<(), Flaw
     check_claim(alloc, &Claim { trace, history })
 }
 
-/// [`check`], and where the history explains the trace the place of the first record whose `n` is no
-/// length of the history as it grew, if there is one.
-pub fn check_with_clock(
-    alloc: Global,
-    trace: &Trace,
-    history: &[Entry],
-) -> Result<Option<usize>, Flaw>
-    ensures explained { OnOk result (Explains (claim_of trace.now history.now)) }
-    ensures unexplained { IfErr result (λ f. ¬ (f.kind ≡ FlawKind.Memory) → ¬ (Explains (claim_of trace.now history.now))) }
-    ensures clocked { IfOk result (λ place. place ≡ None → IsClocked (claim_of trace.now history.now)) }
-    ensures ok { OnOk result (first_flaw (claim_of trace.now history.now) ≡ None) }
-    ensures clock { IfOk result (λ place. first_clock_flaw (claim_of trace.now history.now) ≡ option_map (λ a. (FlawKind.Clock, a)) place) }
-    ensures err { IfErr result (Tells (first_flaw (claim_of trace.now history.now))) }
-{
-    check_claim_with_clock(alloc, &Claim { trace, history })
-}
-
 /// Whether the history explains the trace and the `n` are those of a history that grew, and else the
 /// first flaw, with `Clock` behind all others. So requests of a trace without a flaw act in real-time
 /// order: one that was answered before another was submitted acts before it.

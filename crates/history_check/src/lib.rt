@@ -26,7 +26,6 @@ mod points;
 
 pub use checking::{
     check, check_claim, check_claim_clocked, check_claim_with_clock, check_clocked,
-    check_with_clock,
 };
 use history_words::{Flaw, FlawKind};
 

@@ -187,13 +187,6 @@ impl Lane {
         self.ends.receiver.len()
     }
 
-    /// Whether no packet is in the queue.
-    pub fn is_queue_empty(&self) -> bool
-        ensures { IsTrue result ↔ (self.now.receiver.queue ≡ []) }
-    {
-        self.ends.receiver.is_empty()
-    }
-
     /// Whether there is an accepted packet at this place that may pass every earlier one.
     pub fn takeable(&self, place: usize) -> bool
         ensures { result ≡ is_takeable self.now.receiver.queue place }

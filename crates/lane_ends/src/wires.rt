@@ -68,13 +68,6 @@ impl ForwardWire {
         self.packets.is_empty()
     }
 
-    /// The packet at this place, oldest first from 0; None past the end.
-    pub fn packet_at(&self, place: usize) -> Option<&WirePacket>
-        ensures { option_map (λ p. p.now) result ≡ slice_get self.now place }
-    {
-        self.packets.get(place)
-    }
-
     /// The bytes of the packet at this place, oldest first from 0; None past the end. They are the number's two, high
     /// byte first, below four zero bits, and then those of the transaction layer packet.
     pub fn bytes_at(&self, place: usize) -> Option<ArrayVec<u8, 146>>
@@ -116,13 +109,6 @@ impl BackWire {
         ensures { IsTrue result ↔ (self.now ≡ []) }
     {
         self.dllps.is_empty()
-    }
-
-    /// The DLLP at this place, oldest first from 0; None past the end.
-    pub fn dllp_at(&self, place: usize) -> Option<Dllp>
-        ensures { result ≡ slice_get self.now place }
-    {
-        self.dllps.get(place).copied()
     }
 
     /// The four bytes of the DLLP at this place, oldest first from 0; None past the end.

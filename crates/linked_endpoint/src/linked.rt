@@ -179,16 +179,6 @@ impl LinkedEndpoint {
         &self.endpoint
     }
 
-    /// The completion that is held until it may enter the replay buffer.
-    pub fn held(&self) -> Option<TlpRef<'_>>
-        ensures { result ≡ self.now.held }
-    {
-        match &self.held {
-            Some(completion) => Some(completion.lend()),
-            None => None,
-        }
-    }
-
     /// Whether a packet that arrives now is accepted within its credits, so that its TLP goes to the device.
     pub fn would_take(&self, packet: &[u8], good: bool) -> bool
         ensures { result ≡ spec.is_taken (link.received self.now.port packet.now good) }

@@ -104,14 +104,6 @@ impl Sender {
         self.place
     }
 
-    /// REPLAY_NUM, the replays since a packet was acknowledged, 0 to 3.
-    pub fn replay_num(&self) -> u8
-        ensures value { result ≡ self.now.replays }
-        ensures two_bits { result ≤ 3 }
-    {
-        self.replays
-    }
-
     /// Whether the sender takes no packet until an Ack comes.
     pub fn is_full(&self) -> bool
         ensures { IsTrue result ↔ (2047 ≤ length self.now.kept) }
