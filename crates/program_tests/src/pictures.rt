@@ -15,8 +15,9 @@ ent 1 0 read 40 1 F 0
 end
 ",
         written: Written::Parts(&[
-            "fill=\"#C00000\" text-anchor=\"start\" pointer-events=\"none\">flaw 10 Reply 1</text>",
+            "fill=\"#C00000\" text-anchor=\"start\" pointer-events=\"none\">flaw 10 Reply 1 (line 4)</text>",
             "stroke=\"#C00000\" stroke-width=\"3\"><title>request 1:0 ",
+            "text-anchor=\"start\" pointer-events=\"none\">data 00000001, expected 00000000</text>",
             "fill=\"#C00000\" text-anchor=\"middle\" pointer-events=\"none\">Reply</text>",
         ]),
         told: "pciex: record 1 is line 4: data 00000001 where data 00000000 is expected; entry 0, line 6\n",
