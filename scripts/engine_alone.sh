@@ -27,7 +27,7 @@ mark=$folder/made-by-engine-alone
 uses='' before='' more='' beside=seq_memory
 case $engine in
     tlp)
-        crate=tlp_engine function=run_tlp_with_reasons more='
+        crate=packet_engine function=run_tlp_with_reasons more='
         extent,'
         uses='use seq_memory::Extent;'
         before='    let Some(extent) = Extent::new(0, 4096, 64) else {
@@ -35,9 +35,9 @@ case $engine in
     };'
         ;;
     endpoint)
-        crate=endpoint_engine function=run_endpoint_with_reasons beside=config_space more='
+        crate=endpoint_engine function=run_endpoint_with_reasons beside=config_core more='
         options,'
-        uses='use config_space::Setup;
+        uses='use config_core::Setup;
 use endpoint_engine::EndpointOptions;'
         before='    let Some(setup) = Setup::new(4096, 0x1234, 0x7C1E) else {
         return ExitCode::from(2);

@@ -222,10 +222,10 @@ row "two archives of one commit differ, or a sum of another archive goes" alike
 # alone WHAT: whether it refuses the folder WHAT, and leaves all files of the copy as they are.
 alone() {
     rm -rf "$room/copy"
-    mkdir -p "$room/copy/scripts" "$room/copy/crates/tlp_engine/src" "$room/target/crates/tlp_engine/src"
+    mkdir -p "$room/copy/scripts" "$room/copy/crates/packet_engine/src" "$room/target/crates/packet_engine/src"
     cp scripts/engine_alone.sh "$room/copy/scripts"
     cp crates.txt HANDLES "$room/copy"
-    echo mine > "$room/copy/crates/tlp_engine/src/mine.rt"
+    echo mine > "$room/copy/crates/packet_engine/src/mine.rt"
     ln -s "$room/target" "$room/copy/link"
     (cd "$room/copy" && find . -type f -exec cksum {} +) > "$room/before"
     (cd "$room/copy" && ! sh scripts/engine_alone.sh tlp "$1") &&

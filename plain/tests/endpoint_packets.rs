@@ -1,11 +1,11 @@
 //! TLPs as a root complex sends them.
-use config_space::Noted;
-use endpoint_packets::{Malformed, Received, Room, receive};
+use config_core::Noted;
+use endpoint_core::{Malformed, Received, PacketRoom, receive};
 use tlp_core::TlpFault;
 
 /// A name for what becomes of the bytes.
 fn name(bytes: &[u8]) -> u8 {
-    let mut room = Room::new();
+    let mut room = PacketRoom::new();
     match receive(bytes, &mut room) {
         Received::Posted(_) => b'P',
         Received::NonPosted(_) => b'N',

@@ -1,5 +1,5 @@
 //! Registers after a reset and after writes.
-use config_space::{Noted, Registers, Setup};
+use config_core::{Noted, Registers, Setup};
 
 /// What is written with which byte enables, and what is read then.
 struct Row {

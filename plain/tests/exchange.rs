@@ -2,8 +2,8 @@
 use crate::alloc;
 use dllp_core::Dllp;
 use kit::arrayvec::ArrayVec;
-use link_receiver::{Receiver, Reception};
-use replay_sender::{Cargo, Sender, WINDOW};
+use link_replay::{Receiver, Reception};
+use link_replay::{Cargo, Sender, WINDOW};
 
 /// What the receiver sends back takes effect.
 fn acknowledge(sender: &mut Sender, receiver: &mut Receiver) {

@@ -1,5 +1,5 @@
 //! Worked fates of a plan that loses one of three and fails one of three.
-use fault_plan::Plan;
+use parameters::Plan;
 use lane_core::Fate;
 
 const PLAN: Plan = Plan {

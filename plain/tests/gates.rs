@@ -2,7 +2,7 @@
 //! gate or a lack of turns ends a run.
 use crate::runs::{additions, halt_of, plan_with};
 use crate::{add, ends, read};
-use fault_plan::Plan;
+use parameters::Plan;
 use kit::sync::atomic::{AtomicBool, AtomicU64, Ordering};
 use workers::{Gate, RunHalt, RunPlan};
 

@@ -1,6 +1,6 @@
 //! Storms of `generate`: arrivals by the plan, and a writer that has no more room.
 use crate::alloc;
-use fault_plan::Plan;
+use parameters::Plan;
 use generate_engine::run_generate;
 use kit::{Vec, io};
 use lane_core::Fate;

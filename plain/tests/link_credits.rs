@@ -1,6 +1,6 @@
 //! Worked rows of flow control: needs of packets, a gate and a ledger past a wrap of their counters, limits.
 use dllp_core::{Class, Dllp, encode};
-use fc_credit::{CreditGate, CreditLedger, LaneCredits, Need, need_of};
+use flow_control::{CreditGate, CreditLedger, LaneCredits, Need, need_of};
 use tlp_core::decode;
 
 /// CAS of 16 bytes at 40h.

@@ -1,6 +1,6 @@
 //! Worked rows of a receiver: what it answers to numbers, and what it sends back.
 use dllp_core::Dllp;
-use link_receiver::{NakScheduled, Receiver, Reception};
+use link_replay::{NakScheduled, Receiver, Reception};
 use seq12::{Seq12, SequenceClass, classify};
 
 /// The next DLLP, as bytes.

@@ -1,5 +1,5 @@
 //! Values that AtomicOps leave.
-use atomic_op::{AtomicOp, apply};
+use seq_memory::{AtomicOp, apply};
 use tlp_core::Width;
 
 /// An AtomicOp, the old value, the operand's size, and the new value.

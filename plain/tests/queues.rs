@@ -3,7 +3,7 @@ use crate::alloc;
 use dllp_core::Class;
 use std::collections::VecDeque;
 use tlp_core::{Tlp, decode};
-use vc_queue::OrderedQueue;
+use flow_control::OrderedQueue;
 
 const CLASSES: [Class; 3] = [Class::Posted, Class::NonPosted, Class::Completion];
 

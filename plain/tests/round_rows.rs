@@ -2,7 +2,7 @@
 use crate::beside::{Act, Asked};
 use dllp_core::Class;
 use fabric_core::LaneName;
-use fc_credit::LaneCredits;
+use flow_control::LaneCredits;
 use hall_core::{Part, WorkEvent};
 use lane_core::{DllpKind, Fate};
 use workers::Job;

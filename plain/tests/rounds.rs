@@ -6,7 +6,7 @@ use crate::round_rows::{ANSWER, CREDITS, Call, IN, OUT, ROWS, Row, UP, UP_TWO};
 use crate::{alloc, config};
 use dllp_core::Class;
 use fabric_core::{ANSWER_ROOM, Config, Fabric, LaneName};
-use fault_plan::Plan;
+use parameters::Plan;
 use hall_core::laws::{put_back, take};
 use hall_core::{Hall, ReqSeat, WorkEvent, WorkSeat};
 use kit::sync::atomic::{AtomicU64, Ordering};

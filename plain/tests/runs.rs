@@ -1,7 +1,7 @@
 //! Runs by worker threads: additions, each counted once; mixed operations, explained as values and as text; faulty plans.
 use crate::{add, alloc, config, list};
 use fabric_core::Config;
-use fault_plan::Plan;
+use parameters::Plan;
 use history_check::check;
 use history_words::{Claim, Record};
 use kit::HostRuntime;

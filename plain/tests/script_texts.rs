@@ -2,7 +2,7 @@
 use crate::text_rows::{Row, all_right};
 use dllp_core::Class;
 use fabric_core::{Config, Event, LaneName};
-use fc_credit::LaneCredits;
+use flow_control::LaneCredits;
 use kit::HostRuntime;
 use kit::alloc::Global;
 use lane_core::{DllpKind, Fate};

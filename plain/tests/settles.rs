@@ -6,7 +6,7 @@ use fabric_settle::{Witness, settle};
 use kit::alloc::AllocError;
 use lane_core::{DllpKind, Fate, LaneCredits};
 use parameters::Storm;
-use storm_events::{Chooser, Listener};
+use generate_engine::{Chooser, Listener};
 use tlp_core::OpRef;
 
 /// All credits.

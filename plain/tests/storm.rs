@@ -1,9 +1,9 @@
 //! A lane in a storm: half of all packets and DLLPs is lost, and a third fails its check.
 use crate::alloc;
 use dllp_core::Class;
-use fault_plan::Plan;
+use parameters::Plan;
 use lane_core::{Arrival, DllpKind, Lane, LaneCredits};
-use link_receiver::Reception;
+use link_replay::Reception;
 use tlp_core::{Tlp, decode};
 
 const PLAN: Plan = Plan { lose_every: 2, corrupt_every: 3 };

@@ -8,7 +8,7 @@ use hall_core::{Hall, HallRefusal, ReqSeat, WorkEvent, WorkSeat};
 use history_check::check;
 use history_words::Record;
 use lane_core::{Arrival, DllpKind, Fate, LaneCredits};
-use link_receiver::Reception;
+use link_replay::Reception;
 use std::sync::atomic::{AtomicUsize, Ordering};
 use std::thread;
 

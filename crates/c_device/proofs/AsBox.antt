@@ -8,7 +8,7 @@ use Rattle.std_heap.specs.contracts.GlobalAllocator.TheImpl.{ghosts, dict}
 use Rattle.std_heap.proofs.Global.TheLaws as heap
 use Rattle.seq_memory.specs.contracts.memory.Memory as Memory
 use Rattle.seq_memory.proofs.memory.Memory.TheLaws as memory
-use Rattle.c_box.specs.contracts.Parts as Parts
+use Rattle.c_buffer.specs.contracts.parts.Parts as Parts
 use Rattle.c_device.specs.contracts.slot.Slot as held
 
 abbrev pub E : Bx

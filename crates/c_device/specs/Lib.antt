@@ -1,4 +1,3 @@
-pub mod Slot
 pub mod Calls
-pub use Rattle.c_buffer.specs.Buffer
-pub use Rattle.seq_memory.specs.History
+pub mod Slot
+pub mod Call

@@ -6,7 +6,7 @@ ghost use Rattle.c_buffer.specs.declared.outcome.Failure.TheVariants.{NoMemory};
 ghost use Rattle.c_device.specs.Calls.{served, service, IsRequestCall};
 
 use crate::slot::{Slot, close, open};
-use c_answer::{MAX_COMPLETION, tell_completion};
+use crate::{MAX_COMPLETION, tell_completion};
 use c_buffer::{Failure, Length};
 use completer_core::serve;
 use seq_memory::Memory;

@@ -5,8 +5,7 @@ ghost use Rattle.c_buffer.specs.declared.outcome.Failure.TheVariants.{NoMemory};
 ghost use Rattle.c_device.specs.Slot.{slot_owns, memory_coded};
 ghost use Rattle.c_device.specs.Calls.{limits};
 
-use c_box::Parts;
-use c_buffer::Failure;
+use c_buffer::{Failure, Parts};
 use seq_memory::{Extent, Memory, is_base, is_size};
 use std::alloc::Global;
 use std::marker::Model;

@@ -8,7 +8,7 @@ use Rattle.std_heap.specs.contracts.GlobalAllocator.TheImpl.{ghosts, dict}
 use Rattle.std_heap.proofs.Global.TheLaws as heap
 use Rattle.c_endpoint.specs.contracts.session.Session as Held
 use Rattle.c_endpoint.proofs.session.Session.TheLaws as laws
-use Rattle.c_box.specs.contracts.Parts as Parts
+use Rattle.c_buffer.specs.contracts.parts.Parts as Parts
 use Rattle.c_endpoint.specs.contracts.slot.Slot as held
 
 abbrev pub E : Bx

@@ -1,9 +1,9 @@
 -- A TLP for which there is no memory is not posted, so nothing is recorded of it.
 use Rattle.std.proofs.Common.{◌≡◌, ℕ, Bool, true, false, List, Result, Ok, Err, cond, IsErr, OnErr, ap₂}
 use Rattle.tlp_core.specs.Operation.{op_of}
-use Rattle.endpoint_packets.specs.Classes.{becomes}
-use Rattle.endpoint_packets.specs.declared.received.Received.{Received}
-use Rattle.endpoint_packets.specs.declared.received.Received.TheVariants as received
+use Rattle.endpoint_core.specs.Classes.{becomes}
+use Rattle.endpoint_core.specs.declared.received.Received.{Received}
+use Rattle.endpoint_core.specs.declared.received.Received.TheVariants as received
 use Rattle.endpoint_core.specs.declared.endpoint.Handled.TheVariants as handles
 use Rattle.endpoint_core.specs.EndpointView.{DeviceView, EndpointView}
 use Rattle.endpoint_core.specs.Steps.{handled, handled_as, is_claimed}

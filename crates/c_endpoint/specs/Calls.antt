@@ -2,7 +2,7 @@
 use Rattle.std.specs.Prelude.{ℕ, ⊤, nat_lt, if◌then◌else◌, List, length, Option, Some, None, Result, Ok, Err}
 use Rattle.tlp_core.specs.Layout.{canonical}
 use Rattle.tlp_core.specs.TlpView.{TlpView}
-use Rattle.config_space.specs.SetupView.{SetupView, is_size}
+use Rattle.config_core.specs.SetupView.{SetupView, is_size}
 use Rattle.endpoint_core.specs.EndpointView.{EndpointView}
 use Rattle.endpoint_core.specs.Steps.{acted, next_completion}
 use Rattle.c_buffer.specs.declared.outcome.Failure.{Failure}

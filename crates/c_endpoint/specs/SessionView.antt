@@ -1,6 +1,6 @@
 -- An endpoint and what is recorded of it, as contracts see them.
 use Rattle.std.specs.Prelude.{◌≡◌, Bool, Option, Some, None}
-use Rattle.config_space.specs.SetupView.{SetupView}
+use Rattle.config_core.specs.SetupView.{SetupView}
 use Rattle.endpoint_core.specs.EndpointView.{EndpointView}
 use Rattle.endpoint_core.specs.Steps.{new_endpoint, after_reset_of}
 use Rattle.c_recording.specs.declared.recording.Recording.{Recording}

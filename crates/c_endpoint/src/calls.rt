@@ -10,8 +10,8 @@ ghost use Rattle.c_endpoint.specs.Calls.{next_call};
 
 use crate::session::Session;
 use crate::slot::{Slot, close, open};
-use c_answer::{MAX_COMPLETION, tell_completion};
 use c_buffer::{Failure, Length, copy};
+use c_device::{MAX_COMPLETION, tell_completion};
 use c_recording::what_is_entered_and_answered_acted;
 use endpoint_core::{Handled, Room};
 

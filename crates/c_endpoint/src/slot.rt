@@ -6,10 +6,9 @@ ghost use Rattle.c_endpoint.specs.SessionView.{SessionView, new_session};
 ghost use Rattle.c_endpoint.specs.Calls.{limit, setup_with};
 
 use crate::session::Session;
-use c_box::Parts;
-use c_buffer::Failure;
+use c_buffer::{Failure, Parts};
 use c_recording::Recording;
-use config_space::Setup;
+use config_core::Setup;
 use endpoint_core::Endpoint;
 use std::alloc::Global;
 use std::marker::Model;

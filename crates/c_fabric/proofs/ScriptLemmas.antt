@@ -5,9 +5,9 @@ use Rattle.std.proofs.lemmas.Bool.Decides.{nat_tests}
 use Rattle.std.proofs.lemmas.List.{length-take-le, take_all, drop_all, take_more, take-append-drop, nil_from_length}
 use Rattle.std.proofs.lemmas.List.Sums.{fold-append}
 use Rattle.std.proofs.Math.Seq.{take-append-add, drop-append-add}
-use Rattle.text_lines.specs.Lines.{lines_of, said}
-use Rattle.text_lines.specs.LineFacts.{no_feed, lines_of-feed, lines_of-last}
-use Rattle.text_lines.specs.LineFacts.{cut-at as cut-behind}
+use Rattle.hex_text.specs.Lines.{lines_of, said}
+use Rattle.hex_text.specs.LineFacts.{no_feed, lines_of-feed, lines_of-last}
+use Rattle.hex_text.specs.LineFacts.{cut-at as cut-behind}
 use Rattle.c_buffer.specs.declared.outcome.Failure.{Failure}
 use Rattle.c_buffer.specs.declared.outcome.Failure.TheVariants.{NoMemory}
 use Rattle.c_fabric.specs.SessionView.{SessionView}

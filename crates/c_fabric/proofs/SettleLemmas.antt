@@ -2,10 +2,10 @@
 use Rattle.std.proofs.Common.{ℕ, ◌≡◌, ◌∙◌, ◌+◌, ◌<◌, ◌≤◌, Bool, if◌then◌else◌, List, [], ◌∷◌, ◌++◌, zero, suc, length, drop, get_or, fold, append_assoc, drop-cons, sym, ap, subst, arith}
 use Rattle.std.proofs.lemmas.List.{append-nil}
 use Rattle.history_words.specs.Records.{Record}
-use Rattle.fabric_laws.specs.Fabric.{Fabric, whole_of}
-use Rattle.fabric_laws.specs.Steps.{stays, goes}
-use Rattle.fabric_laws.specs.Trace.{Belongs}
-use Rattle.fabric_events.specs.Events.{Event, Seen}
+use Rattle.fabric_steps.specs.Fabric.{Fabric, whole_of}
+use Rattle.fabric_steps.specs.Steps.{stays, goes}
+use Rattle.fabric_steps.specs.Trace.{Belongs}
+use Rattle.fabric_steps.specs.Event.{Event, Seen}
 use Rattle.fabric_core.specs.Kept.{IsSoundFabric, records_of}
 use Rattle.fabric_core.specs.Answers.{Happens}
 use Rattle.fabric_settle.specs.Happenings.{Happening, Leads}

@@ -1,15 +1,15 @@
 -- The calls of a fabric: what it and the caller's buffer hold after them, and what they return.
 use Rattle.std.specs.Prelude.{ℕ, ⊤, ◌≡◌, ◌≤◌, ◌⊎◌, nat_lt, Bool, true, if◌then◌else◌, List, ◌++◌, length, fold, Option, Some, None, Result, Ok, Err, IsOk}
 use Rattle.history_words.specs.Records.{Record}
-use Rattle.fabric_laws.specs.Fabric.{Fabric}
+use Rattle.fabric_steps.specs.Fabric.{Fabric}
 use Rattle.fabric_core.specs.declared.config.Config.{Config}
 use Rattle.fabric_core.specs.declared.config.ConfigFault.{ConfigFault}
 use Rattle.fabric_core.specs.Config.{IsConfig, fault_name}
-use Rattle.fabric_events.specs.Events.{Event, Seen}
-use Rattle.fabric_events.specs.declared.fault.Refusal.{Refusal}
+use Rattle.fabric_steps.specs.Event.{Event, Seen}
+use Rattle.fabric_steps.specs.declared.fault.Refusal.{Refusal}
 use Rattle.fabric_core.specs.Kept.{records_of}
 use Rattle.fabric_core.specs.Answers.{Happens, answer, Refused}
-use Rattle.fabric_events.specs.Faults.{is_memory}
+use Rattle.fabric_steps.specs.Faults.{is_memory}
 use Rattle.fabric_core.specs.Runs.{has_record}
 use Rattle.fabric_core.specs.New.{config_fault}
 use Rattle.fabric_settle.specs.Happenings.{Happening, Leads}

@@ -1,6 +1,6 @@
 -- A script's lines, done one after the other into one buffer.
 use Rattle.std.specs.Prelude.{ℕ, ⊤, ◌≡◌, ◌+◌, ◌<◌, nat_lt, Bool, false, if◌then◌else◌, List, [], ◌∷◌, ◌++◌, length, take, drop, slice_set, fold, Option, Some, Result, Ok, Err}
-use Rattle.text_lines.specs.Lines.{lines_of, said, is_skipped}
+use Rattle.hex_text.specs.Lines.{lines_of, said, is_skipped}
 use Rattle.c_buffer.specs.declared.outcome.Failure.{Failure}
 use Rattle.c_buffer.specs.declared.outcome.Failure.TheVariants.{SmallBuffer}
 use Rattle.c_fabric.specs.SessionView.{SessionView}

@@ -2,7 +2,7 @@
 ghost use Rattle.std.specs.Prelude.{◌≡◌, ◌≤◌, List, Some, Err, IsErr, true, false, length, IfErr, OnOk, OnErr};
 ghost use Rattle.history_words.specs.Records as records;
 ghost use Rattle.fabric_core.specs.Answers.{answer};
-ghost use Rattle.fabric_events.specs.Faults.{is_memory, IsTold};
+ghost use Rattle.fabric_steps.specs.Faults.{is_memory, IsTold};
 ghost use Rattle.script_text.specs.Names.{refusal_text};
 ghost use Rattle.c_buffer.specs.declared.outcome.Failure.TheVariants.{Text, NoMemory};
 ghost use Rattle.c_buffer.specs.Buffer.{filled, is_silent};
@@ -16,8 +16,8 @@ use arrayvec::ArrayString;
 use c_buffer::{Failure, LINE_BUFFER, Length, tell, tell_fault};
 use fabric_core::laws::{each_event_has_one_answer, each_event_keeps_it_sound};
 use fabric_core::{EventRef, Fabric, Refusal};
-use fabric_laws::laws::the_trace_belongs;
 use fabric_settle::happen;
+use fabric_steps::laws::the_trace_belongs;
 use script_text::{Line, read_line, write_refusal};
 use tlp_core::MAX_PAYLOAD;
 

@@ -3,7 +3,7 @@ ghost use Rattle.std.specs.Prelude.{◌≡◌, ◌↔◌, IsTrue, true, Some, Er
 ghost use Rattle.seq_memory.specs.History.{bytes_of};
 ghost use Rattle.history_words.specs.Trace.{Explains};
 ghost use Rattle.trace_text.specs.Texts.{trace_text};
-ghost use Rattle.fabric_laws.specs.Trace.{submitted_by};
+ghost use Rattle.fabric_steps.specs.Trace.{submitted_by};
 ghost use Rattle.fabric_core.specs.Quiet.{IsQuiet};
 ghost use Rattle.c_buffer.specs.declared.outcome.Failure.TheVariants.{NoMemory};
 ghost use Rattle.c_buffer.specs.Buffer.{copied};
@@ -12,7 +12,7 @@ ghost use Rattle.c_fabric.specs.SessionView.{SessionView, claim};
 use crate::session::Session;
 use crate::slot::{Slot, close, open};
 use c_buffer::{Failure, copy};
-use fabric_laws::laws::the_trace_belongs;
+use fabric_steps::laws::the_trace_belongs;
 use history_words::Claim;
 use std::alloc::{AllocError, Global};
 use std::mem;

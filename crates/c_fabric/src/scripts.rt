@@ -1,6 +1,6 @@
 //! Scripts.
 ghost use Rattle.std.specs.Prelude.{◌≡◌, ◌≤◌, ◌+◌, ◌∷◌, ◌++◌, Some, Err, IsOk, IfOk, length, take, drop};
-ghost use Rattle.text_lines.specs.Lines.{lines_of, said};
+ghost use Rattle.hex_text.specs.Lines.{lines_of, said};
 ghost use Rattle.c_buffer.specs.declared.outcome.Failure.TheVariants.{NoMemory};
 ghost use Rattle.c_fabric.specs.SessionView.{SessionView};
 ghost use Rattle.c_fabric.specs.Scripts.{line_call, IsLineCall, script_call, IsLeftBy, IsCutShort};
@@ -9,8 +9,8 @@ use crate::happening::happen_by;
 use crate::session::Session;
 use crate::slot::{Slot, close, open};
 use c_buffer::{Failure, LINE_BUFFER};
+use hex_text::{is_skipped, without_return};
 use memchr::memchr;
-use text_lines::{is_skipped, without_return};
 
 /// How many bytes the first line of a text has, with the line feed that ends it.
 fn first_line(text: &[u8]) -> usize

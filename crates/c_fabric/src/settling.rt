@@ -1,7 +1,7 @@
 //! Settlements.
 ghost use Rattle.std.specs.Prelude.{◌≡◌, ◌≢◌, ℕ, Some, Err, fold, slice_get, IsOk, IsErr, IfErr, IfOk, OnOk, length};
 ghost use Rattle.requester_core.specs.RequesterView.{RequesterView};
-ghost use Rattle.fabric_laws.specs.Whole.{open_number};
+ghost use Rattle.fabric_steps.specs.Whole.{open_number};
 ghost use Rattle.fabric_core.specs.Quiet.{IsQuiet};
 ghost use Rattle.fabric_settle.specs.Rounds.{settlement};
 ghost use Rattle.c_buffer.specs.declared.outcome.Failure.TheVariants.{NoMemory};
@@ -16,8 +16,8 @@ use arrayvec::ArrayString;
 use c_buffer::{Failure, copy};
 use fabric_core::Fabric;
 use fabric_core::laws::each_event_keeps_it_sound;
-use fabric_laws::laws::the_trace_belongs;
 use fabric_settle::settle;
+use fabric_steps::laws::the_trace_belongs;
 use history_words::Record;
 use script_text::write_told;
 use std::alloc::{AllocError, Global};

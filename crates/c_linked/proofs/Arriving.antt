@@ -3,9 +3,9 @@ use Rattle.std.proofs.Common.{◌≡◌, ℕ, Bool, true, false, cond, List, Opt
 use Rattle.std.specs.Prelude.{is_some}
 use Rattle.tlp_core.specs.Ops.{Op}
 use Rattle.tlp_core.specs.Operation.{op_of}
-use Rattle.endpoint_packets.specs.Classes.{becomes}
-use Rattle.endpoint_packets.specs.declared.received.Received.{Received}
-use Rattle.endpoint_packets.specs.declared.received.Received.TheVariants as received
+use Rattle.endpoint_core.specs.Classes.{becomes}
+use Rattle.endpoint_core.specs.declared.received.Received.{Received}
+use Rattle.endpoint_core.specs.declared.received.Received.TheVariants as received
 use Rattle.endpoint_core.specs.declared.endpoint.Handled.TheVariants as handles
 use Rattle.endpoint_core.specs.EndpointView.{DeviceView, EndpointView}
 use Rattle.endpoint_core.specs.Steps as device

@@ -3,17 +3,17 @@ use Rattle.std.proofs.Common.{◌≡◌, ◌∙◌, ℕ, suc, Bool, true, false,
 use Rattle.tlp_core.specs.Bits.{IsBytes}
 use Rattle.tlp_core.specs.TlpView.{TlpView}
 use Rattle.history_words.specs.Claim.{Claim}
-use Rattle.fc_credit.specs.declared.limits.LaneCredits.{LaneCredits}
+use Rattle.flow_control.specs.declared.limits.LaneCredits.{LaneCredits}
 use Rattle.port_core.specs.declared.fault.EnterRefusal.{EnterRefusal}
 use Rattle.port_core.specs.declared.incoming.Received.{Received}
 use Rattle.port_core.specs.declared.incoming.Received.TheVariants as arrivals
 use Rattle.port_core.specs.Incoming.{tlp_in}
 use Rattle.port_core.specs.Port.{PortView, received, after_receive}
-use Rattle.config_space.specs.SetupView.{SetupView}
+use Rattle.config_core.specs.SetupView.{SetupView}
 use Rattle.endpoint_core.specs.EndpointView.{EndpointView}
 use Rattle.endpoint_core.specs.Steps as device
 use Rattle.endpoint_core.specs.Runs as devices
-use Rattle.endpoint_packets.specs.Classes.{becomes}
+use Rattle.endpoint_core.specs.Classes.{becomes}
 use Rattle.endpoint_log.specs.LogView.{LogView}
 use Rattle.endpoint_log.specs.Steps as log
 use Rattle.endpoint_laws.specs.Runs as laws

@@ -1,7 +1,7 @@
 -- What an endpoint behind its link is made with.
 use Rattle.std.specs.Prelude.{ℕ, ⊤, ◌&&◌, Bool, nat_le, if◌then◌else◌, Result, Ok, Err}
-use Rattle.fc_credit.specs.declared.limits.LaneCredits.{LaneCredits}
-use Rattle.config_space.specs.SetupView.{SetupView, is_size}
+use Rattle.flow_control.specs.declared.limits.LaneCredits.{LaneCredits}
+use Rattle.config_core.specs.SetupView.{SetupView, is_size}
 use Rattle.c_linked.specs.SessionView.{SessionView, new_session}
 use Rattle.c_linked.specs.declared.setup.FiniteCredits.{FiniteCredits}
 use Rattle.c_linked.specs.declared.setup.LinkedSetup.{LinkedSetup}

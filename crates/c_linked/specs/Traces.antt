@@ -1,8 +1,8 @@
 -- The trace and the history of an endpoint behind its link.
 use Rattle.std.specs.Prelude.{List}
-use Rattle.fc_credit.specs.declared.limits.LaneCredits.{LaneCredits}
+use Rattle.flow_control.specs.declared.limits.LaneCredits.{LaneCredits}
 use Rattle.history_words.specs.Claim.{Claim}
-use Rattle.config_space.specs.SetupView.{SetupView}
+use Rattle.config_core.specs.SetupView.{SetupView}
 use Rattle.endpoint_log.specs.Steps.{new_log}
 use Rattle.linked_endpoint.specs.Linked.{new_linked}
 use Rattle.linked_endpoint.specs.Runs.{Call}

@@ -1,10 +1,10 @@
 //! What holds of the trace and the history of an endpoint behind its link, whatever its peer and the wires do.
 ghost use Rattle.std.specs.Prelude.{◌≡◌, List, None, true};
-ghost use Rattle.fc_credit.specs.declared.limits.LaneCredits.{LaneCredits};
+ghost use Rattle.flow_control.specs.declared.limits.LaneCredits.{LaneCredits};
 ghost use Rattle.history_words.specs.Clocks.{IsClocked};
 ghost use Rattle.history_words.specs.Flaws.{first_flaw_clocked};
 ghost use Rattle.history_words.specs.Trace.{Explains};
-ghost use Rattle.config_space.specs.SetupView.{SetupView, is_size};
+ghost use Rattle.config_core.specs.SetupView.{SetupView, is_size};
 ghost use Rattle.linked_endpoint.specs.Runs.{Call, AreCalls};
 ghost use Rattle.c_linked.specs.Traces.{claim_after};
 

@@ -1,12 +1,12 @@
 //! What an endpoint behind its link is made with.
 ghost use Rattle.std.specs.Prelude.{◌≡◌, true, false, IfOk, IfErr};
-ghost use Rattle.config_space.specs.SetupView.{is_size};
-ghost use Rattle.fc_credit.specs.Limits.{IsInLimits};
+ghost use Rattle.config_core.specs.SetupView.{is_size};
+ghost use Rattle.flow_control.specs.Limits.{IsInLimits};
 ghost use Rattle.c_linked.specs.declared.setup.NewFailure.TheVariants.{WrongSize, WrongCredits};
 ghost use Rattle.c_linked.specs.Making as spec;
 
-use config_space::Setup;
-use fc_credit::LaneCredits;
+use config_core::Setup;
+use flow_control::LaneCredits;
 
 /// The credits that an endpoint advertises, in header units and in data units of 16 bytes. They are finite, so what waits
 /// is bounded whatever the peer sends. Those of completions are infinite, since it has no requests.

@@ -1,6 +1,6 @@
 //! Slots.
 ghost use Rattle.std.specs.Prelude.{◌≡◌, ◌⊎◌, Option, Some, Ok, Err, IsOk, IsErr};
-ghost use Rattle.fc_credit.specs.Limits.{IsInLimits};
+ghost use Rattle.flow_control.specs.Limits.{IsInLimits};
 ghost use Rattle.c_linked.specs.SessionView.{SessionView, new_session};
 ghost use Rattle.c_linked.specs.declared.setup.NewFailure.TheVariants.{NoMemory};
 ghost use Rattle.c_linked.specs.Slot.{slot_owns, session_coded};
@@ -8,10 +8,10 @@ ghost use Rattle.c_linked.specs.Making.{limit, session_of};
 
 use crate::session::Session;
 use crate::setup::{LinkedSetup, NewFailure};
-use c_box::Parts;
+use c_buffer::Parts;
 use c_recording::Recording;
-use config_space::Setup;
-use fc_credit::LaneCredits;
+use config_core::Setup;
+use flow_control::LaneCredits;
 use linked_endpoint::LinkedEndpoint;
 use std::alloc::Global;
 use std::marker::Model;

@@ -8,7 +8,7 @@ use Rattle.std_heap.specs.contracts.GlobalAllocator.TheImpl.{ghosts, dict}
 use Rattle.std_heap.proofs.Global.TheLaws as heap
 use Rattle.monitor_ports.specs.contracts.monitor.Monitor as Monitor
 use Rattle.monitor_ports.proofs.monitor.Monitor.TheLaws as monitor
-use Rattle.c_box.specs.contracts.Parts as Parts
+use Rattle.c_buffer.specs.contracts.parts.Parts as Parts
 use Rattle.c_monitor.specs.contracts.slot.Slot as held
 
 abbrev pub E : Bx

@@ -11,8 +11,7 @@ ghost use Rattle.c_monitor.specs.Slot.{slot_owns, monitor_coded};
 ghost use Rattle.c_monitor.specs.Calls.{made, making, AsksFor, IsMonitorCall};
 
 use arrayvec::ArrayString;
-use c_box::Parts;
-use c_buffer::{Failure, LINE_BUFFER, Length, tell};
+use c_buffer::{Failure, LINE_BUFFER, Length, Parts, tell};
 use c_device::extent_of;
 use monitor_ports::{Head, Monitor, read_head, write_head};
 use std::alloc::Global;

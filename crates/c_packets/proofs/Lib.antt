@@ -1,1 +1,1 @@
-mod FieldLemmas
+pub mod FieldLemmas

@@ -1,3 +1,3 @@
 pub mod Fields
 pub mod Words
-pub use Rattle.c_buffer.specs.Buffer
+pub mod Crcs

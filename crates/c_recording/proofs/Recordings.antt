@@ -2,8 +2,8 @@
 use Rattle.std.proofs.Common.{◌≡◌, ◌∙◌, ℕ, false, Option, Result, Ok, Err, is_err, OnOk, inl, inr, refl, ap, subst}
 use Rattle.std.specs.Prelude.{◌⊎◌}
 use Rattle.tlp_core.specs.TlpView.{TlpView}
-use Rattle.endpoint_packets.specs.declared.received.Received.{Received}
-use Rattle.endpoint_packets.specs.declared.received.Received.TheVariants as received
+use Rattle.endpoint_core.specs.declared.received.Received.{Received}
+use Rattle.endpoint_core.specs.declared.received.Received.TheVariants as received
 use Rattle.endpoint_core.specs.EndpointView.{DeviceView, EndpointView}
 use Rattle.endpoint_core.specs.Steps.{next_completion}
 use Rattle.endpoint_log.specs.LogView.{LogView}

@@ -1,9 +1,9 @@
 -- What is recorded of an endpoint, until memory for a record runs out.
 use Rattle.std.specs.Prelude.{ℕ, ◌≡◌, ◌⊎◌, Bool, if◌then◌else◌, List, [], Option}
-use Rattle.config_space.specs.SetupView.{SetupView}
+use Rattle.config_core.specs.SetupView.{SetupView}
 use Rattle.endpoint_core.specs.EndpointView.{EndpointView}
 use Rattle.endpoint_log.specs.LogView.{LogView}
-use Rattle.endpoint_packets.specs.Classes.{becomes}
+use Rattle.endpoint_core.specs.Classes.{becomes}
 use Rattle.endpoint_log.specs.Steps as log
 use Rattle.trace_text.specs.Texts.{trace_text}
 use Rattle.c_recording.specs.declared.recording.Recording.{Recording}

@@ -1,14 +1,13 @@
 //! What is recorded of an endpoint.
 ghost use Rattle.std.specs.Prelude.{◌≡◌, OnOk, IsErr};
-ghost use Rattle.endpoint_packets.specs.Classes.{becomes};
+ghost use Rattle.endpoint_core.specs.Classes.{becomes};
 ghost use Rattle.endpoint_log.specs.Steps as steps;
 ghost use Rattle.endpoint_log.specs.Steps.{IsPosted};
 ghost use Rattle.c_recording.specs.Recordings as spec;
 
-use config_space::Setup;
-use endpoint_core::Endpoint;
+use config_core::Setup;
+use endpoint_core::{Endpoint, PacketRoom};
 use endpoint_log::Log;
-use endpoint_packets::Room;
 use std::alloc::{AllocError, Global};
 use tlp_core::TlpRef;
 
@@ -28,7 +27,7 @@ fn come_in(log: &mut Log, endpoint: &Endpoint, tlp: &[u8]) -> Result<(), AllocEr
     ensures ok { OnOk result (log.new ≡ steps.came endpoint.now.device (becomes tlp.now) log.old) }
     ensures err { IsErr result → IsPosted (becomes tlp.now) }
 {
-    log.come(endpoint, tlp, &mut Room::new())
+    log.come(endpoint, tlp, &mut PacketRoom::new())
 }
 
 /// Records the answer of the block request with that number, if there are both.

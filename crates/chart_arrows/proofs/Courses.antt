@@ -1,7 +1,7 @@
 -- The courses of a chart, one for each place.
 use Rattle.std.proofs.Common.{◌≡◌, ◌∙◌, ◌≢◌, ℕ, List, refl, ap, Option, Some, None}
 use Rattle.std.specs.Prelude.{slice_get}
-use Rattle.fabric_events.specs.declared.event.LaneName.{LaneName}
+use Rattle.fabric_steps.specs.declared.event.LaneName.{LaneName}
 use Rattle.chart_links.specs.CourseView.{CourseView}
 use Rattle.chart_links.specs.Lanes.{place_of, changed_found, changed}
 use Rattle.chart_arrows.proofs.Parts.{get_set_other, get_set_same}

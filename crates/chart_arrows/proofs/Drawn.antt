@@ -5,25 +5,25 @@ use Rattle.seq12.specs.Numbers.{distance_of}
 use Rattle.seq_memory.specs.Entries.{Entry}
 use Rattle.dllp_core.specs.declared.packet.Dllp.{Dllp}
 use Rattle.dllp_core.specs.declared.packet.Dllp.TheVariants.{Ack, Nak, Update}
-use Rattle.replay_sender.specs.declared.fault.AckFault.{AckFault}
-use Rattle.replay_sender.specs.CargoView.{CargoView}
-use Rattle.replay_sender.specs.SenderView.{SenderView, next_item, acknowledged as dropped, from_oldest}
-use Rattle.vc_queue.specs.Queue.{Item}
-use Rattle.lane_ends.specs.declared.packet.WirePacket.{WirePacket}
-use Rattle.lane_ends.specs.declared.packet.Fate.{Fate}
-use Rattle.lane_ends.specs.declared.packet.Fate.TheVariants.{Good, Failed, Lost}
-use Rattle.lane_ends.specs.declared.packet.Arrival.{Arrival}
-use Rattle.lane_ends.specs.declared.packet.DllpSeen.{DllpSeen}
-use Rattle.lane_ends.specs.declared.packet.DllpSeen.TheVariants as told_as
-use Rattle.lane_ends.specs.Steps.{LaneEndsView, SenderEndView, all_but_first, is_expected, seen_by, dllp_seen, sender_after, after_timer, sending_told}
-use Rattle.fabric_laws.specs.Fabric.{Fabric}
-use Rattle.fabric_events.specs.declared.event.EventOf.TheVariants as events
-use Rattle.fabric_events.specs.declared.event.LaneName.{LaneName}
-use Rattle.fabric_events.specs.declared.event.LaneName.TheVariants as lanes
-use Rattle.fabric_events.specs.declared.event.LinkEvent.TheVariants as links
-use Rattle.fabric_events.specs.Events.{Seen}
-use Rattle.fabric_events.specs.declared.event.SeenOf.TheVariants as seen
-use Rattle.fabric_events.specs.declared.fault.Refusal.TheVariants as refusals
+use Rattle.link_replay.specs.declared.fault.AckFault.{AckFault}
+use Rattle.link_replay.specs.CargoView.{CargoView}
+use Rattle.link_replay.specs.SenderView.{SenderView, next_item, acknowledged as dropped, from_oldest}
+use Rattle.flow_control.specs.Queue.{Item}
+use Rattle.lane_core.specs.declared.packet.WirePacket.{WirePacket}
+use Rattle.lane_core.specs.declared.packet.Fate.{Fate}
+use Rattle.lane_core.specs.declared.packet.Fate.TheVariants.{Good, Failed, Lost}
+use Rattle.lane_core.specs.declared.packet.Arrival.{Arrival}
+use Rattle.lane_core.specs.declared.packet.DllpSeen.{DllpSeen}
+use Rattle.lane_core.specs.declared.packet.DllpSeen.TheVariants as told_as
+use Rattle.lane_core.specs.Steps.{LaneEndsView, SenderEndView, all_but_first, is_expected, seen_by, dllp_seen, sender_after, after_timer, sending_told}
+use Rattle.fabric_steps.specs.Fabric.{Fabric}
+use Rattle.fabric_steps.specs.declared.event.EventOf.TheVariants as events
+use Rattle.fabric_steps.specs.declared.event.LaneName.{LaneName}
+use Rattle.fabric_steps.specs.declared.event.LaneName.TheVariants as lanes
+use Rattle.fabric_steps.specs.declared.event.LinkEvent.TheVariants as links
+use Rattle.fabric_steps.specs.Event.{Seen}
+use Rattle.fabric_steps.specs.declared.event.SeenOf.TheVariants as seen
+use Rattle.fabric_steps.specs.declared.fault.Refusal.TheVariants as refusals
 use Rattle.fabric_core.specs.Answers.{and_then, map_err, some_or, deliver_dllp_on, timer_on, with_lane, answer}
 use Rattle.fabric_core.specs.Answers as parts
 use Rattle.chart_rows.specs.declared.row.Carried.{Carried}

@@ -8,24 +8,24 @@ use Rattle.tlp_core.specs.Operation.{op_of}
 use Rattle.seq_memory.specs.Entries.{Entry}
 use Rattle.dllp_core.specs.declared.packet.Dllp.{Dllp}
 use Rattle.dllp_core.specs.declared.packet.Dllp.TheVariants.{Ack, Nak, Update}
-use Rattle.replay_sender.specs.declared.fault.AckFault.{AckFault}
-use Rattle.replay_sender.specs.CargoView.{CargoView}
-use Rattle.replay_sender.specs.SenderView.{SenderView, next_item, number_at, acknowledged as dropped, from_oldest}
-use Rattle.link_receiver.specs.declared.receiver.Reception.TheVariants.{Accept, Duplicate, NakNow, Quiet}
-use Rattle.switch_ports.specs.Routing.{port_of}
-use Rattle.vc_queue.specs.Queue.{Item}
-use Rattle.lane_ends.specs.declared.packet.WirePacket.{WirePacket}
-use Rattle.lane_ends.specs.declared.packet.Fate.{Fate}
-use Rattle.lane_ends.specs.declared.packet.Fate.TheVariants.{Good, Failed, Lost}
-use Rattle.lane_ends.specs.declared.packet.Arrival.{Arrival}
-use Rattle.lane_ends.specs.declared.packet.Arrival.TheVariants.{Answered, Gone}
-use Rattle.lane_ends.specs.declared.packet.DllpSeen.{DllpSeen}
-use Rattle.lane_ends.specs.declared.packet.DllpSeen.TheVariants as seen
-use Rattle.lane_ends.specs.declared.packet.DllpKind.{DllpKind}
-use Rattle.lane_ends.specs.Content.{cargo_of, item_spelled}
-use Rattle.lane_ends.specs.Steps.{LaneEndsView, ReceiverEndView, all_but_first, packets_sent, entered as entered_at, after_transmission, wire_after_transmit, arrival_of, queue_with, after_arrival, delivered, after_deliver, dllp_of, after_send, wire_after_send, sender_after, is_expected, seen_by, dllp_seen, sending_told, after_timer, after_retraining, after_take}
-use Rattle.fc_credit.specs.Account.{gate_told}
-use Rattle.fc_credit.specs.Credits.{CreditGateView}
+use Rattle.link_replay.specs.declared.fault.AckFault.{AckFault}
+use Rattle.link_replay.specs.CargoView.{CargoView}
+use Rattle.link_replay.specs.SenderView.{SenderView, next_item, number_at, acknowledged as dropped, from_oldest}
+use Rattle.link_replay.specs.declared.receiver.Reception.TheVariants.{Accept, Duplicate, NakNow, Quiet}
+use Rattle.switch_core.specs.Routing.{port_of}
+use Rattle.flow_control.specs.Queue.{Item}
+use Rattle.lane_core.specs.declared.packet.WirePacket.{WirePacket}
+use Rattle.lane_core.specs.declared.packet.Fate.{Fate}
+use Rattle.lane_core.specs.declared.packet.Fate.TheVariants.{Good, Failed, Lost}
+use Rattle.lane_core.specs.declared.packet.Arrival.{Arrival}
+use Rattle.lane_core.specs.declared.packet.Arrival.TheVariants.{Answered, Gone}
+use Rattle.lane_core.specs.declared.packet.DllpSeen.{DllpSeen}
+use Rattle.lane_core.specs.declared.packet.DllpSeen.TheVariants as seen
+use Rattle.lane_core.specs.declared.packet.DllpKind.{DllpKind}
+use Rattle.lane_core.specs.Content.{cargo_of, item_spelled}
+use Rattle.lane_core.specs.Steps.{LaneEndsView, ReceiverEndView, all_but_first, packets_sent, entered as entered_at, after_transmission, wire_after_transmit, arrival_of, queue_with, after_arrival, delivered, after_deliver, dllp_of, after_send, wire_after_send, sender_after, is_expected, seen_by, dllp_seen, sending_told, after_timer, after_retraining, after_take}
+use Rattle.flow_control.specs.Account.{gate_told}
+use Rattle.flow_control.specs.Credits.{CreditGateView}
 use Rattle.chart_rows.specs.declared.row.Carried.{Carried}
 use Rattle.chart_rows.specs.declared.row.PacketSent.{PacketSent}
 use Rattle.chart_rows.specs.declared.row.DllpSent.{DllpSent}

@@ -3,16 +3,16 @@ use Rattle.std.proofs.Common.{◌≡◌, ◌∙◌, ℕ, zero, suc, ◌+◌, ◌
 use Rattle.std.specs.Prelude.{replicate, slice_get}
 use Rattle.std.proofs.lemmas.List.{append-nil}
 use Rattle.seq_memory.specs.Entries.{Entry}
-use Rattle.fc_credit.specs.declared.limits.LaneCredits.{LaneCredits}
-use Rattle.lane_ends.specs.Steps.{LaneEndsView, new_lane}
-use Rattle.fabric_laws.specs.Fabric.{Fabric}
-use Rattle.fabric_laws.specs.Routed.{IsRouted}
+use Rattle.flow_control.specs.declared.limits.LaneCredits.{LaneCredits}
+use Rattle.lane_core.specs.Steps.{LaneEndsView, new_lane}
+use Rattle.fabric_steps.specs.Fabric.{Fabric}
+use Rattle.fabric_steps.specs.Routed.{IsRouted}
 use Rattle.fabric_core.specs.declared.config.Config.{Config}
-use Rattle.fabric_events.specs.Events.{Event, Seen}
-use Rattle.fabric_events.specs.declared.event.EventOf.TheVariants as events
-use Rattle.fabric_events.specs.declared.event.LaneName.{LaneName}
-use Rattle.fabric_events.specs.declared.event.LaneName.TheVariants as lanes
-use Rattle.fabric_events.specs.declared.fault.Refusal.TheVariants as refusals
+use Rattle.fabric_steps.specs.Event.{Event, Seen}
+use Rattle.fabric_steps.specs.declared.event.EventOf.TheVariants as events
+use Rattle.fabric_steps.specs.declared.event.LaneName.{LaneName}
+use Rattle.fabric_steps.specs.declared.event.LaneName.TheVariants as lanes
+use Rattle.fabric_steps.specs.declared.fault.Refusal.TheVariants as refusals
 use Rattle.fabric_core.specs.Answers.{part_at, answer, Happens, Fits}
 use Rattle.fabric_core.specs.Answers as parts
 use Rattle.fabric_core.specs.Config.{IsNewWith, AreNewLanes, down_credits}

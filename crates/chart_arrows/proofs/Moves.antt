@@ -4,9 +4,9 @@ use Rattle.std.specs.Prelude.{◌==◌, if◌then◌else◌, slice_get}
 use Rattle.std.proofs.lemmas.List.{append-nil}
 use Rattle.std.proofs.lemmas.Bool.Decides.{eqb_tells}
 use Rattle.dllp_core.specs.declared.packet.Dllp.TheVariants as dllps
-use Rattle.lane_ends.specs.declared.packet.DllpSeen.{DllpSeen}
-use Rattle.lane_ends.specs.declared.packet.DllpSeen.TheVariants as dllps_seen
-use Rattle.fabric_events.specs.declared.event.LaneName.{LaneName}
+use Rattle.lane_core.specs.declared.packet.DllpSeen.{DllpSeen}
+use Rattle.lane_core.specs.declared.packet.DllpSeen.TheVariants as dllps_seen
+use Rattle.fabric_steps.specs.declared.event.LaneName.{LaneName}
 use Rattle.chart_links.specs.CourseView.{CourseView, without_back, told}
 use Rattle.chart_links.specs.Lanes.{place_of, changed_found, changed, asked_found}
 use Rattle.chart_arrows.proofs.Lists.{map_more}

@@ -13,19 +13,19 @@ use Rattle.requester_core.specs.Answers.{Answer}
 use Rattle.requester_core.specs.declared.fault.SubmitRefusal.{SubmitRefusal}
 use Rattle.requester_core.specs.Request.{request_for}
 use Rattle.requester_core.specs.RequesterView.{RequesterView, tag_for, lacks_tag, prepared, prepared_by, after_opened, finished, after_finish}
-use Rattle.switch_ports.specs.Routing.{port_of}
-use Rattle.vc_queue.specs.Queue.{Item, is_takeable}
-use Rattle.lane_ends.specs.Content.{cargo_of, item_spelled}
-use Rattle.lane_ends.specs.Steps.{LaneEndsView, ReceiverEndView, SenderEndView, entered as entered_at, after_take}
-use Rattle.fabric_laws.specs.Fabric.{Fabric}
-use Rattle.fabric_laws.specs.Routed.{IsRouted}
-use Rattle.fabric_events.specs.declared.event.EventOf.TheVariants as events
-use Rattle.fabric_events.specs.declared.event.LaneName.{LaneName}
-use Rattle.fabric_events.specs.declared.event.LaneName.TheVariants as lanes
-use Rattle.fabric_events.specs.Events.{Seen}
-use Rattle.fabric_events.specs.declared.event.SeenOf.TheVariants as seen
-use Rattle.fabric_events.specs.declared.fault.Refusal.{Refusal}
-use Rattle.fabric_events.specs.declared.fault.Refusal.TheVariants as refusals
+use Rattle.switch_core.specs.Routing.{port_of}
+use Rattle.flow_control.specs.Queue.{Item, is_takeable}
+use Rattle.lane_core.specs.Content.{cargo_of, item_spelled}
+use Rattle.lane_core.specs.Steps.{LaneEndsView, ReceiverEndView, SenderEndView, entered as entered_at, after_take}
+use Rattle.fabric_steps.specs.Fabric.{Fabric}
+use Rattle.fabric_steps.specs.Routed.{IsRouted}
+use Rattle.fabric_steps.specs.declared.event.EventOf.TheVariants as events
+use Rattle.fabric_steps.specs.declared.event.LaneName.{LaneName}
+use Rattle.fabric_steps.specs.declared.event.LaneName.TheVariants as lanes
+use Rattle.fabric_steps.specs.Event.{Seen}
+use Rattle.fabric_steps.specs.declared.event.SeenOf.TheVariants as seen
+use Rattle.fabric_steps.specs.declared.fault.Refusal.{Refusal}
+use Rattle.fabric_steps.specs.declared.fault.Refusal.TheVariants as refusals
 use Rattle.fabric_core.specs.Answers.{map_err, some_or, enter_on, item_at, submit_on, forward_on, collect_on, part_at, with_lane, with_requester, or_no_port, port_from, forward_to, destination_on, answer, SubmitFits, ForwardFits}
 use Rattle.fabric_core.specs.Answers as parts
 use Rattle.chart_rows.specs.declared.row.Carried.{Carried}

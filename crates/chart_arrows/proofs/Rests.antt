@@ -4,18 +4,18 @@ use Rattle.std.specs.Prelude.{if◌then◌else◌, slice_get}
 use Rattle.seq12.specs.Numbers.{distance_of}
 use Rattle.dllp_core.specs.declared.packet.Dllp.{Dllp}
 use Rattle.dllp_core.specs.declared.packet.Dllp.TheVariants.{Ack, Nak, Update}
-use Rattle.replay_sender.specs.SenderView.{SenderView, acknowledged, from_oldest, is_outstanding}
-use Rattle.fc_credit.specs.declared.limits.LaneCredits.{LaneCredits}
-use Rattle.fc_credit.specs.Needs.{need_of}
-use Rattle.vc_queue.specs.Queue.{is_takeable}
-use Rattle.lane_ends.specs.declared.packet.Fate.{Fate}
-use Rattle.lane_ends.specs.declared.packet.Fate.TheVariants.{Good, Failed, Lost}
-use Rattle.lane_ends.specs.Steps.{LaneEndsView, SenderEndView, new_lane, may_enter, entered, with_room, sender_after, after_take}
+use Rattle.link_replay.specs.SenderView.{SenderView, acknowledged, from_oldest, is_outstanding}
+use Rattle.flow_control.specs.declared.limits.LaneCredits.{LaneCredits}
+use Rattle.flow_control.specs.Needs.{need_of}
+use Rattle.flow_control.specs.Queue.{is_takeable}
+use Rattle.lane_core.specs.declared.packet.Fate.{Fate}
+use Rattle.lane_core.specs.declared.packet.Fate.TheVariants.{Good, Failed, Lost}
+use Rattle.lane_core.specs.Steps.{LaneEndsView, SenderEndView, new_lane, may_enter, entered, with_room, sender_after, after_take}
 use Rattle.lane_core.specs.Calls.{Call, MakeRoom, Release, Enter, Transmit, Deliver, SendDllp, DeliverDllp, Timer, Retrained, Take, after_call, after_calls, IsRightWith}
-use Rattle.fabric_laws.specs.Fabric.{Fabric}
-use Rattle.fabric_events.specs.declared.event.LaneName.{LaneName}
-use Rattle.fabric_events.specs.declared.event.LaneName.TheVariants as lanes
-use Rattle.fabric_events.specs.declared.fault.Refusal.TheVariants as refusals
+use Rattle.fabric_steps.specs.Fabric.{Fabric}
+use Rattle.fabric_steps.specs.declared.event.LaneName.{LaneName}
+use Rattle.fabric_steps.specs.declared.event.LaneName.TheVariants as lanes
+use Rattle.fabric_steps.specs.declared.fault.Refusal.TheVariants as refusals
 use Rattle.fabric_core.specs.Answers.{part_at}
 use Rattle.fabric_core.specs.Answers as parts
 use Rattle.fabric_core.specs.Kept.{IsSoundFabric}

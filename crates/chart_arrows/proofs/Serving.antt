@@ -19,17 +19,17 @@ use Rattle.seq_memory.specs.Step.{refusal, read_back, data_of, answer_by, answer
 use Rattle.requester_core.specs.Request.{kind_for}
 use Rattle.completer_core.specs.Completion.{completion_for, unless_posted, completion_of}
 use Rattle.completer_core.specs.Serving.{request_entry, with_entry, after_serving, completion_to}
-use Rattle.switch_ports.specs.Routing.{port_of}
-use Rattle.vc_queue.specs.Queue.{Item}
-use Rattle.lane_ends.specs.Steps.{LaneEndsView, ReceiverEndView, SenderEndView, entered as entered_at, after_take}
+use Rattle.switch_core.specs.Routing.{port_of}
+use Rattle.flow_control.specs.Queue.{Item}
+use Rattle.lane_core.specs.Steps.{LaneEndsView, ReceiverEndView, SenderEndView, entered as entered_at, after_take}
 use Rattle.lane_core.specs.Calls.{content, on_the_way}
-use Rattle.fabric_laws.specs.Fabric.{Fabric}
-use Rattle.fabric_laws.specs.Routed.{IsRouted}
-use Rattle.fabric_events.specs.declared.event.EventOf.TheVariants as events
-use Rattle.fabric_events.specs.declared.event.LaneName.{LaneName}
-use Rattle.fabric_events.specs.declared.event.LaneName.TheVariants as lanes
-use Rattle.fabric_events.specs.Events.{Seen}
-use Rattle.fabric_events.specs.declared.event.SeenOf.TheVariants as seen
+use Rattle.fabric_steps.specs.Fabric.{Fabric}
+use Rattle.fabric_steps.specs.Routed.{IsRouted}
+use Rattle.fabric_steps.specs.declared.event.EventOf.TheVariants as events
+use Rattle.fabric_steps.specs.declared.event.LaneName.{LaneName}
+use Rattle.fabric_steps.specs.declared.event.LaneName.TheVariants as lanes
+use Rattle.fabric_steps.specs.Event.{Seen}
+use Rattle.fabric_steps.specs.declared.event.SeenOf.TheVariants as seen
 use Rattle.fabric_core.specs.Answers.{item_at, serve_on, act_on, enter_if_any, with_lane, answer, ServeFits}
 use Rattle.fabric_core.specs.Answers as parts
 use Rattle.chart_rows.specs.declared.row.Carried.{Carried}

@@ -3,14 +3,14 @@ use Rattle.std.specs.Prelude.{ℕ, ◌≡◌, true, List, [], ◌∷◌, map, Op
 use Rattle.tlp_core.specs.Ops.{Op}
 use Rattle.tlp_core.specs.Operation.{op_of}
 use Rattle.seq_memory.specs.Entries.{Entry}
-use Rattle.replay_sender.specs.CargoView.{CargoView}
-use Rattle.switch_ports.specs.Routing.{port_of}
-use Rattle.vc_queue.specs.Queue.{Item}
-use Rattle.lane_ends.specs.declared.packet.WirePacket.{WirePacket}
-use Rattle.lane_ends.specs.Content.{item_spelled}
-use Rattle.lane_ends.specs.Steps.{LaneEndsView}
-use Rattle.fabric_laws.specs.Fabric.{Fabric}
-use Rattle.fabric_events.specs.declared.event.LaneName.{LaneName}
+use Rattle.link_replay.specs.CargoView.{CargoView}
+use Rattle.switch_core.specs.Routing.{port_of}
+use Rattle.flow_control.specs.Queue.{Item}
+use Rattle.lane_core.specs.declared.packet.WirePacket.{WirePacket}
+use Rattle.lane_core.specs.Content.{item_spelled}
+use Rattle.lane_core.specs.Steps.{LaneEndsView}
+use Rattle.fabric_steps.specs.Fabric.{Fabric}
+use Rattle.fabric_steps.specs.declared.event.LaneName.{LaneName}
 use Rattle.fabric_core.specs.Answers.{lane_at, Happens}
 use Rattle.chart_rows.specs.declared.row.Carried.{Carried}
 use Rattle.chart_rows.specs.declared.row.PacketSent.{PacketSent}

@@ -1,7 +1,7 @@
 -- What a sender sends once more.
 use Rattle.std.specs.Prelude.{ℕ, ◌-◌, ◌==◌, Bool, true, false, not, ◌&&◌, if◌then◌else◌}
 use Rattle.seq12.specs.Numbers.{distance_of}
-use Rattle.replay_sender.specs.SenderView.{SenderView}
+use Rattle.link_replay.specs.SenderView.{SenderView}
 use Rattle.chart_rows.specs.declared.row.Replay.{Replay}
 use Rattle.chart_rows.specs.declared.row.Replay.TheVariants as replays
 

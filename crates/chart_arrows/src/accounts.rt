@@ -1,8 +1,8 @@
 //! What a chart keeps of each lane, beside the lane of the fabric.
 ghost use Rattle.std.specs.Prelude.{ℕ, List, Option};
-ghost use Rattle.fabric_laws.specs.Fabric.{Fabric};
+ghost use Rattle.fabric_steps.specs.Fabric.{Fabric};
 ghost use Rattle.fabric_core.specs.declared.config.Config.{Config};
-ghost use Rattle.fabric_events.specs.Events.{Event, Seen};
+ghost use Rattle.fabric_steps.specs.Event.{Event, Seen};
 ghost use Rattle.fabric_core.specs.Answers.{Happens};
 ghost use Rattle.fabric_core.specs.Config.{IsNewWith};
 ghost use Rattle.fabric_core.specs.Kept.{IsSoundFabric};
@@ -15,7 +15,7 @@ ghost use Rattle.chart_laws.specs.Happened.{told_all};
 ghost use Rattle.chart_arrows.specs.Accounts.{AreAccountsOf, Happen};
 
 use fabric_core::laws::{a_new_fabric_is_sound, each_event_keeps_it_sound};
-use fabric_laws::laws::packets_keep_their_ports;
+use fabric_steps::laws::packets_keep_their_ports;
 use lane_core::wire_bytes_tell_the_packet;
 
 /// A chart keeps account of each lane: it is true of a new fabric, and each event that happens to a fabric keeps it so.

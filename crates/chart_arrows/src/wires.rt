@@ -1,6 +1,6 @@
 //! What was sent on the wires of a lane.
 ghost use Rattle.std.specs.Prelude.{◌≡◌, ◌++◌, ℕ, List};
-ghost use Rattle.fabric_laws.specs.Fabric.{Fabric};
+ghost use Rattle.fabric_steps.specs.Fabric.{Fabric};
 ghost use Rattle.fabric_core.specs.declared.config.Config.{Config};
 ghost use Rattle.fabric_core.specs.Config.{IsNewWith};
 ghost use Rattle.chart_links.specs.declared.window.ChartWindow.{ChartWindow};
@@ -11,7 +11,7 @@ ghost use Rattle.chart_arrows.specs.Accounts.{Happen};
 ghost use Rattle.chart_arrows.specs.Wires.{packets_left, dllp_sendings, dllp_beginnings, dllps_left};
 
 use fabric_core::laws::{a_new_fabric_is_sound, each_event_keeps_it_sound};
-use fabric_laws::laws::packets_keep_their_ports;
+use fabric_steps::laws::packets_keep_their_ports;
 use lane_core::wire_bytes_tell_the_packet;
 
 /// The packets that were sent on a lane are, in their order, those of its arrows and those that are still on its wire: each

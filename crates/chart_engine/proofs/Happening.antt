@@ -2,18 +2,18 @@
 use Rattle.std.proofs.Common.{◌≡◌, ◌∙◌, ◌+◌, ◌++◌, ℕ, Bool, true, false, List, [], ◌∷◌, refl, sym, ap, subst, inl, inr, fold, cond, length, map, length-append, append_assoc, add-zero, zero-add, arith, Result, Ok, Err}
 use Rattle.std.proofs.lemmas.List.{append-nil}
 use Rattle.std.specs.Prelude.{nat_lt, Option, Some, None}
-use Rattle.fabric_laws.specs.Fabric.{Fabric}
+use Rattle.fabric_steps.specs.Fabric.{Fabric}
 use Rattle.fabric_core.specs.declared.config.Config.{Config}
 use Rattle.fabric_core.specs.declared.config.ConfigFault.{ConfigFault}
-use Rattle.fabric_events.specs.Events.{Event, Seen}
-use Rattle.fabric_events.specs.declared.fault.Refusal.{Refusal}
+use Rattle.fabric_steps.specs.Event.{Event, Seen}
+use Rattle.fabric_steps.specs.declared.fault.Refusal.{Refusal}
 use Rattle.fabric_core.specs.Answers.{answer}
 use Rattle.fabric_core.specs.New.{new_fabric, config_fault}
 use Rattle.fabric_settle.specs.Happenings.{Happening, Answers, Leads}
 use Rattle.fabric_settle.specs.Rounds.{settlement}
 use Rattle.script_text.specs.declared.line.Line.{Line}
 use Rattle.script_text.specs.declared.line.Line.TheVariants as lines
-use Rattle.text_lines.specs.Lines.{lines_of, bare, said}
+use Rattle.hex_text.specs.Lines.{lines_of, bare, said}
 use Rattle.line_loop.specs.Run.{Answer, Run, after_line, new_run}
 use Rattle.chart_links.specs.declared.window.ChartWindow.{ChartWindow}
 use Rattle.chart_links.specs.ChartView.{ChartView, new_chart, charted, row_for, rows_with}

@@ -3,17 +3,17 @@ use Rattle.std.specs.Prelude.{ℕ, ◌+◌, ◌-◌, ◌^◌, min, Bool, true, f
 use Rattle.std.specs.Fmt.{decimal}
 use Rattle.std.specs.Io.KnownBytes.{Appends}
 use Rattle.svg_text.specs.Xml.{IsDocument}
-use Rattle.fabric_laws.specs.Fabric.{Fabric}
+use Rattle.fabric_steps.specs.Fabric.{Fabric}
 use Rattle.fabric_core.specs.declared.config.Config.{Config}
 use Rattle.fabric_core.specs.declared.config.ConfigFault.{ConfigFault}
-use Rattle.fabric_events.specs.Events.{Event, Seen}
-use Rattle.fabric_events.specs.declared.fault.Refusal.{Refusal}
+use Rattle.fabric_steps.specs.Event.{Event, Seen}
+use Rattle.fabric_steps.specs.declared.fault.Refusal.{Refusal}
 use Rattle.fabric_core.specs.Config.{fault_name}
 use Rattle.fabric_core.specs.Answers.{answer}
 use Rattle.fabric_core.specs.New.{new_fabric, config_fault}
 use Rattle.fabric_settle.specs.Happenings.{Happening}
 use Rattle.fabric_settle.specs.Rounds.{Settling, settlement}
-use Rattle.text_lines.specs.Lines.{is_skipped}
+use Rattle.hex_text.specs.Lines.{is_skipped}
 use Rattle.operation_text.specs.Words.{words}
 use Rattle.script_text.specs.declared.line.Line.{Line}
 use Rattle.script_text.specs.declared.line.Line.TheVariants as lines

@@ -3,7 +3,7 @@ ghost use Rattle.std.specs.Prelude.{◌≡◌, ◌≤◌, ◌++◌, ◌∷◌, [
 ghost use Rattle.std.specs.Fmt.{decimal};
 ghost use Rattle.arrayvec.specs.ArrayString.{array_string_len};
 ghost use Rattle.fabric_core.specs.Answers.{answer};
-ghost use Rattle.fabric_events.specs.Faults.{IsTold};
+ghost use Rattle.fabric_steps.specs.Faults.{IsTold};
 ghost use Rattle.fabric_core.specs.Config.{fault_name};
 ghost use Rattle.script_text.specs.Names.{refusal_text};
 ghost use Rattle.line_loop.specs.Run.{IsAnswer};
@@ -16,13 +16,13 @@ use chart_links::ChartWindow;
 use chart_page::put_title_chart;
 use fabric_core::{Config, ConfigFault, EventRef, Fabric, Refusal};
 use fabric_settle::{happen, settle};
+use hex_text::is_skipped;
 use line_loop::{Responder, Verdict};
 use operation_text::write_decimal;
 use script_text::{Line, read_line, write_config_fault, write_refusal};
 use std::alloc::{AllocError, Global};
 use std::marker::Model;
 use std::mem;
-use text_lines::is_skipped;
 use tlp_core::MAX_PAYLOAD;
 
 /// A fabric and its chart.

@@ -1,6 +1,6 @@
 -- Events that happen one after the other to a fabric.
 use Rattle.std.specs.Prelude.{◌≡◌, List, [], ◌∷◌, Ok}
-use Rattle.fabric_laws.specs.Fabric.{Fabric}
+use Rattle.fabric_steps.specs.Fabric.{Fabric}
 use Rattle.fabric_core.specs.Answers.{answer}
 use Rattle.chart_links.specs.ChartView.{ChartView}
 use Rattle.chart_laws.specs.Arrows.{Tale, told}

@@ -4,7 +4,7 @@ use Rattle.std.specs.Prelude.{nat_le, Option, Some, None, slice_get}
 use Rattle.std.specs.Option.{option_map}
 use Rattle.std.proofs.lemmas.Bool.{le-leb, eqb-true}
 use Rattle.std.proofs.lemmas.Bool.Decides.{leb_tells}
-use Rattle.fabric_laws.specs.Fabric.{Fabric}
+use Rattle.fabric_steps.specs.Fabric.{Fabric}
 use Rattle.chart_levels.specs.declared.step_line.Step.{Step}
 use Rattle.chart_levels.specs.StepLineView.{StepLineView}
 use Rattle.chart_levels.specs.Levels.{last_of, later, is_same, is_at, step_to, stepped, or_value, value_at, level_of, shown, shown_from}

@@ -4,11 +4,11 @@ use Rattle.std.specs.Prelude.{ℕ, ◌+◌, ◌-◌, ◌%◌, ◌==◌, nat_le, 
 use Rattle.std.specs.Result.{result_ok}
 use Rattle.dllp_core.specs.declared.packet.Class.{Class}
 use Rattle.dllp_core.specs.declared.packet.Class.TheVariants as classes
-use Rattle.fc_credit.specs.Credits.{CreditGateView, gate_of}
-use Rattle.lane_ends.specs.Steps.{LaneEndsView}
-use Rattle.fabric_laws.specs.Fabric.{Fabric}
-use Rattle.fabric_events.specs.declared.event.LaneName.{LaneName}
-use Rattle.fabric_events.specs.declared.event.LaneName.TheVariants as lanes
+use Rattle.flow_control.specs.Credits.{CreditGateView, gate_of}
+use Rattle.lane_core.specs.Steps.{LaneEndsView}
+use Rattle.fabric_steps.specs.Fabric.{Fabric}
+use Rattle.fabric_steps.specs.declared.event.LaneName.{LaneName}
+use Rattle.fabric_steps.specs.declared.event.LaneName.TheVariants as lanes
 use Rattle.fabric_core.specs.Answers.{lane_at}
 use Rattle.chart_levels.specs.declared.level.Level.{Level}
 use Rattle.chart_levels.specs.declared.level.Level.TheVariants as levels

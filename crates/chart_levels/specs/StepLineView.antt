@@ -1,6 +1,6 @@
 -- A level of a lane through the rows of a chart.
 use Rattle.std.specs.Prelude.{ℕ, List}
-use Rattle.fabric_events.specs.declared.event.LaneName.{LaneName}
+use Rattle.fabric_steps.specs.declared.event.LaneName.{LaneName}
 use Rattle.chart_levels.specs.declared.level.Level.{Level}
 use Rattle.chart_levels.specs.declared.step_line.Step.{Step}
 

@@ -1,8 +1,8 @@
 //! What holds of step lines.
 ghost use Rattle.std.specs.Prelude.{◌≡◌, ◌<◌, ℕ, List, length, slice_get};
 ghost use Rattle.std.specs.Option.{option_map};
-ghost use Rattle.fabric_laws.specs.Fabric.{Fabric};
-ghost use Rattle.fabric_events.specs.declared.event.LaneName.{LaneName};
+ghost use Rattle.fabric_steps.specs.Fabric.{Fabric};
+ghost use Rattle.fabric_steps.specs.declared.event.LaneName.{LaneName};
 ghost use Rattle.chart_levels.specs.declared.level.Level.{Level};
 ghost use Rattle.chart_levels.specs.Levels.{level_of, new_line, shown_from, value_at};
 

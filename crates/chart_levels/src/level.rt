@@ -5,7 +5,7 @@ ghost use Rattle.chart_levels.specs.Strips as look;
 
 use dllp_core::Class;
 use fabric_core::{Fabric, LaneName};
-use lane_ends::LaneEnds;
+use lane_core::LaneEnds;
 
 /// What is measured of a lane.
 #[derive(Clone, Copy)]

@@ -1,6 +1,6 @@
 -- Step lines that are added one after the other.
 use Rattle.std.proofs.Common.{◌≡◌, ◌∙◌, ◌+◌, ◌++◌, List, ℕ, suc, ap, append_assoc, arith}
-use Rattle.fabric_events.specs.declared.event.LaneName.TheVariants as lanes
+use Rattle.fabric_steps.specs.declared.event.LaneName.TheVariants as lanes
 use Rattle.chart_levels.specs.StepLineView.{StepLineView}
 use Rattle.chart_levels.specs.Levels.{lane_lines}
 use Rattle.chart_links.specs.Levels.{port_lines}

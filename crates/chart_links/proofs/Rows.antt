@@ -1,7 +1,7 @@
 -- The rows of a chart, event by event.
 use Rattle.std.proofs.Common.{◌≡◌, ◌∙◌, ◌+◌, ◌++◌, ℕ, List, [], ◌∷◌, length, refl, sym, ap, length-append, Ok}
 use Rattle.std.specs.Prelude.{Option, Some, None}
-use Rattle.fabric_events.specs.Events.{Event, Seen}
+use Rattle.fabric_steps.specs.Event.{Event, Seen}
 use Rattle.chart_rows.specs.declared.row.Row.{Row}
 use Rattle.chart_rows.specs.PageView.{PageView}
 use Rattle.chart_links.specs.declared.window.Place.{Place}

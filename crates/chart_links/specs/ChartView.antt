@@ -1,8 +1,8 @@
 -- What happened on the links of a fabric so far, as a chart.
 use Rattle.std.specs.Prelude.{ℕ, ◌+◌, ◌-◌, ◌^◌, min, List, [], ◌∷◌, ◌++◌, length, replicate, Option, Some, None, Result, Ok, Err}
-use Rattle.fabric_events.specs.Events.{Event, Seen}
-use Rattle.fabric_events.specs.declared.event.LaneName.{LaneName}
-use Rattle.fabric_events.specs.declared.fault.Refusal.{Refusal}
+use Rattle.fabric_steps.specs.Event.{Event, Seen}
+use Rattle.fabric_steps.specs.declared.event.LaneName.{LaneName}
+use Rattle.fabric_steps.specs.declared.fault.Refusal.{Refusal}
 use Rattle.chart_rows.specs.declared.row.Row.{Row}
 use Rattle.chart_rows.specs.declared.row.PacketSent.{PacketSent}
 use Rattle.chart_rows.specs.declared.row.DllpSent.{DllpSent}

@@ -1,8 +1,8 @@
 -- The step lines of the lanes that are shown, and a chart with them at its right. With none of them it is the chart alone
 -- (`charts_without_levels_are_charts`).
 use Rattle.std.specs.Prelude.{ℕ, zero, suc, ◌+◌, Bool, true, false, if◌then◌else◌, List, [], ◌++◌, Option, Some, None}
-use Rattle.fabric_events.specs.declared.event.LaneName.{LaneName}
-use Rattle.fabric_events.specs.declared.event.LaneName.TheVariants as lanes
+use Rattle.fabric_steps.specs.declared.event.LaneName.{LaneName}
+use Rattle.fabric_steps.specs.declared.event.LaneName.TheVariants as lanes
 use Rattle.chart_levels.specs.StepLineView.{StepLineView}
 use Rattle.chart_rows.specs.PageView.{PageView}
 use Rattle.chart_page.specs.Shapes.{shapes}

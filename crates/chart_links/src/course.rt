@@ -4,7 +4,7 @@ ghost use Rattle.std.specs.Prelude.{◌≡◌, drop, remove, slice_get, IfOk, On
 use crate::limits::{Limit, Limits, is_known, limit_of, with_limit};
 use chart_rows::{Carried, DllpSent, PacketSent, Replay};
 use dllp_core::Dllp;
-use lane_ends::DllpSeen;
+use lane_core::DllpSeen;
 use seq12::Seq12;
 use std::alloc::{AllocError, Global};
 use std::collections::VecDeque;

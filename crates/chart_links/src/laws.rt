@@ -1,6 +1,6 @@
 //! What holds of the rows of a chart, and of charts with step lines.
 ghost use Rattle.std.specs.Prelude.{◌≡◌, ℕ, Bool, List, [], length, Some};
-ghost use Rattle.fabric_events.specs.Events.{Event, Seen};
+ghost use Rattle.fabric_steps.specs.Event.{Event, Seen};
 ghost use Rattle.chart_rows.specs.PageView.{PageView};
 ghost use Rattle.chart_page.specs.Shapes.{chart_text};
 ghost use Rattle.chart_links.specs.ChartView.{ChartView, charted, row_for, rows_with};

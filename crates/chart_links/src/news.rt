@@ -7,7 +7,7 @@ use crate::course::Course;
 use crate::lanes::place_of;
 use dllp_core::Dllp;
 use fabric_core::{Event, LaneName, Seen};
-use lane_ends::DllpSeen;
+use lane_core::DllpSeen;
 
 /// Whether a DLLP that is sent on a lane tells nothing new.
 fn is_old(courses: &Vec<Course>, lane: LaneName, dllp: Dllp) -> bool

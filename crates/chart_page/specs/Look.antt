@@ -1,11 +1,11 @@
 -- How the parts of a chart look, for the curious: lines, squares, texts and the heading, pixel by pixel. Shapes.antt says
 -- what a chart shows.
 use Rattle.std.specs.Prelude.{ℕ, zero, suc, ◌+◌, ◌-◌, ◌*◌, ◌/◌, ◌==◌, nat_lt, Bool, true, false, if◌then◌else◌, List, [], ◌∷◌, ◌++◌, length, codes, Option, Some, None}
-use Rattle.lane_ends.specs.declared.packet.Fate.{Fate}
-use Rattle.lane_ends.specs.declared.packet.Fate.TheVariants as fates
-use Rattle.lane_ends.specs.declared.packet.Arrival.{Arrival}
-use Rattle.lane_ends.specs.declared.packet.Arrival.TheVariants as arrivals
-use Rattle.link_receiver.specs.declared.receiver.Reception.TheVariants as receptions
+use Rattle.lane_core.specs.declared.packet.Fate.{Fate}
+use Rattle.lane_core.specs.declared.packet.Fate.TheVariants as fates
+use Rattle.lane_core.specs.declared.packet.Arrival.{Arrival}
+use Rattle.lane_core.specs.declared.packet.Arrival.TheVariants as arrivals
+use Rattle.link_replay.specs.declared.receiver.Reception.TheVariants as receptions
 use Rattle.svg_text.specs.declared.colour.Colour.{Colour}
 use Rattle.svg_text.specs.declared.colour.Colour.TheVariants as colours
 use Rattle.svg_text.specs.declared.shapes.Block.{Block}

@@ -9,7 +9,7 @@
 -- How the parts look, pixel by pixel, is in Look.antt, for the curious.
 use Rattle.std.specs.Prelude.{ℕ, ◌+◌, ◌/◌, Bool, true, false, List, [], ◌∷◌, ◌++◌, length, codes, Option, Some, None}
 use Rattle.std.specs.Fmt.{decimal}
-use Rattle.lane_ends.specs.declared.packet.Fate.{Fate}
+use Rattle.lane_core.specs.declared.packet.Fate.{Fate}
 use Rattle.svg_text.specs.declared.colour.Colour.TheVariants as colours
 use Rattle.svg_text.specs.Shapes.{Shape, page_text}
 use Rattle.script_text.specs.LineTexts.{event_line}

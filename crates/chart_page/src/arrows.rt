@@ -12,8 +12,8 @@ use chart_rows::{
     finish_of, start_of, thirds, way_of, write_dllp_title, write_open_title, write_packet_title,
 };
 use fabric_core::LaneName;
-use lane_ends::{Arrival, Fate};
-use link_receiver::Reception;
+use lane_core::{Arrival, Fate};
+use link_replay::Reception;
 use std::alloc::AllocError;
 use svg_text::{Colour, Rule, put_lines};
 

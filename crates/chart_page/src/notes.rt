@@ -17,7 +17,7 @@ use chart_rows::{
     write_expired, write_forwarded, write_sent, write_served, write_submitted,
 };
 use dllp_core::Dllp;
-use lane_ends::{Arrival, Fate};
+use lane_core::{Arrival, Fate};
 use seq12::Seq12;
 use std::alloc::AllocError;
 use svg_text::{Colour, Dot, put_dot};

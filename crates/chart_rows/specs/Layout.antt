@@ -1,7 +1,7 @@
 -- Where the parts of a fabric and the rows of a chart stand, in pixels from the left and from the top.
 use Rattle.std.specs.Prelude.{ℕ, ◌+◌, ◌-◌, ◌*◌, ◌/◌, Bool, true, false, if◌then◌else◌, nat_lt, Option, Some, None}
-use Rattle.fabric_events.specs.declared.event.LaneName.{LaneName}
-use Rattle.fabric_events.specs.declared.event.LaneName.TheVariants as lanes
+use Rattle.fabric_steps.specs.declared.event.LaneName.{LaneName}
+use Rattle.fabric_steps.specs.declared.event.LaneName.TheVariants as lanes
 use Rattle.chart_rows.specs.declared.layout.Parts.{Parts}
 use Rattle.chart_rows.specs.declared.layout.Parts.TheVariants as parts
 use Rattle.chart_rows.specs.declared.layout.Point.{Point}

@@ -2,10 +2,10 @@
 use Rattle.std.specs.Prelude.{ℕ, ◌==◌, Bool, if◌then◌else◌, List, [], ◌++◌, length, codes, Option, Some, None}
 use Rattle.std.specs.Fmt.{decimal}
 use Rattle.dllp_core.specs.declared.packet.Dllp.{Dllp}
-use Rattle.lane_ends.specs.declared.packet.Fate.{Fate}
-use Rattle.lane_ends.specs.declared.packet.Fate.TheVariants as fates
-use Rattle.lane_ends.specs.declared.packet.Arrival.{Arrival}
-use Rattle.fabric_events.specs.declared.event.LaneName.{LaneName}
+use Rattle.lane_core.specs.declared.packet.Fate.{Fate}
+use Rattle.lane_core.specs.declared.packet.Fate.TheVariants as fates
+use Rattle.lane_core.specs.declared.packet.Arrival.{Arrival}
+use Rattle.fabric_steps.specs.declared.event.LaneName.{LaneName}
 use Rattle.operation_text.specs.Texts.{sequence_text}
 use Rattle.script_text.specs.LineTexts.{lane_text}
 use Rattle.chart_rows.specs.declared.row.Carried.{Carried}

@@ -5,14 +5,14 @@ use Rattle.tlp_core.specs.Ops.{Op}
 use Rattle.tlp_core.specs.declared.operation.OpOf.TheVariants as ops
 use Rattle.dllp_core.specs.declared.packet.Dllp.{Dllp}
 use Rattle.dllp_core.specs.declared.packet.Dllp.TheVariants as dllps
-use Rattle.lane_ends.specs.declared.packet.Fate.{Fate}
-use Rattle.lane_ends.specs.declared.packet.Fate.TheVariants as fates
-use Rattle.lane_ends.specs.declared.packet.Arrival.{Arrival}
-use Rattle.lane_ends.specs.declared.packet.Arrival.TheVariants as arrivals
-use Rattle.link_receiver.specs.declared.receiver.Reception.TheVariants as receptions
-use Rattle.fabric_events.specs.Events.{Event, Seen}
-use Rattle.fabric_events.specs.declared.event.LaneName.{LaneName}
-use Rattle.fabric_events.specs.declared.fault.Refusal.{Refusal}
+use Rattle.lane_core.specs.declared.packet.Fate.{Fate}
+use Rattle.lane_core.specs.declared.packet.Fate.TheVariants as fates
+use Rattle.lane_core.specs.declared.packet.Arrival.{Arrival}
+use Rattle.lane_core.specs.declared.packet.Arrival.TheVariants as arrivals
+use Rattle.link_replay.specs.declared.receiver.Reception.TheVariants as receptions
+use Rattle.fabric_steps.specs.Event.{Event, Seen}
+use Rattle.fabric_steps.specs.declared.event.LaneName.{LaneName}
+use Rattle.fabric_steps.specs.declared.fault.Refusal.{Refusal}
 use Rattle.operation_text.specs.Texts.{sequence_text}
 use Rattle.script_text.specs.Names.{class_name, refusal_text}
 use Rattle.script_text.specs.Texts.{seen_text}

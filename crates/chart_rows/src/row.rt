@@ -5,7 +5,7 @@ ghost use Rattle.chart_rows.specs.Words as said;
 use crate::layout::Parts;
 use dllp_core::Dllp;
 use fabric_core::{Event, LaneName, Refusal, Seen};
-use lane_ends::{Arrival, Fate};
+use lane_core::{Arrival, Fate};
 use seq12::Seq12;
 use std::marker::Model;
 use tlp_core::Op;

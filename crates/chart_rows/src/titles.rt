@@ -11,7 +11,7 @@ use crate::words::{arrival_words, kind_name, put_replay, write_dllp};
 use arrayvec::ArrayString;
 use dllp_core::Dllp;
 use fabric_core::LaneName;
-use lane_ends::{Arrival, Fate};
+use lane_core::{Arrival, Fate};
 use operation_text::{write_decimal, write_sequence};
 use seq12::Seq12;
 

@@ -23,7 +23,7 @@ use Rattle.search_engine.specs.Search.{IsWholeFor, IsPartFor}
 use Rattle.search_engine.specs.Drawn.{IsWholeDrawn, IsPartDrawn}
 use Rattle.sweep_engine.specs.Ranges.{IsSweep}
 use Rattle.sweep_engine.specs.Sweep.{IsSwept}
-use Rattle.tlp_engine.specs.Tlp.{out_tlp}
+use Rattle.packet_engine.specs.Tlp.{out_tlp}
 use Rattle.trace_engine.specs.Check.{out_check_with}
 use Rattle.trace_engine.specs.Upgrade.{out_upgrade}
 use Rattle.step_engine.specs.Step.{out_step_with}

@@ -6,11 +6,11 @@ use crate::files::{has_file, is_reader};
 use clap::error::ErrorKind;
 use cli_options::Shown;
 use cli_words::{RequestFault, options};
+use hex_text::is_skipped;
 use operation_text::split_word;
 use std::alloc::Global;
 use std::convert::AsStr;
 use std::io::{Cursor, Write};
-use text_lines::is_skipped;
 
 /// How `clap` begins what it says of a word that it did not expect; that word follows.
 const UNEXPECTED: &[u8; 28] = b"error: unexpected argument '";

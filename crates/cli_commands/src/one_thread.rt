@@ -21,7 +21,7 @@ use generate_engine::run_generate;
 use history_picture::Window;
 use line_loop::EngineFault;
 use linked_engine::{LinkedOptions, run_linked_with_reasons};
-use packet_engine::{run_decode_with_reasons, run_encode_with_reasons};
+use packet_engine::{run_decode_with_reasons, run_encode_with_reasons, run_tlp_with_reasons};
 use parameters::Counting;
 use search_engine::SearchOptions;
 use std::alloc::Global;
@@ -31,7 +31,6 @@ use std::io::{ErrorKind as IoErrorKind, Read, Write};
 use std::time::Clock;
 use step_engine::{StepOptions, run_step_with_reasons};
 use sweep_engine::Sweep;
-use tlp_engine::run_tlp_with_reasons;
 use trace_engine::{run_check_with, run_upgrade_with_reasons};
 
 /// Tells what stopped an engine and why, where that is known, and gives the exit status for that. Of an output that

@@ -5,7 +5,7 @@ ghost use Rattle.cli_options.specs.Values.{allowed_of, name_of, IsAmong};
 use parameters::{MOST_ADDITIONS, MOST_EVENTS, MOST_TURNS, MOST_WORKERS};
 use seq_memory::{ALIGNMENT, MAX_SIZE, MIN_SIZE};
 use std::fmt;
-use switch_ports::REQUESTERS;
+use switch_core::REQUESTERS;
 
 /// The most choices that a search may be asked to look at.
 pub const MOST_CHOICES: u64 = 1_000_000_000;
@@ -161,7 +161,7 @@ impl ValueOption {
             },
             ValueOption::Requesters => from_to(1, u64::from(REQUESTERS)),
             ValueOption::Each => from_to(0, MOST_ADDITIONS),
-            ValueOption::Lose | ValueOption::Corrupt => from_to(0, u64::from(fault_plan::MOST)),
+            ValueOption::Lose | ValueOption::Corrupt => from_to(0, u64::from(parameters::MOST)),
             ValueOption::Turns => from_to(1, MOST_TURNS),
             ValueOption::Workers => from_to(1, MOST_WORKERS),
             ValueOption::Limit => from_to(1, MOST_CHOICES),

@@ -1,6 +1,6 @@
 -- What the value of an option writes that gives the credits of an endpoint behind a link.
 use Rattle.std.specs.Prelude.{◌≡◌, ◌+◌, ◌-◌, ◌*◌, ◌==◌, ◌&&◌, nat_le, Bool, if◌then◌else◌, List, [], ◌∷◌, ℕ, Option, Some, None}
-use Rattle.fc_credit.specs.declared.limits.LaneCredits.{LaneCredits}
+use Rattle.flow_control.specs.declared.limits.LaneCredits.{LaneCredits}
 use Rattle.linked_engine.specs.Credits.{advertised, are_finite}
 
 abbrev pub is_digit : ℕ → Bool

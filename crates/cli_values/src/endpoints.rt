@@ -1,7 +1,7 @@
 //! The size of an endpoint's memory and its IDs as values of options.
 ghost use Rattle.std.specs.Prelude.{◌≡◌, ◌+◌, ◌*◌, ℕ, length, true, IfOk, IfErr, IfSome, OnErr, option_map};
 ghost use Rattle.hex.specs.Hex.{decode_of};
-ghost use Rattle.config_space.specs.SetupView.{is_size};
+ghost use Rattle.config_core.specs.SetupView.{is_size};
 ghost use Rattle.cli_options.specs.declared.options.ValueOption.TheVariants.{EndpointSize, Id};
 ghost use Rattle.cli_values.specs.Endpoints as spec;
 

@@ -1,12 +1,12 @@
 //! The name of a lane as the value of an option.
 ghost use Rattle.std.specs.Prelude.{◌≡◌, IfOk, IfErr, OnErr, Option, option_map};
-ghost use Rattle.fabric_events.specs.declared.event.LaneName.{LaneName};
+ghost use Rattle.fabric_steps.specs.declared.event.LaneName.{LaneName};
 ghost use Rattle.cli_options.specs.declared.options.ValueOption.TheVariants.{Lane};
 ghost use Rattle.script_text.specs.Forms as forms;
 ghost use Rattle.cli_values.specs.Lanes.{WritesLane};
 
 use cli_options::{RefusedValue, ValueOption};
-use fabric_events::LaneName;
+use fabric_steps::LaneName;
 
 /// The port of a lane's name.
 fn port(digits: &[u8]) -> Option<u8>

@@ -1,6 +1,6 @@
 //! The credits of an endpoint behind a link as the value of an option.
 ghost use Rattle.std.specs.Prelude.{◌≡◌, ◌≤◌, ℕ, IfOk, IfErr, OnErr, option_map};
-ghost use Rattle.fc_credit.specs.declared.limits.LaneCredits.{LaneCredits};
+ghost use Rattle.flow_control.specs.declared.limits.LaneCredits.{LaneCredits};
 ghost use Rattle.cli_options.specs.declared.options.ValueOption.TheVariants.{Credits};
 ghost use Rattle.cli_values.specs.Links as spec;
 

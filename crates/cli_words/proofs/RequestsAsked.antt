@@ -11,11 +11,11 @@ use Rattle.cli_words.specs.declared.outputs.SearchOutput.{SearchOutput}
 use Rattle.cli_words.specs.declared.outputs.SearchOutput.TheVariants as outputs
 use Rattle.cli_words.specs.declared.words.Request.TheVariants.{Tlp, Endpoint, Linked, Decode, Encode, Check, Search, Draw, Upgrade, Step, Chart, Generate, Sweep, Run}
 use Rattle.cli_options.specs.Values.{IsAmong, multiples, WritesBase, WritesNumber, WritesGiven, WritesOptional, WritesFlag}
-use Rattle.fabric_events.specs.declared.event.LaneName.{LaneName}
+use Rattle.fabric_steps.specs.declared.event.LaneName.{LaneName}
 use Rattle.log_pieces.specs.declared.Granularity.{Granularity}
 use Rattle.search_engine.specs.declared.options.TheConstants.{DEFAULT_WORK}
-use Rattle.config_space.specs.SetupView.{SetupView}
-use Rattle.fc_credit.specs.declared.limits.LaneCredits.{LaneCredits}
+use Rattle.config_core.specs.SetupView.{SetupView}
+use Rattle.flow_control.specs.declared.limits.LaneCredits.{LaneCredits}
 use Rattle.cli_values.specs.Links.{WritesCredits}
 use Rattle.cli_values.specs.Endpoints.{WritesId, WritesSize}
 use Rattle.cli_values.specs.Granularities.{WritesGranularity}

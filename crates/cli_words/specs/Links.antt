@@ -1,7 +1,7 @@
 -- What the values of options write that put an endpoint behind a link.
 use Rattle.std.specs.Prelude.{◌≡◌, true, false, Bool, List, None, codes}
 use Rattle.clap.specs.Words.{Row, first_of}
-use Rattle.fc_credit.specs.declared.limits.LaneCredits.{LaneCredits}
+use Rattle.flow_control.specs.declared.limits.LaneCredits.{LaneCredits}
 use Rattle.cli_options.specs.Values.{WritesFlag}
 use Rattle.cli_values.specs.Links.{WritesCredits}
 

@@ -10,10 +10,10 @@ use Rattle.parameters.specs.declared.storm.Storm.{Storm}
 use Rattle.parameters.specs.Ranges.{IsStorm}
 use Rattle.cli_options.specs.declared.options.TheConstants.{MOST_CHOICES, MOST_WORK}
 use Rattle.cli_options.specs.Values.{WritesBase, WritesNumber, WritesGiven, WritesOptional, WritesFlag}
-use Rattle.fabric_events.specs.declared.event.LaneName.{LaneName}
+use Rattle.fabric_steps.specs.declared.event.LaneName.{LaneName}
 use Rattle.log_pieces.specs.declared.Granularity.{Granularity}
 use Rattle.search_engine.specs.declared.options.TheConstants.{DEFAULT_WORK}
-use Rattle.config_space.specs.SetupView.{SetupView}
+use Rattle.config_core.specs.SetupView.{SetupView}
 use Rattle.cli_values.specs.Endpoints.{WritesId, WritesSize}
 use Rattle.cli_values.specs.Granularities.{WritesGranularity}
 use Rattle.cli_values.specs.Lanes.{WritesLane}

@@ -2,7 +2,7 @@
 -- does not go with another.
 use Rattle.std.specs.Prelude.{true, false, ◌≡◌, ◌≢◌, ◌≤◌, ◌+◌, ◌^◌, ◌⊎◌, ℕ, List, [], ◌∷◌, Option, Some, None, codes, option_map}
 use Rattle.clap.specs.Words.{Row, Text, first_of}
-use Rattle.fabric_events.specs.declared.event.LaneName.{LaneName}
+use Rattle.fabric_steps.specs.declared.event.LaneName.{LaneName}
 use Rattle.log_pieces.specs.declared.Granularity.{Granularity}
 use Rattle.search_engine.specs.declared.options.TheConstants.{DEFAULT_WORK}
 use Rattle.cli_values.specs.Endpoints.{WritesId, WritesSize}
@@ -13,7 +13,7 @@ use Rattle.cli_options.specs.declared.options.ValueOption.{ValueOption}
 use Rattle.cli_options.specs.declared.options.ValueOption.TheVariants.{Base, Size, Block, Requesters, Each, Lose, Corrupt, Turns, Workers, From, To, Seed, Seeds, Events, Lane, Limit, Work, Granularity as the_granularity, EndpointSize, Id, Crc, Credits, Draw}
 use Rattle.cli_values.specs.Links.{WritesCredits}
 use Rattle.cli_options.specs.declared.refused.RefusedValue.{RefusedValue}
-use Rattle.fc_credit.specs.declared.limits.LaneCredits.{LaneCredits}
+use Rattle.flow_control.specs.declared.limits.LaneCredits.{LaneCredits}
 use Rattle.cli_options.specs.Values.{WritesFlag, Gives, GivesBase, GivesOptional, name_of}
 
 -- the value gives a number that the option may have; the option stands with its default, if it has one

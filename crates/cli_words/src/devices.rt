@@ -1,7 +1,7 @@
 //! What the values of `endpoint` say of its device and of its link.
 ghost use Rattle.std.specs.Prelude.{◌≡◌, IfOk, IfErr, OnOk, OnErr, true, codes, option_map};
 ghost use Rattle.clap.specs.Words.{rows_of, found_of, first_of};
-ghost use Rattle.config_space.specs.SetupView.{is_size};
+ghost use Rattle.config_core.specs.SetupView.{is_size};
 ghost use Rattle.cli_options.specs.Values.{name_of};
 ghost use Rattle.cli_options.specs.declared.options.ValueOption.TheVariants.{EndpointSize, Id, Credits};
 ghost use Rattle.cli_values.specs.Endpoints.{WritesId, WritesSize};
@@ -13,7 +13,7 @@ use crate::reading::{flag_in, given_in};
 use clap::ArgMatches;
 use cli_options::{RefusedValue, ValueOption};
 use cli_values::{credits_of, ids_of, size_of};
-use config_space::Setup;
+use config_core::Setup;
 use linked_engine::FiniteCredits;
 
 /// The size of an endpoint's memory that the values give.

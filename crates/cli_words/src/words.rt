@@ -15,7 +15,7 @@ use crate::subcommands::{Subcommand, grammar, subcommand_named};
 use clap::ArgMatches;
 use clap::error::ErrorKind;
 use cli_options::{RefusedValue, ValueOption, is_set};
-use config_space::Setup;
+use config_core::Setup;
 use fabric_core::LaneName;
 use linked_engine::FiniteCredits;
 use log_pieces::Granularity;

@@ -24,7 +24,7 @@ use Rattle.seq_memory.specs.Step.{is_inside, refusal, answer, answer_by, read_ba
 use Rattle.seq_memory.specs.History.{MemoryView, bytes_of}
 use Rattle.completer_core.specs.Completion.{completion, completion_of, completion_for, unless_posted}
 use Rattle.completer_core.proofs.Spans.{length_by, one_or_more}
-use Rattle.fc_credit.specs.Needs.{need_of, completion_need}
+use Rattle.flow_control.specs.Needs.{need_of, completion_need}
 use Rattle.completer_core.specs.Serving.{completion_to}
 
 -- only a write's operation is posted

@@ -2,11 +2,11 @@
 ghost use Rattle.std.specs.Prelude.{◌≡◌, Some, None, IfOk, OnOk, OnErr, option_map};
 ghost use Rattle.tlp_core.specs.Operation.{op_of, op_fault};
 ghost use Rattle.seq_memory.specs.Limits.{IsBlock};
-ghost use Rattle.fc_credit.specs.Needs.{need_of};
+ghost use Rattle.flow_control.specs.Needs.{need_of};
 ghost use Rattle.completer_core.specs.Serving.{after_serving, completion_to, bytes_after, completion_over};
 
 use crate::completion::{completion_lent, completion_with};
-use fc_credit::Need;
+use flow_control::Need;
 use seq_memory::{Entry, Memory, Refusal, ReplyData, perform_lent};
 use std::alloc::AllocError;
 use tlp_core::{Op, Tlp, TlpRef, op_lent, op_of};

@@ -9,7 +9,7 @@ use Rattle.history_words.specs.Flaws.{first_flaw}
 use Rattle.history_picture.specs.Picture.{picture_text, line_text}
 use Rattle.record_text.specs.Names.{fault_line}
 use Rattle.history_picture.specs.declared.scale.Window.{Window}
-use Rattle.text_lines.specs.Lines.{lines_of, bare, said}
+use Rattle.hex_text.specs.Lines.{lines_of, bare, said}
 use Rattle.line_loop.specs.declared.verdict.Verdict.{Verdict}
 use Rattle.line_loop.specs.declared.verdict.Verdict.TheVariants as verdicts
 use Rattle.line_loop.specs.Run.{Answer, IsAnswer, is_fault, Run, after_line, new_run, run_of}

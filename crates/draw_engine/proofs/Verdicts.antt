@@ -10,7 +10,7 @@ use Rattle.history_picture.specs.declared.flaws.Finding.{Finding}
 use Rattle.history_picture.specs.Picture.{picture_text, line_text, view_of, width_of, bottom_of}
 use Rattle.history_picture.specs.Notes.{line_words}
 use Rattle.history_picture.specs.Picture as picture
-use Rattle.text_lines.specs.Lines.{lines_of, bare, said}
+use Rattle.hex_text.specs.Lines.{lines_of, bare, said}
 use Rattle.line_loop.specs.Run.{Run, with_answer, after_line, new_run}
 use Rattle.record_text.specs.declared.fault.ReadFault.{ReadFault}
 use Rattle.trace_text.specs.TraceReaderView as read

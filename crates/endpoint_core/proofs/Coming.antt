@@ -13,17 +13,17 @@ use Rattle.tlp_core.specs.TlpView.{TlpView}
 use Rattle.tlp_core.specs.Bits.{has_bit}
 use Rattle.tlp_core.specs.Layout.{kind_of, packet_at, dw_count}
 use Rattle.tlp_core.specs.Faults.{read_as, first_fault}
-use Rattle.config_packets.specs.declared.request.CfgRequest.{CfgRequest}
-use Rattle.config_packets.specs.declared.fault.CfgFault.{CfgFault}
-use Rattle.config_packets.specs.Layout as configuration
-use Rattle.config_space.specs.declared.registers.Noted.{Noted}
-use Rattle.config_space.specs.declared.registers.Noted.TheVariants as noted
-use Rattle.endpoint_packets.specs.DescriptorView.{DescriptorView}
-use Rattle.endpoint_packets.specs.declared.received.Malformed.{Malformed}
-use Rattle.endpoint_packets.specs.declared.received.Malformed.TheVariants as faulty
-use Rattle.endpoint_packets.specs.declared.received.Received.{Received}
-use Rattle.endpoint_packets.specs.declared.received.Received.TheVariants as received
-use Rattle.endpoint_packets.specs.Classes as classes
+use Rattle.config_core.specs.declared.request.CfgRequest.{CfgRequest}
+use Rattle.config_core.specs.declared.fault.CfgFault.{CfgFault}
+use Rattle.config_core.specs.Layout as configuration
+use Rattle.config_core.specs.declared.registers.Noted.{Noted}
+use Rattle.config_core.specs.declared.registers.Noted.TheVariants as noted
+use Rattle.endpoint_core.specs.DescriptorView.{DescriptorView}
+use Rattle.endpoint_core.specs.declared.received.Malformed.{Malformed}
+use Rattle.endpoint_core.specs.declared.received.Malformed.TheVariants as faulty
+use Rattle.endpoint_core.specs.declared.received.Received.{Received}
+use Rattle.endpoint_core.specs.declared.received.Received.TheVariants as received
+use Rattle.endpoint_core.specs.Classes as classes
 use Rattle.endpoint_core.specs.Blocks.{IsNonPosted}
 
 abbrev pub IsAsked : Kind → Body → Type 0

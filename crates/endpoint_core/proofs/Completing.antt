@@ -15,7 +15,7 @@ use Rattle.seq_memory.specs.Entries.{Reply}
 use Rattle.seq_memory.specs.Step.{answer, answer_by, read_back, data_of, refusal, bytes_at}
 use Rattle.op_pieces.specs.Pieces.{front}
 use Rattle.completer_core.specs.Completion.{completion_for, completion_of, unless_posted}
-use Rattle.config_space.specs.SetupView.{SetupView}
+use Rattle.config_core.specs.SetupView.{SetupView}
 use Rattle.endpoint_core.specs.declared.waiting.Waiting.{Waiting}
 use Rattle.endpoint_core.specs.declared.waiting.Waiting.TheVariants as waits
 use Rattle.endpoint_core.specs.EndpointView.{DeviceView}

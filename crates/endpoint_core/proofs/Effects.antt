@@ -5,10 +5,10 @@ use Rattle.std.proofs.lemmas.List.Sums.{fold-append}
 use Rattle.tlp_core.specs.Ops.{Op}
 use Rattle.tlp_core.specs.Operation.{op_of}
 use Rattle.seq_memory.specs.Step.{after}
-use Rattle.config_packets.specs.declared.request.CfgRequest.{CfgRequest}
-use Rattle.endpoint_packets.specs.declared.received.Received.{Received}
-use Rattle.endpoint_packets.specs.declared.received.Received.TheVariants as received
-use Rattle.endpoint_packets.specs.Classes.{becomes}
+use Rattle.config_core.specs.declared.request.CfgRequest.{CfgRequest}
+use Rattle.endpoint_core.specs.declared.received.Received.{Received}
+use Rattle.endpoint_core.specs.declared.received.Received.TheVariants as received
+use Rattle.endpoint_core.specs.Classes.{becomes}
 use Rattle.endpoint_core.specs.declared.waiting.Waiting.{Waiting}
 use Rattle.endpoint_core.specs.declared.waiting.Waiting.TheVariants as waits
 use Rattle.endpoint_core.specs.EndpointView.{DeviceView, EndpointView}

@@ -12,12 +12,12 @@ use Rattle.seq_memory.specs.Entries.{Reply}
 use Rattle.seq_memory.specs.declared.reply.ReplyOf.TheVariants as replies
 use Rattle.seq_memory.specs.Step.{answer}
 use Rattle.completer_core.specs.Completion.{completion_for, completion_of, unless_posted}
-use Rattle.config_space.specs.SetupView.{SetupView}
-use Rattle.config_packets.specs.declared.request.CfgRequest.{CfgRequest}
-use Rattle.endpoint_packets.specs.DescriptorView.{DescriptorView}
-use Rattle.endpoint_packets.specs.declared.received.Received.{Received}
-use Rattle.endpoint_packets.specs.declared.received.Received.TheVariants as received
-use Rattle.endpoint_packets.specs.Classes.{becomes, descriptor_of, descriptor_for}
+use Rattle.config_core.specs.SetupView.{SetupView}
+use Rattle.config_core.specs.declared.request.CfgRequest.{CfgRequest}
+use Rattle.endpoint_core.specs.DescriptorView.{DescriptorView}
+use Rattle.endpoint_core.specs.declared.received.Received.{Received}
+use Rattle.endpoint_core.specs.declared.received.Received.TheVariants as received
+use Rattle.endpoint_core.specs.Classes.{becomes, descriptor_of, descriptor_for}
 use Rattle.endpoint_core.specs.declared.waiting.Waiting.{Waiting}
 use Rattle.endpoint_core.specs.declared.waiting.Waiting.TheVariants as waits
 use Rattle.endpoint_core.specs.EndpointView.{DeviceView, EndpointView}

@@ -13,10 +13,10 @@ use Rattle.tlp_core.specs.declared.packet.Body.TheVariants as bodies
 use Rattle.tlp_core.specs.TlpView.{TlpView}
 use Rattle.tlp_core.specs.Operation.{op_at, op_of}
 use Rattle.op_pieces.specs.Pieces.{dw_to, front, back, cut, rest_first, rest_last}
-use Rattle.config_space.specs.SetupView.{SetupView}
-use Rattle.endpoint_packets.specs.declared.received.Received.{Received}
-use Rattle.endpoint_packets.specs.declared.received.Received.TheVariants as received
-use Rattle.endpoint_packets.specs.Classes.{becomes}
+use Rattle.config_core.specs.SetupView.{SetupView}
+use Rattle.endpoint_core.specs.declared.received.Received.{Received}
+use Rattle.endpoint_core.specs.declared.received.Received.TheVariants as received
+use Rattle.endpoint_core.specs.Classes.{becomes}
 use Rattle.endpoint_core.specs.declared.waiting.Waiting.{Waiting}
 use Rattle.endpoint_core.specs.declared.waiting.Waiting.TheVariants as waits
 use Rattle.endpoint_core.specs.EndpointView.{DeviceView, EndpointView}

@@ -1,6 +1,6 @@
 -- A device and what waits in it, as contracts see them.
 use Rattle.std.specs.Prelude.{ℕ, List}
-use Rattle.config_space.specs.RegistersView.{RegistersView}
+use Rattle.config_core.specs.RegistersView.{RegistersView}
 use Rattle.endpoint_core.specs.declared.waiting.Waiting.{Waiting}
 
 pub record DeviceView : Type 0 where

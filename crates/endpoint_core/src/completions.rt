@@ -9,11 +9,11 @@ ghost use Rattle.completer_core.specs.Serving.{bytes_after};
 ghost use Rattle.endpoint_core.specs.Steps as spec;
 ghost use Rattle.endpoint_core.specs.Blocks as blocks;
 ghost use Rattle.op_pieces.specs.Pieces as pieces;
-ghost use Rattle.endpoint_packets.specs.Classes as classes;
+ghost use Rattle.endpoint_core.specs.Classes as classes;
 
+use crate::Descriptor;
 use crate::requests::{BLOCK, in_front};
 use completer_core::answer_lent;
-use endpoint_packets::Descriptor;
 use seq_memory::ReplyData;
 use tlp_core::{Body, Header, Kind, Status, TlpRef, op_lent};
 

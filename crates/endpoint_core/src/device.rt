@@ -2,16 +2,15 @@
 ghost use Rattle.std.specs.Prelude.{◌≡◌, ◌+◌, ◌≤◌, ◌^◌, ◌⊎◌, List, ◌∷◌, IfOk, IfSome, OnSome, replicate};
 ghost use Rattle.tlp_core.specs.declared.packet.Kind.{Kind};
 ghost use Rattle.tlp_core.specs.Operation.{op_of};
-ghost use Rattle.endpoint_packets.specs.Classes as classes;
+ghost use Rattle.endpoint_core.specs.Classes as classes;
 ghost use Rattle.endpoint_core.specs.Steps as spec;
 ghost use Rattle.endpoint_core.specs.Blocks as blocks;
 
+use crate::Descriptor;
 use crate::completions::{Place, answer_first, refused, with_word, without_data};
 use crate::requests::{act_all, block_bytes, dw_in_front};
 use crate::waiting::Waiting;
-use config_packets::CfgRequest;
-use config_space::{Noted, Registers, Setup};
-use endpoint_packets::Descriptor;
+use config_core::{CfgRequest, Noted, Registers, Setup};
 use seq_memory::ReplyData;
 use std::alloc::{AllocError, Global};
 use std::marker::Model;
@@ -20,7 +19,7 @@ use tlp_core::{Status, TlpRef, op_lent};
 /// Room for a TLP that is read without its digest, and for the payload of a completion. What it holds counts for nothing.
 #[derive(Drop)]
 pub struct Room {
-    pub(crate) packet: endpoint_packets::Room,
+    pub(crate) packet: crate::PacketRoom,
     pub(crate) data: ReplyData,
     pub(crate) word: [u8; 4],
 }
@@ -28,7 +27,7 @@ pub struct Room {
 impl Room {
     pub fn new() -> Room {
         Room {
-            packet: endpoint_packets::Room::new(),
+            packet: crate::PacketRoom::new(),
             data: ReplyData::new(),
             word: [0; 4],
         }

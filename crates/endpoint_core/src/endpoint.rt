@@ -6,9 +6,9 @@ ghost use Rattle.endpoint_core.specs.Blocks as blocks;
 
 use crate::device::{Device, Room};
 use crate::waiting::{MemoryRequest, Waiting, go_on};
-use config_space::{Noted, Setup};
-use endpoint_packets::{Malformed, Received, receive};
-use fc_credit::Need;
+use crate::{Malformed, Received, receive};
+use config_core::{Noted, Setup};
+use flow_control::Need;
 use std::alloc::{AllocError, Global};
 use std::collections::VecDeque;
 use std::marker::Model;

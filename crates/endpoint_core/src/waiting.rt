@@ -3,11 +3,10 @@ ghost use Rattle.std.specs.Prelude.{◌≡◌, ◌≤◌, length};
 ghost use Rattle.endpoint_core.specs.Steps as spec;
 ghost use Rattle.endpoint_core.specs.Blocks as blocks;
 
+use crate::Descriptor;
 use crate::requests::body_behind;
 use arrayvec::ArrayVec;
-use config_packets::CfgRequest;
-use config_space::Noted;
-use endpoint_packets::Descriptor;
+use config_core::{CfgRequest, Noted};
 use std::marker::Model;
 use tlp_core::{Header, TlpRef};
 

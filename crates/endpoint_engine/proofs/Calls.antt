@@ -1,7 +1,7 @@
 -- What is recorded of a device, call by call.
 use Rattle.std.proofs.Common.{◌≡◌, ◌∙◌, List, [], ◌∷◌, ◌++◌, refl, sym, ap, ap₂, subst, true}
 use Rattle.std.proofs.lemmas.List.Sums.{fold-append}
-use Rattle.config_space.specs.SetupView.{SetupView, is_size}
+use Rattle.config_core.specs.SetupView.{SetupView, is_size}
 use Rattle.endpoint_core.specs.EndpointView.{EndpointView}
 use Rattle.endpoint_core.specs.Steps.{new_endpoint}
 use Rattle.endpoint_core.specs.Runs.{Call, Take, Act, Reset, after_call, after_calls}

@@ -30,7 +30,7 @@ use Rattle.op_pieces.specs.Pieces.{bytes_of}
 use Rattle.history_words.specs.Records.{Record}
 use Rattle.history_words.specs.declared.record.RecordOf.TheVariants.{Sub, Ans}
 use Rattle.history_words.specs.Clocks.{IsClocked}
-use Rattle.config_space.specs.SetupView.{SetupView, is_size}
+use Rattle.config_core.specs.SetupView.{SetupView, is_size}
 use Rattle.endpoint_core.specs.Runs.{Call}
 use Rattle.endpoint_laws.specs.Requests.{IsBlockRequest, IsDataReply}
 use Rattle.endpoint_laws.specs.Runs.{AreBytes, claim_after, submitted_after}

@@ -5,13 +5,13 @@ use Rattle.hex.specs.Hex.{decode_of}
 use Rattle.hex.specs.declared.error.FromHexError.{FromHexError}
 use Rattle.hex.proofs.HexLemmas.{decode_of-ok}
 use Rattle.tlp_core.specs.Bits.{IsBytes}
-use Rattle.config_space.specs.SetupView.{SetupView}
+use Rattle.config_core.specs.SetupView.{SetupView}
 use Rattle.endpoint_core.specs.Runs.{Call, Take, Act, Reset, after_call}
 use Rattle.endpoint_log.specs.LogView.{LogView}
 use Rattle.endpoint_log.specs.Steps.{new_log}
 use Rattle.endpoint_laws.specs.Runs.{logged, AreBytes}
 use Rattle.hex_text.specs.Line.{digits_of}
-use Rattle.text_lines.specs.Lines.{lines_of, bare, said, is_skipped}
+use Rattle.hex_text.specs.Lines.{lines_of, bare, said, is_skipped}
 use Rattle.line_loop.specs.Run.{Answer, Run, after_line, answer_to, new_run}
 use Rattle.trace_text.specs.Texts.{trace_text}
 use Rattle.endpoint_engine.specs.Recorded.{IsRecorded}

@@ -2,14 +2,14 @@
 use Rattle.std.specs.Prelude.{ℕ, Bool, true, false, if◌then◌else◌, List, [], ◌∷◌, ◌++◌, take, drop, codes, bytes_eq, Option, Some, None, option_map, Result, Ok, Err}
 use Rattle.hex.specs.Hex.{decode_of}
 use Rattle.hex.specs.declared.error.FromHexError.{FromHexError}
-use Rattle.config_space.specs.SetupView.{SetupView}
-use Rattle.endpoint_packets.specs.Classes.{becomes}
+use Rattle.config_core.specs.SetupView.{SetupView}
+use Rattle.endpoint_core.specs.Classes.{becomes}
 use Rattle.endpoint_core.specs.EndpointView.{EndpointView}
 use Rattle.endpoint_core.specs.Steps as device
 use Rattle.endpoint_log.specs.LogView.{LogView}
 use Rattle.endpoint_log.specs.Steps as log
 use Rattle.hex_text.specs.Line.{digits_of}
-use Rattle.text_lines.specs.Lines.{is_skipped}
+use Rattle.hex_text.specs.Lines.{is_skipped}
 use Rattle.trace_text.specs.Texts.{trace_text}
 use Rattle.line_loop.specs.Run.{Answer, Responses, Run, run_of}
 use Rattle.endpoint_engine.specs.Texts.{handled_text, completion_text}

@@ -1,6 +1,6 @@
 -- A device that was asked something, and what is recorded of it.
 use Rattle.std.specs.Prelude.{◌≡◌, ◌^◌, ◌<◌, List, length}
-use Rattle.config_space.specs.SetupView.{SetupView}
+use Rattle.config_core.specs.SetupView.{SetupView}
 use Rattle.endpoint_core.specs.EndpointView.{EndpointView}
 use Rattle.endpoint_core.specs.Steps.{new_endpoint}
 use Rattle.endpoint_core.specs.Runs.{Call, after_calls}

@@ -4,9 +4,9 @@ use Rattle.hex.specs.Hex.{encode_upper}
 use Rattle.tlp_core.specs.TlpView.{TlpView}
 use Rattle.tlp_core.specs.Layout.{canonical}
 use Rattle.tlp_core.specs.Fault as packet
-use Rattle.config_packets.specs.Fault as configuration
-use Rattle.endpoint_packets.specs.declared.received.Malformed.{Malformed}
-use Rattle.endpoint_packets.specs.declared.received.Malformed.TheVariants as malformed
+use Rattle.config_core.specs.Fault as configuration
+use Rattle.endpoint_core.specs.declared.received.Malformed.{Malformed}
+use Rattle.endpoint_core.specs.declared.received.Malformed.TheVariants as malformed
 use Rattle.endpoint_core.specs.declared.endpoint.Handled.{Handled}
 use Rattle.endpoint_core.specs.declared.endpoint.Handled.TheVariants as handles
 use Rattle.hex_text.specs.Line.{spaced}

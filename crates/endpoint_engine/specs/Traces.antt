@@ -1,6 +1,6 @@
 -- A traced device that was asked lines, and what it prints to the line `trace` then.
 use Rattle.std.specs.Prelude.{ℕ, List, true, codes}
-use Rattle.config_space.specs.SetupView.{SetupView}
+use Rattle.config_core.specs.SetupView.{SetupView}
 use Rattle.endpoint_engine.specs.Lines.{DeviceLines, answer_line, out_endpoint}
 
 abbrev pub asked : SetupView → List ℕ → DeviceLines

@@ -2,7 +2,7 @@
 ghost use Rattle.std.specs.Prelude.{◌≡◌, ◌∷◌, [], ℕ, List, Some, IsSome, true, codes};
 ghost use Rattle.history_words.specs.Clocks.{IsClocked};
 ghost use Rattle.history_words.specs.Trace.{Explains};
-ghost use Rattle.config_space.specs.SetupView.{SetupView, is_size};
+ghost use Rattle.config_core.specs.SetupView.{SetupView, is_size};
 ghost use Rattle.endpoint_core.specs.EndpointView.{EndpointView};
 ghost use Rattle.endpoint_core.specs.Runs.{Call, after_call};
 ghost use Rattle.endpoint_core.specs.Steps.{new_endpoint};

@@ -12,12 +12,11 @@ use crate::texts::{no_line, put_completion, put_handled};
 use diagnostics::tell_long_line;
 use endpoint_core::{Endpoint, Room};
 use endpoint_log::Log;
-use hex_text::{HexLine, HexText};
+use hex_text::{HexLine, HexText, is_skipped};
 use line_loop::{EngineFault, Responder, Verdict, run};
 use std::alloc::{AllocError, Global};
 use std::io::{Read, Write, sink};
 use std::marker::Model;
-use text_lines::is_skipped;
 use tlp_core::MAX_TLP;
 use trace_engine::tell_trace;
 
@@ -34,7 +33,7 @@ struct Lines {
 #[derive(Drop)]
 struct Rooms {
     device: Room,
-    record: endpoint_packets::Room,
+    record: endpoint_core::PacketRoom,
     packet: [u8; MAX_TLP],
     text: HexText,
 }
@@ -58,7 +57,7 @@ impl Lines {
             log: new_log(alloc, options),
             rooms: Rooms {
                 device: Room::new(),
-                record: endpoint_packets::Room::new(),
+                record: endpoint_core::PacketRoom::new(),
                 packet: [0; MAX_TLP],
                 text: HexText::new(),
             },

@@ -1,5 +1,5 @@
 //! What is asked of a device.
-use config_space::Setup;
+use config_core::Setup;
 
 /// Which device is made, and whether it is traced.
 #[derive(Clone, Copy)]

@@ -1,6 +1,6 @@
 //! What is recorded of a device, if it is traced.
 ghost use Rattle.std.specs.Prelude.{◌≡◌, if◌then◌else◌, Some, None, IsSome, option_map, option_and_then, IfOk, OnOk, OnErr};
-ghost use Rattle.endpoint_packets.specs.Classes.{becomes};
+ghost use Rattle.endpoint_core.specs.Classes.{becomes};
 ghost use Rattle.endpoint_log.specs.Steps as log_steps;
 
 use crate::options::EndpointOptions;
@@ -25,7 +25,7 @@ pub(crate) fn record_coming(
     log: &mut Option<Log>,
     endpoint: &Endpoint,
     tlp: &[u8],
-    room: &mut endpoint_packets::Room,
+    room: &mut endpoint_core::PacketRoom,
 ) -> Result<(), AllocError>
     ensures { OnOk result (log.new ≡ option_map (log_steps.came endpoint.now.device (becomes tlp.now)) log.old) }
 {

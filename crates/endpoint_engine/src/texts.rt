@@ -5,8 +5,7 @@ ghost use Rattle.tlp_core.specs.Layout.{canonical};
 ghost use Rattle.hex_text.specs.Line.{spaced};
 ghost use Rattle.endpoint_engine.specs.Texts as spec;
 
-use endpoint_core::Handled;
-use endpoint_packets::Malformed;
+use endpoint_core::{Handled, Malformed};
 use hex_text::{HexText, write_both, write_bytes};
 use line_loop::Verdict;
 use std::alloc::AllocError;

@@ -16,10 +16,10 @@ use Rattle.seq_memory.specs.Entries.{Reply}
 use Rattle.seq_memory.specs.Step.{answer, read_back, data_of}
 use Rattle.op_pieces.specs.Pieces.{dw_to, front}
 use Rattle.completer_core.specs.Completion.{completion, completion_of, unless_posted}
-use Rattle.config_space.specs.SetupView.{SetupView}
-use Rattle.config_space.specs.RegistersView.{RegistersView}
-use Rattle.config_space.specs.Registers.{base_of, is_on, after_error}
-use Rattle.config_space.specs.declared.registers.Noted.{Noted}
+use Rattle.config_core.specs.SetupView.{SetupView}
+use Rattle.config_core.specs.RegistersView.{RegistersView}
+use Rattle.config_core.specs.Registers.{base_of, is_on, after_error}
+use Rattle.config_core.specs.declared.registers.Noted.{Noted}
 use Rattle.endpoint_core.specs.EndpointView.{DeviceView}
 use Rattle.endpoint_core.specs.Steps.{base_of_op, dw_before_end, dw_in_front, first_block, body_behind, behind, completion_at, from, noting}
 use Rattle.endpoint_laws.proofs.Registers.{error_on, error_base}

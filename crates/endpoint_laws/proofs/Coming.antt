@@ -20,17 +20,17 @@ use Rattle.tlp_core.specs.Layout.{Spells, dw_count, header_length}
 use Rattle.tlp_core.specs.Faults.{reading}
 use Rattle.tlp_core.specs.Operation.{op_at, op_of, op_fault, is_posted, width_of, wrong_length, wrong_enables, wrong_operand, wrong_address}
 use Rattle.op_pieces.specs.Pieces.{bytes_of}
-use Rattle.config_packets.specs.declared.request.CfgRequest.{CfgRequest}
-use Rattle.config_packets.specs.declared.fault.CfgFault.{CfgFault}
-use Rattle.config_packets.specs.Layout as configuration
-use Rattle.config_space.specs.declared.registers.Noted.{Noted}
-use Rattle.config_space.specs.declared.registers.Noted.TheVariants as noted
-use Rattle.endpoint_packets.specs.DescriptorView.{DescriptorView}
-use Rattle.endpoint_packets.specs.declared.received.Malformed.{Malformed}
-use Rattle.endpoint_packets.specs.declared.received.Malformed.TheVariants as faulty
-use Rattle.endpoint_packets.specs.declared.received.Received.{Received}
-use Rattle.endpoint_packets.specs.declared.received.Received.TheVariants as received
-use Rattle.endpoint_packets.specs.Classes as classes
+use Rattle.config_core.specs.declared.request.CfgRequest.{CfgRequest}
+use Rattle.config_core.specs.declared.fault.CfgFault.{CfgFault}
+use Rattle.config_core.specs.Layout as configuration
+use Rattle.config_core.specs.declared.registers.Noted.{Noted}
+use Rattle.config_core.specs.declared.registers.Noted.TheVariants as noted
+use Rattle.endpoint_core.specs.DescriptorView.{DescriptorView}
+use Rattle.endpoint_core.specs.declared.received.Malformed.{Malformed}
+use Rattle.endpoint_core.specs.declared.received.Malformed.TheVariants as faulty
+use Rattle.endpoint_core.specs.declared.received.Received.{Received}
+use Rattle.endpoint_core.specs.declared.received.Received.TheVariants as received
+use Rattle.endpoint_core.specs.Classes as classes
 
 -- ---- the operation of a packet
 

@@ -5,12 +5,12 @@ use Rattle.std.specs.Int.{bit_at}
 use Rattle.std.proofs.lemmas.Bool.Decides.{nat_tests}
 use Rattle.std.proofs.lemmas.Nat.{and_mask}
 use Rattle.std.proofs.lemmas.Nat.Bits.{bit_at_lowest, bit_at-suc, bit_at_or}
-use Rattle.config_space.specs.declared.registers.Noted.{Noted}
-use Rattle.config_space.specs.declared.registers.Noted.TheVariants as noted
-use Rattle.config_space.specs.SetupView.{SetupView, is_size}
-use Rattle.config_space.specs.RegistersView.{RegistersView}
-use Rattle.config_space.specs.Registers.{register_at, value, put, after_error, after_reset, base_of, is_on}
-use Rattle.config_space.specs.Changes.{Change, Write, Error, after_change, after_changes}
+use Rattle.config_core.specs.declared.registers.Noted.{Noted}
+use Rattle.config_core.specs.declared.registers.Noted.TheVariants as noted
+use Rattle.config_core.specs.SetupView.{SetupView, is_size}
+use Rattle.config_core.specs.RegistersView.{RegistersView}
+use Rattle.config_core.specs.Registers.{register_at, value, put, after_error, after_reset, base_of, is_on}
+use Rattle.config_core.specs.Changes.{Change, Write, Error, after_change, after_changes}
 
 -- the law of read-only bits
 abbrev pub Stays : Type 0

@@ -11,8 +11,8 @@ use Rattle.seq_memory.specs.History.{extent_of}
 use Rattle.history_words.specs.declared.record.RecordOf.TheVariants.{Sub, Ans}
 use Rattle.history_words.specs.Clocks.{IsClocked}
 use Rattle.history_words.specs.Trace.{Explains}
-use Rattle.config_space.specs.SetupView.{SetupView, is_size}
-use Rattle.endpoint_packets.specs.Classes.{becomes}
+use Rattle.config_core.specs.SetupView.{SetupView, is_size}
+use Rattle.endpoint_core.specs.Classes.{becomes}
 use Rattle.endpoint_core.specs.EndpointView.{EndpointView}
 use Rattle.endpoint_core.specs.Steps.{new_endpoint, acted}
 use Rattle.endpoint_core.specs.Runs.{Call, Take, Act, Reset, after_call, after_calls, all_of, all_coming, all_leaving, blocks_coming, blocks_leaving, blocks_waiting}

@@ -9,13 +9,13 @@ use Rattle.tlp_core.specs.TlpView.{TlpView}
 use Rattle.op_pieces.specs.Pieces.{all_bytes, bytes_of}
 use Rattle.history_words.specs.Records.{Record}
 use Rattle.history_words.specs.declared.record.RecordOf.TheVariants.{Sub, Ans}
-use Rattle.config_space.specs.declared.registers.Noted.{Noted}
-use Rattle.config_space.specs.declared.registers.Noted.TheVariants as noted
-use Rattle.config_space.specs.SetupView.{SetupView}
-use Rattle.config_space.specs.Changes.{Write, Error}
-use Rattle.config_packets.specs.declared.request.CfgRequest.{CfgRequest}
-use Rattle.endpoint_packets.specs.declared.received.Received.{Received}
-use Rattle.endpoint_packets.specs.declared.received.Received.TheVariants as received
+use Rattle.config_core.specs.declared.registers.Noted.{Noted}
+use Rattle.config_core.specs.declared.registers.Noted.TheVariants as noted
+use Rattle.config_core.specs.SetupView.{SetupView}
+use Rattle.config_core.specs.Changes.{Write, Error}
+use Rattle.config_core.specs.declared.request.CfgRequest.{CfgRequest}
+use Rattle.endpoint_core.specs.declared.received.Received.{Received}
+use Rattle.endpoint_core.specs.declared.received.Received.TheVariants as received
 use Rattle.endpoint_core.specs.declared.waiting.Waiting.{Waiting}
 use Rattle.endpoint_core.specs.declared.waiting.Waiting.TheVariants as waits
 use Rattle.endpoint_core.specs.EndpointView.{DeviceView, EndpointView}

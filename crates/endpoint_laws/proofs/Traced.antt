@@ -9,14 +9,14 @@ use Rattle.tlp_core.specs.Operation.{op_of, is_posted, op_fault, address_of, cou
 use Rattle.tlp_core.specs.TlpView.{TlpView}
 use Rattle.seq_memory.specs.Entries.{Reply}
 use Rattle.seq_memory.specs.Step.{after, answer, bytes_at, read_back, data_of}
-use Rattle.config_space.specs.declared.registers.Noted.{Noted}
-use Rattle.config_space.specs.declared.registers.Noted.TheVariants as noted
-use Rattle.config_space.specs.SetupView.{SetupView}
-use Rattle.config_space.specs.Registers.{written}
-use Rattle.config_space.specs.Changes.{Write, Error}
-use Rattle.config_packets.specs.declared.request.CfgRequest.{CfgRequest}
-use Rattle.endpoint_packets.specs.declared.received.Received.{Received}
-use Rattle.endpoint_packets.specs.declared.received.Received.TheVariants as received
+use Rattle.config_core.specs.declared.registers.Noted.{Noted}
+use Rattle.config_core.specs.declared.registers.Noted.TheVariants as noted
+use Rattle.config_core.specs.SetupView.{SetupView}
+use Rattle.config_core.specs.Registers.{written}
+use Rattle.config_core.specs.Changes.{Write, Error}
+use Rattle.config_core.specs.declared.request.CfgRequest.{CfgRequest}
+use Rattle.endpoint_core.specs.declared.received.Received.{Received}
+use Rattle.endpoint_core.specs.declared.received.Received.TheVariants as received
 use Rattle.endpoint_core.specs.declared.waiting.Waiting.{Waiting}
 use Rattle.endpoint_core.specs.declared.waiting.Waiting.TheVariants as waits
 use Rattle.endpoint_core.specs.EndpointView.{DeviceView, EndpointView}

@@ -8,12 +8,12 @@ ghost use Rattle.history_words.specs.declared.record.RecordOf.TheVariants.{Sub, 
 ghost use Rattle.history_words.specs.Clocks.{IsClocked, KeepsRealTimeOrder};
 ghost use Rattle.history_words.specs.Flaws.{first_flaw_clocked};
 ghost use Rattle.history_words.specs.Trace.{Explains};
-ghost use Rattle.config_space.specs.SetupView.{SetupView, is_size};
+ghost use Rattle.config_core.specs.SetupView.{SetupView, is_size};
 ghost use Rattle.endpoint_core.specs.Runs.{Call};
 ghost use Rattle.endpoint_laws.specs.Requests.{IsBlockRequest, IsDataReply};
 ghost use Rattle.endpoint_laws.specs.Runs.{AreBytes, claim_after, submitted_after};
 
-use config_space::laws::what_is_read_only_stays;
+use config_core::laws::what_is_read_only_stays;
 use endpoint_core::laws::whatever_comes;
 use history_check::laws::explained_is_without_flaw;
 use history_words::laws::answered_first_acts_first;

@@ -11,9 +11,9 @@ use Rattle.seq_memory.specs.declared.reply.ReplyOf.TheVariants as replies
 use Rattle.seq_memory.specs.Step.{data_of}
 use Rattle.history_words.specs.declared.record.RecordOf.TheVariants as records
 use Rattle.history_words.specs.Claim.{Claim}
-use Rattle.config_space.specs.SetupView.{SetupView}
-use Rattle.endpoint_packets.specs.declared.received.Received.{Received}
-use Rattle.endpoint_packets.specs.declared.received.Received.TheVariants as received
+use Rattle.config_core.specs.SetupView.{SetupView}
+use Rattle.endpoint_core.specs.declared.received.Received.{Received}
+use Rattle.endpoint_core.specs.declared.received.Received.TheVariants as received
 use Rattle.endpoint_core.specs.EndpointView.{DeviceView, EndpointView}
 use Rattle.endpoint_core.specs.Steps as device
 use Rattle.endpoint_log.specs.LogView.{LogView}

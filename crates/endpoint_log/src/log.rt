@@ -2,13 +2,12 @@
 ghost use Rattle.std.specs.Prelude.{◌≡◌, ◌+◌, ◌≤◌, ◌^◌, fold, IfOk, IsErr, OnOk};
 ghost use Rattle.tlp_core.specs.Operation.{address_of, count_of, op_of};
 ghost use Rattle.op_pieces.specs.Pieces.{dw_of, cut};
-ghost use Rattle.endpoint_packets.specs.Classes.{becomes};
+ghost use Rattle.endpoint_core.specs.Classes.{becomes};
 ghost use Rattle.endpoint_log.specs.Steps as spec;
 
 use crate::moved::{BLOCK, dw_in_front, first_moved, moved, reply_in};
-use config_space::Setup;
-use endpoint_core::Endpoint;
-use endpoint_packets::{Received, Room, receive};
+use config_core::Setup;
+use endpoint_core::{Endpoint, PacketRoom, Received, receive};
 use history_words::AsClaim;
 use op_pieces::{back, dw_of, dw_to, front};
 use seq_memory::Extent;
@@ -138,7 +137,7 @@ impl Log {
         &mut self,
         endpoint: &Endpoint,
         tlp: &[u8],
-        room: &mut Room,
+        room: &mut PacketRoom,
     ) -> Result<(), AllocError>
         ensures ok { OnOk result (self.new ≡ spec.came endpoint.now.device (becomes tlp.now) self.old) }
         ensures err { IsErr result → spec.IsPosted (becomes tlp.now) }

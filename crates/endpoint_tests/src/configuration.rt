@@ -1,6 +1,6 @@
 //! Configuration requests as a root complex sends them.
 use arrayvec::ArrayVec;
-use config_packets::{CfgFault, CfgRequest, decode, encode};
+use config_core::{CfgFault, CfgRequest, decode, encode};
 
 /// CfgWr0 of FEDC0000h to the register at 010h.
 const WRITE: [u8; 16] = [

@@ -1,7 +1,6 @@
 //! TLPs that have no completion, and what the registers say of them.
 use crate::session::{answers, device, take};
-use endpoint_core::{Endpoint, Handled, Room};
-use endpoint_packets::Malformed;
+use endpoint_core::{Endpoint, Handled, Malformed, Room};
 use tlp_core::TlpFault;
 
 /// What becomes of TLPs that don't wait.

@@ -1,5 +1,5 @@
 //! A device beside the digits of its TLPs.
-use config_space::Setup;
+use config_core::Setup;
 use endpoint_core::{Endpoint, Handled, Room};
 use hex_text::HexLine;
 use std::alloc::{AllocError, Global};

@@ -6,17 +6,17 @@ use Rattle.tlp_core.specs.TlpView.{TlpView}
 use Rattle.tlp_core.specs.Ops.{Op}
 use Rattle.seq_memory.specs.History.{MemoryView}
 use Rattle.requester_core.specs.RequesterView.{RequesterView}
-use Rattle.lane_ends.specs.Steps.{LaneEndsView, ReceiverEndView, SenderEndView}
+use Rattle.lane_core.specs.Steps.{LaneEndsView, ReceiverEndView, SenderEndView}
 use Rattle.tlp_core.specs.Operation.{is_completion}
-use Rattle.vc_queue.specs.Queue.{Item, is_takeable}
-use Rattle.switch_ports.specs.Routing.{route, port_of, is_requester}
-use Rattle.switch_ports.specs.declared.fault.RouteFault.TheVariants.{NoPort}
-use Rattle.fabric_laws.specs.Fabric.{Fabric}
-use Rattle.fabric_events.specs.declared.event.LaneName.TheVariants as lanes
-use Rattle.fabric_events.specs.declared.event.SeenOf.TheVariants as seen
-use Rattle.fabric_events.specs.declared.fault.Refusal.{Refusal}
-use Rattle.fabric_events.specs.declared.fault.Refusal.TheVariants as refusals
-use Rattle.fabric_events.specs.declared.event.EventOf.TheVariants as events
+use Rattle.flow_control.specs.Queue.{Item, is_takeable}
+use Rattle.switch_core.specs.Routing.{route, port_of, is_requester}
+use Rattle.switch_core.specs.declared.route_fault.RouteFault.TheVariants.{NoPort}
+use Rattle.fabric_steps.specs.Fabric.{Fabric}
+use Rattle.fabric_steps.specs.declared.event.LaneName.TheVariants as lanes
+use Rattle.fabric_steps.specs.declared.event.SeenOf.TheVariants as seen
+use Rattle.fabric_steps.specs.declared.fault.Refusal.{Refusal}
+use Rattle.fabric_steps.specs.declared.fault.Refusal.TheVariants as refusals
+use Rattle.fabric_steps.specs.declared.event.EventOf.TheVariants as events
 use Rattle.fabric_core.specs.Answers.{Refuses, Refused, lane_grows, serving_grows, event_grows, act_on, serve_on, map_ok, and_then, map_err, item_at, submit_on, destination_on, forward_on, forward_at}
 use Rattle.fabric_core.specs.Steps.{HasPart}
 

@@ -9,11 +9,11 @@ use Rattle.tlp_core.specs.Ops.{Op}
 use Rattle.history_words.specs.Records.{Record}
 use Rattle.history_words.specs.declared.record.RecordOf.TheVariants.{Sub}
 use Rattle.history_words.specs.Trace.{submissions}
-use Rattle.fabric_laws.specs.Fabric.{Fabric}
-use Rattle.fabric_laws.specs.Lists.{Each}
-use Rattle.fabric_events.specs.Events.{Event, Seen}
-use Rattle.fabric_events.specs.declared.event.EventOf.TheVariants as events
-use Rattle.fabric_events.specs.declared.event.SeenOf.TheVariants as seen
+use Rattle.fabric_steps.specs.Fabric.{Fabric}
+use Rattle.fabric_steps.specs.Lists.{Each}
+use Rattle.fabric_steps.specs.Event.{Event, Seen}
+use Rattle.fabric_steps.specs.declared.event.EventOf.TheVariants as events
+use Rattle.fabric_steps.specs.declared.event.SeenOf.TheVariants as seen
 use Rattle.fabric_core.specs.Kept.{IsSoundFabric, records_of}
 use Rattle.fabric_core.specs.Runs.{Runs}
 use Rattle.fabric_core.proofs.Runs.{Each as EachEvent}

@@ -5,20 +5,20 @@ use Rattle.std.proofs.lemmas.Bool.Decides.{nat_tests}
 use Rattle.std.proofs.lemmas.List.{length-append}
 use Rattle.tlp_core.specs.TlpView.{TlpView}
 use Rattle.tlp_core.specs.Layout.{Spells, canonical}
-use Rattle.fc_credit.specs.declared.needs.Need.{Need}
+use Rattle.flow_control.specs.declared.needs.Need.{Need}
 use Rattle.seq_memory.specs.History.{MemoryView}
 use Rattle.completer_core.specs.Serving.{completion_to, after_serving}
-use Rattle.replay_sender.specs.CargoView.{CargoView}
-use Rattle.fc_credit.specs.Needs.{need_of}
-use Rattle.fc_credit.specs.Credits.{gate_covers}
-use Rattle.vc_queue.specs.Queue.{is_takeable}
-use Rattle.lane_ends.specs.Content.{cargo_of}
-use Rattle.lane_ends.specs.declared.packet.LaneRefusal.{LaneRefusal}
-use Rattle.lane_ends.specs.declared.packet.LaneRefusal.TheVariants as no_room
-use Rattle.lane_ends.specs.Refusals.{LacksRoom}
-use Rattle.lane_ends.specs.Steps.{ReceiverEndView, SenderEndView, may_enter, entered}
-use Rattle.fabric_events.specs.declared.fault.Refusal.{Refusal}
-use Rattle.fabric_events.specs.declared.fault.Refusal.TheVariants as refusals
+use Rattle.link_replay.specs.CargoView.{CargoView}
+use Rattle.flow_control.specs.Needs.{need_of}
+use Rattle.flow_control.specs.Credits.{gate_covers}
+use Rattle.flow_control.specs.Queue.{is_takeable}
+use Rattle.lane_core.specs.Content.{cargo_of}
+use Rattle.lane_core.specs.declared.packet.LaneRefusal.{LaneRefusal}
+use Rattle.lane_core.specs.declared.packet.LaneRefusal.TheVariants as no_room
+use Rattle.lane_core.specs.Refusals.{LacksRoom}
+use Rattle.lane_core.specs.Steps.{ReceiverEndView, SenderEndView, may_enter, entered}
+use Rattle.fabric_steps.specs.declared.fault.Refusal.{Refusal}
+use Rattle.fabric_steps.specs.declared.fault.Refusal.TheVariants as refusals
 use Rattle.fabric_core.specs.ByParts.{Enters}
 use Rattle.fabric_core.specs.Answers.{Refuses, serving_grows, map_ok, enter_on, enter_if_any, item_at, act_on, ActFits}
 

@@ -6,14 +6,14 @@ use Rattle.tlp_core.specs.Layout.{Spells, canonical}
 use Rattle.seq_memory.specs.Limits.{IsBlock}
 use Rattle.seq_memory.specs.History.{MemoryView}
 use Rattle.completer_core.specs.Serving.{completion_to}
-use Rattle.lane_ends.specs.Steps.{LaneEndsView}
+use Rattle.lane_core.specs.Steps.{LaneEndsView}
 use Rattle.lane_core.specs.Calls.{content, on_the_way, IsRight}
-use Rattle.fabric_laws.specs.Fabric.{Fabric}
-use Rattle.fabric_events.specs.Events.{Event, Seen}
-use Rattle.fabric_events.specs.declared.event.EventOf.TheVariants as events
-use Rattle.fabric_events.specs.declared.event.LaneName.{LaneName}
-use Rattle.fabric_events.specs.declared.event.LaneName.TheVariants as lanes
-use Rattle.fabric_events.specs.declared.fault.Refusal.TheVariants as refusals
+use Rattle.fabric_steps.specs.Fabric.{Fabric}
+use Rattle.fabric_steps.specs.Event.{Event, Seen}
+use Rattle.fabric_steps.specs.declared.event.EventOf.TheVariants as events
+use Rattle.fabric_steps.specs.declared.event.LaneName.{LaneName}
+use Rattle.fabric_steps.specs.declared.event.LaneName.TheVariants as lanes
+use Rattle.fabric_steps.specs.declared.fault.Refusal.TheVariants as refusals
 use Rattle.fabric_core.specs.Answers.{part_at, lane_at, item_at, answer, Fits, Happens}
 use Rattle.fabric_core.specs.Kept.{IsSoundFabric, IsNoSubmission, down_credits}
 use Rattle.fabric_core.proofs.Views.{some_ok, at_place}

@@ -6,22 +6,22 @@ use Rattle.tlp_core.specs.Ops.{Op}
 use Rattle.seq_memory.specs.History.{MemoryView}
 use Rattle.completer_core.specs.Serving.{completion_to}
 use Rattle.requester_core.specs.RequesterView.{RequesterView, prepared, finished}
-use Rattle.fc_credit.specs.Credits.{gate_covers}
-use Rattle.fc_credit.specs.Needs.{need_of}
-use Rattle.vc_queue.specs.Queue.{is_takeable}
-use Rattle.switch_ports.specs.Routing.{route}
-use Rattle.lane_ends.specs.declared.packet.LaneRefusal.TheVariants as no_room
-use Rattle.lane_ends.specs.Steps.{LaneEndsView, ReceiverEndView, SenderEndView, transmitted, delivered, dllp_seen}
-use Rattle.fabric_laws.specs.Fabric.{Fabric}
-use Rattle.fabric_events.specs.Events.{Event, Seen}
-use Rattle.fabric_events.specs.declared.event.EventOf.TheVariants as events
-use Rattle.fabric_events.specs.declared.event.LaneName.{LaneName}
-use Rattle.fabric_events.specs.declared.event.LaneName.TheVariants as lanes
-use Rattle.fabric_events.specs.declared.event.LinkEvent.{LinkEvent}
-use Rattle.fabric_events.specs.declared.event.LinkEvent.TheVariants as links
-use Rattle.fabric_events.specs.declared.fault.Refusal.{Refusal}
-use Rattle.fabric_events.specs.declared.fault.Refusal.TheVariants as refusals
-use Rattle.fabric_events.specs.Faults.{is_memory}
+use Rattle.flow_control.specs.Credits.{gate_covers}
+use Rattle.flow_control.specs.Needs.{need_of}
+use Rattle.flow_control.specs.Queue.{is_takeable}
+use Rattle.switch_core.specs.Routing.{route}
+use Rattle.lane_core.specs.declared.packet.LaneRefusal.TheVariants as no_room
+use Rattle.lane_core.specs.Steps.{LaneEndsView, ReceiverEndView, SenderEndView, transmitted, delivered, dllp_seen}
+use Rattle.fabric_steps.specs.Fabric.{Fabric}
+use Rattle.fabric_steps.specs.Event.{Event, Seen}
+use Rattle.fabric_steps.specs.declared.event.EventOf.TheVariants as events
+use Rattle.fabric_steps.specs.declared.event.LaneName.{LaneName}
+use Rattle.fabric_steps.specs.declared.event.LaneName.TheVariants as lanes
+use Rattle.fabric_steps.specs.declared.event.LinkEvent.{LinkEvent}
+use Rattle.fabric_steps.specs.declared.event.LinkEvent.TheVariants as links
+use Rattle.fabric_steps.specs.declared.fault.Refusal.{Refusal}
+use Rattle.fabric_steps.specs.declared.fault.Refusal.TheVariants as refusals
+use Rattle.fabric_steps.specs.Faults.{is_memory}
 use Rattle.fabric_core.specs.Answers.{and_then, map_ok, some_or, map_err, transmit_on, deliver_on, deliver_dllp_on, timer_on, retrained_on, enter_on, item_at, submit_on, destination_on, forward_on, enter_if_any, act_on, serve_on, collect_on, part_at, lane_at, port_from, lane_to, or_no_port, link_on, link_at, forward_to, answer, Refuses, Refused, event_grows}
 
 -- the refusal of an answer, if it is one, isn't want of memory

@@ -1,16 +1,16 @@
 -- A refusal for another cause than memory is the answer.
 use Rattle.std.proofs.Common.{◌≡◌, ap, sym, subst, Result, Ok, Err}
-use Rattle.lane_ends.specs.declared.packet.LaneRefusal.TheVariants.{NoCredits, WindowFull, Memory}
-use Rattle.lane_ends.specs.declared.packet.Arrival.TheVariants.{Answered, Gone}
-use Rattle.link_receiver.specs.declared.receiver.Reception.TheVariants.{Accept, Duplicate, NakNow, Quiet}
-use Rattle.lane_ends.specs.Steps.{SenderEndView}
-use Rattle.fabric_laws.specs.Fabric.{Fabric}
-use Rattle.fabric_events.specs.Events.{Event, Seen}
-use Rattle.fabric_events.specs.declared.event.SeenOf.TheVariants as seen
-use Rattle.fabric_events.specs.declared.fault.Refusal.{Refusal}
-use Rattle.fabric_events.specs.declared.fault.Refusal.TheVariants as refusals
+use Rattle.lane_core.specs.declared.packet.LaneRefusal.TheVariants.{NoCredits, WindowFull, Memory}
+use Rattle.lane_core.specs.declared.packet.Arrival.TheVariants.{Answered, Gone}
+use Rattle.link_replay.specs.declared.receiver.Reception.TheVariants.{Accept, Duplicate, NakNow, Quiet}
+use Rattle.lane_core.specs.Steps.{SenderEndView}
+use Rattle.fabric_steps.specs.Fabric.{Fabric}
+use Rattle.fabric_steps.specs.Event.{Event, Seen}
+use Rattle.fabric_steps.specs.declared.event.SeenOf.TheVariants as seen
+use Rattle.fabric_steps.specs.declared.fault.Refusal.{Refusal}
+use Rattle.fabric_steps.specs.declared.fault.Refusal.TheVariants as refusals
 use Rattle.fabric_core.specs.Answers.{Refuses, Refused, answer, event_grows, serving_grows}
-use Rattle.fabric_events.specs.Faults.{IsTold}
+use Rattle.fabric_steps.specs.Faults.{IsTold}
 
 lane_memory : (r : Refusal) → r ≡ refusals.Lane Memory → IsTold r → ⊥
 lane_memory r h k = let no : IsTold (refusals.Lane Memory) = subst IsTold h k in cc

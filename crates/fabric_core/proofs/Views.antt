@@ -7,30 +7,30 @@ use Rattle.tlp_core.specs.TlpView.{TlpView}
 use Rattle.completer_core.specs.Serving.{completion_to}
 use Rattle.requester_core.specs.Answers.{Answer}
 use Rattle.requester_core.specs.RequesterView.{RequesterView, prepared, finished}
-use Rattle.fc_credit.specs.Needs.{need_of}
-use Rattle.fc_credit.specs.Credits.{gate_covers}
-use Rattle.vc_queue.specs.Queue.{Item, is_takeable}
-use Rattle.switch_ports.specs.Routing.{route, port_of, is_requester}
-use Rattle.lane_ends.specs.declared.packet.LaneRefusal.TheVariants as no_room
-use Rattle.lane_ends.specs.Steps.{LaneEndsView, ReceiverEndView, SenderEndView, entered, transmitted, delivered, dllp_of, dllp_seen, after_timer, after_retraining}
+use Rattle.flow_control.specs.Needs.{need_of}
+use Rattle.flow_control.specs.Credits.{gate_covers}
+use Rattle.flow_control.specs.Queue.{Item, is_takeable}
+use Rattle.switch_core.specs.Routing.{route, port_of, is_requester}
+use Rattle.lane_core.specs.declared.packet.LaneRefusal.TheVariants as no_room
+use Rattle.lane_core.specs.Steps.{LaneEndsView, ReceiverEndView, SenderEndView, entered, transmitted, delivered, dllp_of, dllp_seen, after_timer, after_retraining}
 use Rattle.lane_core.specs.Calls.{after_call}
-use Rattle.fabric_laws.specs.Fabric.{Fabric}
-use Rattle.fabric_events.specs.declared.event.LaneName.{LaneName}
-use Rattle.fabric_events.specs.declared.event.LaneName.TheVariants as lanes
-use Rattle.fabric_events.specs.declared.event.LinkEvent.{LinkEvent}
-use Rattle.fabric_events.specs.declared.event.LinkEvent.TheVariants as links
-use Rattle.fabric_events.specs.declared.event.SeenOf.TheVariants as seen
-use Rattle.fabric_events.specs.declared.fault.Refusal.{Refusal}
-use Rattle.fabric_events.specs.declared.fault.Refusal.TheVariants as refusals
+use Rattle.fabric_steps.specs.Fabric.{Fabric}
+use Rattle.fabric_steps.specs.declared.event.LaneName.{LaneName}
+use Rattle.fabric_steps.specs.declared.event.LaneName.TheVariants as lanes
+use Rattle.fabric_steps.specs.declared.event.LinkEvent.{LinkEvent}
+use Rattle.fabric_steps.specs.declared.event.LinkEvent.TheVariants as links
+use Rattle.fabric_steps.specs.declared.event.SeenOf.TheVariants as seen
+use Rattle.fabric_steps.specs.declared.fault.Refusal.{Refusal}
+use Rattle.fabric_steps.specs.declared.fault.Refusal.TheVariants as refusals
 use Rattle.fabric_core.specs.Answers.{and_then, map_ok, some_or, map_err, transmit_on, deliver_on, deliver_dllp_on, timer_on, retrained_on, link_on, link_at, part_at, or_no_port, enter_on, enter_if_any, item_at, submit_on, submit_at, destination_on, forward_on, forward_to, forward_at, act_on, serve_on, serve_at, collect_on, collect_at, SubmitFits, ForwardFits, ServeFits}
 use Rattle.fabric_core.proofs.Answering.{goes_inward}
 use Rattle.fabric_core.specs.ByParts.{Enters, EntersIfAny, IsAt, IsRoutedAs, IsSeen, Links, Submits, call_of}
 use Rattle.fabric_core.specs.Steps.{HasPart, Happens}
 use Rattle.fabric_core.specs.ByParts.{LinksAt, SubmitsAt, ForwardsUp, ForwardsOut, ServesAt, CollectsAt, HappensByParts}
-use Rattle.fabric_events.specs.Events.{Event, Seen}
-use Rattle.fabric_events.specs.declared.event.EventOf.TheVariants as events
+use Rattle.fabric_steps.specs.Event.{Event, Seen}
+use Rattle.fabric_steps.specs.declared.event.EventOf.TheVariants as events
 use Rattle.switch_core.specs.Forwarding.{Forwards}
-use Rattle.switch_ports.specs.declared.fault.RouteFault.TheVariants.{NoPort}
+use Rattle.switch_core.specs.declared.route_fault.RouteFault.TheVariants.{NoPort}
 use Rattle.tlp_core.specs.Layout.{Spells, canonical}
 use Rattle.tlp_core.specs.Operation.{is_completion}
 

@@ -12,30 +12,30 @@ use Rattle.tlp_core.specs.Operation.{op_of}
 use Rattle.tlp_core.specs.Layout.{Spells, canonical}
 use Rattle.requester_core.specs.RequesterView.{RequesterView, IsSound, prepared, after_opened, finished, after_finish}
 use Rattle.dllp_core.specs.declared.packet.Dllp.{Dllp}
-use Rattle.fc_credit.specs.Needs.{need_of}
-use Rattle.fc_credit.specs.Credits.{gate_covers}
-use Rattle.vc_queue.specs.Queue.{Item, is_takeable}
-use Rattle.switch_ports.specs.declared.fault.RouteFault.TheVariants.{NoPort}
-use Rattle.switch_ports.specs.Routing.{route}
-use Rattle.link_receiver.specs.declared.receiver.Reception.TheVariants.{Accept}
-use Rattle.lane_ends.specs.declared.packet.Arrival.{Arrival}
-use Rattle.lane_ends.specs.declared.packet.Arrival.TheVariants.{Answered}
-use Rattle.lane_ends.specs.declared.packet.DllpKind.{DllpKind}
-use Rattle.lane_ends.specs.declared.packet.DllpSeen.{DllpSeen}
-use Rattle.lane_ends.specs.declared.packet.Fate.{Fate}
-use Rattle.lane_ends.specs.declared.packet.LaneRefusal.TheVariants as no_room
-use Rattle.lane_ends.specs.declared.packet.WirePacket.{WirePacket}
-use Rattle.lane_ends.specs.Steps.{LaneEndsView, ReceiverEndView, SenderEndView, entered, transmitted, after_transmission, wire_after_transmit, all_but_first, delivered, after_deliver, dllp_of, after_send, wire_after_send, dllp_seen, sender_after, after_timer, after_retraining, after_take}
-use Rattle.fabric_laws.specs.Fabric.{Fabric}
-use Rattle.fabric_events.specs.Events.{Event, Seen}
-use Rattle.fabric_events.specs.declared.event.EventOf.TheVariants as events
-use Rattle.fabric_events.specs.declared.event.LaneName.{LaneName}
-use Rattle.fabric_events.specs.declared.event.LaneName.TheVariants as lanes
-use Rattle.fabric_events.specs.declared.event.LinkEvent.{LinkEvent}
-use Rattle.fabric_events.specs.declared.event.LinkEvent.TheVariants as links
-use Rattle.fabric_events.specs.declared.event.SeenOf.TheVariants as seen
-use Rattle.fabric_events.specs.declared.fault.Refusal.{Refusal}
-use Rattle.fabric_events.specs.declared.fault.Refusal.TheVariants as refusals
+use Rattle.flow_control.specs.Needs.{need_of}
+use Rattle.flow_control.specs.Credits.{gate_covers}
+use Rattle.flow_control.specs.Queue.{Item, is_takeable}
+use Rattle.switch_core.specs.declared.route_fault.RouteFault.TheVariants.{NoPort}
+use Rattle.switch_core.specs.Routing.{route}
+use Rattle.link_replay.specs.declared.receiver.Reception.TheVariants.{Accept}
+use Rattle.lane_core.specs.declared.packet.Arrival.{Arrival}
+use Rattle.lane_core.specs.declared.packet.Arrival.TheVariants.{Answered}
+use Rattle.lane_core.specs.declared.packet.DllpKind.{DllpKind}
+use Rattle.lane_core.specs.declared.packet.DllpSeen.{DllpSeen}
+use Rattle.lane_core.specs.declared.packet.Fate.{Fate}
+use Rattle.lane_core.specs.declared.packet.LaneRefusal.TheVariants as no_room
+use Rattle.lane_core.specs.declared.packet.WirePacket.{WirePacket}
+use Rattle.lane_core.specs.Steps.{LaneEndsView, ReceiverEndView, SenderEndView, entered, transmitted, after_transmission, wire_after_transmit, all_but_first, delivered, after_deliver, dllp_of, after_send, wire_after_send, dllp_seen, sender_after, after_timer, after_retraining, after_take}
+use Rattle.fabric_steps.specs.Fabric.{Fabric}
+use Rattle.fabric_steps.specs.Event.{Event, Seen}
+use Rattle.fabric_steps.specs.declared.event.EventOf.TheVariants as events
+use Rattle.fabric_steps.specs.declared.event.LaneName.{LaneName}
+use Rattle.fabric_steps.specs.declared.event.LaneName.TheVariants as lanes
+use Rattle.fabric_steps.specs.declared.event.LinkEvent.{LinkEvent}
+use Rattle.fabric_steps.specs.declared.event.LinkEvent.TheVariants as links
+use Rattle.fabric_steps.specs.declared.event.SeenOf.TheVariants as seen
+use Rattle.fabric_steps.specs.declared.fault.Refusal.{Refusal}
+use Rattle.fabric_steps.specs.declared.fault.Refusal.TheVariants as refusals
 
 -- `Result::and_then`, `Result::map`, `Option::ok_or` and `Result::map_err`: the first refusal is the result
 abbrev pub and_then : {A B : Type 0} → Result A Refusal → (A → Result B Refusal) → Result B Refusal

@@ -9,21 +9,21 @@ use Rattle.seq_memory.specs.History.{MemoryView}
 use Rattle.completer_core.specs.Serving.{completion_to, after_serving}
 use Rattle.requester_core.specs.Answers.{Answer}
 use Rattle.requester_core.specs.RequesterView.{RequesterView, IsSound, prepared, after_opened, finished, after_finish}
-use Rattle.fc_credit.specs.Needs.{need_of}
-use Rattle.vc_queue.specs.Queue.{is_takeable}
-use Rattle.switch_ports.specs.declared.fault.RouteFault.{RouteFault}
-use Rattle.switch_ports.specs.Routing.{route}
+use Rattle.flow_control.specs.Needs.{need_of}
+use Rattle.flow_control.specs.Queue.{is_takeable}
+use Rattle.switch_core.specs.declared.route_fault.RouteFault.{RouteFault}
+use Rattle.switch_core.specs.Routing.{route}
 use Rattle.switch_core.specs.Forwarding.{Forwards}
-use Rattle.lane_ends.specs.Steps.{LaneEndsView, ReceiverEndView, SenderEndView, may_enter, entered, transmitted, delivered, dllp_of, dllp_seen, after_take}
+use Rattle.lane_core.specs.Steps.{LaneEndsView, ReceiverEndView, SenderEndView, may_enter, entered, transmitted, delivered, dllp_of, dllp_seen, after_take}
 use Rattle.lane_core.specs.Calls.{Call, Transmit, Deliver, SendDllp, DeliverDllp, Timer, Retrained, after_call}
-use Rattle.fabric_laws.specs.Fabric.{Fabric}
-use Rattle.fabric_events.specs.Events.{Event, Seen}
-use Rattle.fabric_events.specs.declared.event.EventOf.TheVariants as events
-use Rattle.fabric_events.specs.declared.event.LaneName.{LaneName}
-use Rattle.fabric_events.specs.declared.event.LaneName.TheVariants as lanes
-use Rattle.fabric_events.specs.declared.event.LinkEvent.{LinkEvent}
-use Rattle.fabric_events.specs.declared.event.LinkEvent.TheVariants as links
-use Rattle.fabric_events.specs.declared.event.SeenOf.TheVariants as seen
+use Rattle.fabric_steps.specs.Fabric.{Fabric}
+use Rattle.fabric_steps.specs.Event.{Event, Seen}
+use Rattle.fabric_steps.specs.declared.event.EventOf.TheVariants as events
+use Rattle.fabric_steps.specs.declared.event.LaneName.{LaneName}
+use Rattle.fabric_steps.specs.declared.event.LaneName.TheVariants as lanes
+use Rattle.fabric_steps.specs.declared.event.LinkEvent.{LinkEvent}
+use Rattle.fabric_steps.specs.declared.event.LinkEvent.TheVariants as links
+use Rattle.fabric_steps.specs.declared.event.SeenOf.TheVariants as seen
 use Rattle.fabric_core.specs.Steps.{HasPart}
 
 -- ---- a packet enters a lane

@@ -4,17 +4,17 @@ ghost use Rattle.dllp_core.specs.Layout.{FitsDataFC};
 ghost use Rattle.tlp_core.specs.Layout.{Spells, canonical};
 ghost use Rattle.tlp_core.specs.Operation.{op_of};
 ghost use Rattle.dllp_core.specs.declared.packet.Dllp.{Dllp};
-ghost use Rattle.fc_credit.specs.Needs.{need_of};
+ghost use Rattle.flow_control.specs.Needs.{need_of};
 ghost use Rattle.completer_core.specs.Serving.{completion_to, after_serving};
-ghost use Rattle.lane_ends.specs.Steps.{may_enter, with_room, after_timer, after_retraining, transmitted, after_transmission, wire_after_transmit, all_but_first, delivered, after_deliver, dllp_of, after_send, wire_after_send, dllp_seen, sender_after};
-ghost use Rattle.lane_ends.specs.Refusals.{LacksRoom};
+ghost use Rattle.lane_core.specs.Steps.{may_enter, with_room, after_timer, after_retraining, transmitted, after_transmission, wire_after_transmit, all_but_first, delivered, after_deliver, dllp_of, after_send, wire_after_send, dllp_seen, sender_after};
+ghost use Rattle.lane_core.specs.Refusals.{LacksRoom};
 ghost use Rattle.switch_core.specs.Forwarding.{Forwards};
 ghost use Rattle.fabric_core.specs.Answers.{Refuses, lane_grows, arrival_grows, serving_grows, enter_on, transmit_on, deliver_on, send_dllp_on, deliver_dllp_on, timer_on, retrained_on, submit_on, destination_on, forward_on, act_on, serve_on, collect_on, link_on, link_grows, SubmitFits, ForwardFits, ServeFits, ActFits};
 
 use completer_core::{need_for, serve_op};
 use dllp_core::Dllp;
-use fabric_events::{LinkEvent, Refusal, SeenRef};
-use fc_credit::Need;
+use fabric_steps::{LinkEvent, Refusal, SeenRef};
+use flow_control::Need;
 use lane_core::{
     Arrival, BackWire, DllpKind, DllpSeen, Fate, ForwardWire, LaneEnds, LaneRefusal, ReceiverEnd,
     SenderEnd,
@@ -22,8 +22,7 @@ use lane_core::{
 use requester_core::{Answer, Requester};
 use seq_memory::Memory;
 use seq12::Seq12;
-use switch_core::{ForwardRefusal, forward_ends};
-use switch_ports::{Port, route};
+use switch_core::{ForwardRefusal, Port, forward_ends, route};
 use tlp_core::{Op, OpRef, Tlp, op_of};
 
 /// A packet enters a lane with its mark.

@@ -4,13 +4,13 @@ ghost use Rattle.std.specs.Result.{result_ok};
 
 use crate::config::Config;
 use crate::events;
-use fabric_events::{EventRef, LaneName, LinkEvent, Refusal, SeenRef};
-use fc_credit::LaneCredits;
+use fabric_steps::{EventRef, LaneName, LinkEvent, Refusal, SeenRef};
+use flow_control::LaneCredits;
 use lane_core::LaneEnds;
 use requester_core::{Answer, Requester};
 use seq_memory::Memory;
 use std::marker::Model;
-use switch_ports::{Port, RouteFault};
+use switch_core::{Port, RouteFault};
 use tlp_core::OpRef;
 
 /// The parts of a fabric by name; in each list that of port 1 is the first.
@@ -32,7 +32,7 @@ pub struct Parts {
 }
 
 impl Model for Parts {
-    ghost use Rattle.fabric_laws.specs.Fabric.{Fabric};
+    ghost use Rattle.fabric_steps.specs.Fabric.{Fabric};
 
     ghost Value = { Fabric };
 
@@ -48,9 +48,9 @@ impl Model for Parts {
 }
 
 ghost use Rattle.requester_core.specs.RequesterView.{RequesterView};
-ghost use Rattle.lane_ends.specs.Steps.{LaneEndsView, IsShort};
-ghost use Rattle.fabric_events.specs.declared.event.EventOf.TheVariants as Event;
-ghost use Rattle.fabric_events.specs.declared.event.SeenOf.TheVariants as Seen;
+ghost use Rattle.lane_core.specs.Steps.{LaneEndsView, IsShort};
+ghost use Rattle.fabric_steps.specs.declared.event.EventOf.TheVariants as Event;
+ghost use Rattle.fabric_steps.specs.declared.event.SeenOf.TheVariants as Seen;
 ghost use Rattle.fabric_core.specs.Answers.{Refuses, link_grows, part_at, lane_at, link_at, submit_at, forward_at, serve_at, collect_at, SubmitFits, ForwardFits, ServeFits, Happens, Refused};
 ghost use Rattle.fabric_core.specs.Steps.{IsNoPort, HasLanes};
 ghost use Rattle.fabric_core.specs.Config.{config_of};

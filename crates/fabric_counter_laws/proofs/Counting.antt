@@ -10,8 +10,8 @@ use Rattle.seq_memory.specs.History.{is_addition, additions, AddsOrLeaves, AreAd
 use Rattle.history_words.specs.Records.{Record}
 use Rattle.history_words.specs.declared.record.RecordOf.TheVariants.{Sub, Ans}
 use Rattle.history_words.specs.Trace.{submissions, IsLegal}
-use Rattle.fabric_laws.specs.Lists.{Each, one_if}
-use Rattle.fabric_laws.specs.ListFacts.{each_at}
+use Rattle.fabric_steps.specs.Lists.{Each, one_if}
+use Rattle.fabric_steps.specs.ListFacts.{each_at}
 use Rattle.fabric_counter_laws.specs.Counters.{AllFit}
 use Rattle.fabric_counter_laws.proofs.Totals.{adding, of_entry}
 

@@ -6,17 +6,17 @@ use Rattle.tlp_core.specs.Ops.{Op}
 use Rattle.tlp_core.specs.declared.operation.Width.{Width}
 use Rattle.seq_memory.specs.Entries.{Entry}
 use Rattle.seq_memory.specs.History.{is_addition}
-use Rattle.lane_ends.specs.Steps.{LaneEndsView}
+use Rattle.lane_core.specs.Steps.{LaneEndsView}
 use Rattle.lane_core.specs.Calls.{content}
 use Rattle.history_words.specs.Records.{Record}
 use Rattle.history_words.specs.declared.record.RecordOf.TheVariants.{Sub, Ans}
-use Rattle.fabric_laws.specs.Fabric.{Fabric, items, whole_of}
-use Rattle.fabric_laws.specs.Packets.{marked_packet}
-use Rattle.fabric_laws.specs.Lists.{one_if}
-use Rattle.fabric_laws.specs.Whole.{Whole, MarkedPacket, up_of, requester_of, entry_of, marked_request}
-use Rattle.fabric_laws.specs.Steps.{Step, IsTaken, submits, forwards, serves, returns, collects, links}
-use Rattle.fabric_events.specs.Events.{Event}
-use Rattle.fabric_events.specs.Events.{Seen}
+use Rattle.fabric_steps.specs.Fabric.{Fabric, items, whole_of}
+use Rattle.fabric_steps.specs.Packets.{marked_packet}
+use Rattle.fabric_steps.specs.Lists.{one_if}
+use Rattle.fabric_steps.specs.Whole.{Whole, MarkedPacket, up_of, requester_of, entry_of, marked_request}
+use Rattle.fabric_steps.specs.Steps.{Step, IsTaken, submits, forwards, serves, returns, collects, links}
+use Rattle.fabric_steps.specs.Event.{Event}
+use Rattle.fabric_steps.specs.Event.{Seen}
 use Rattle.fabric_core.specs.Answers.{Happens}
 use Rattle.fabric_core.specs.Kept.{IsSoundFabric, records_of}
 use Rattle.fabric_core.specs.Quiet.{IsQuiet}

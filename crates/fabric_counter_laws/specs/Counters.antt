@@ -5,7 +5,7 @@ use Rattle.seq_memory.specs.Limits.{Extent}
 use Rattle.seq_memory.specs.History.{is_addition, AddsOrLeaves}
 use Rattle.history_words.specs.Records.{Record}
 use Rattle.history_words.specs.declared.record.RecordOf.TheVariants.{Sub, Ans}
-use Rattle.fabric_laws.specs.Lists.{Each, one_if}
+use Rattle.fabric_steps.specs.Lists.{Each, one_if}
 
 -- how many of the records submit a FetchAdd of 1, of that width and at that address
 abbrev pub submitted_additions : ℕ → Width → List Record → ℕ

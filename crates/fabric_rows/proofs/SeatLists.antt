@@ -1,7 +1,7 @@
 -- Seats that come out of their list are the hall's.
 use Rattle.std.proofs.Common.{◌≡◌, ℕ, List, [], ◌++◌, length, ap, ◌∙◌, Option, Some, None, IfSome}
 use Rattle.std.specs.Prelude.{slice_get, option_to_list}
-use Rattle.fabric_laws.specs.ListFacts.{get_before, get_seam}
+use Rattle.fabric_steps.specs.ListFacts.{get_before, get_seam}
 use Rattle.hall_core.specs.Views.{HallView, SeatView, AreNewSeats, IsSeatOf, AreSeatsOf}
 
 pub new_fit : (h : HallView) (first count : ℕ) (xs : List SeatView) → AreNewSeats h first count xs → AreSeatsOf h xs

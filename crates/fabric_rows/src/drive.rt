@@ -4,7 +4,7 @@ use dllp_core::{Class, Dllp};
 use fabric_core::{ANSWER_ROOM, Config, ConfigFault, Event, Fabric, LaneName, Refusal, Seen};
 use history_words::Trace;
 use lane_core::{Arrival, DllpKind, DllpSeen, Fate, LaneCredits};
-use link_receiver::Reception;
+use link_replay::Reception;
 use requester_core::Answer;
 use seq_memory::Reply;
 use seq12::Seq12;

@@ -3,7 +3,7 @@ use crate::drive::{Act, Asked, Sign, Step, Told};
 use dllp_core::Class;
 use fabric_core::{LaneName, Refusal};
 use lane_core::{DllpKind, Fate, LaneRefusal};
-use link_receiver::Reception;
+use link_replay::Reception;
 use requester_core::SubmitRefusal;
 use tlp_core::TlpFault;
 

@@ -1,15 +1,15 @@
 -- What happens while a fabric is settled are its answers.
 use Rattle.std.proofs.Common.{◌≡◌, ℕ, zero, suc, Bool, true, false, if◌then◌else◌, List, [], ◌∷◌, ◌++◌, refl, Result, Ok, Err}
 use Rattle.std.specs.Prelude.{fold}
-use Rattle.fabric_laws.specs.Fabric.{Fabric}
-use Rattle.fabric_events.specs.Events.{Event, Seen}
-use Rattle.fabric_events.specs.declared.event.LaneName.{LaneName}
-use Rattle.fabric_events.specs.declared.fault.Refusal.{Refusal}
+use Rattle.fabric_steps.specs.Fabric.{Fabric}
+use Rattle.fabric_steps.specs.Event.{Event, Seen}
+use Rattle.fabric_steps.specs.declared.event.LaneName.{LaneName}
+use Rattle.fabric_steps.specs.declared.fault.Refusal.{Refusal}
 use Rattle.fabric_core.specs.Answers.{answer}
-use Rattle.fabric_rounds.specs.declared.attempts.Attempt.{Attempt}
-use Rattle.fabric_rounds.specs.declared.attempts.Attempt.TheVariants as attempts
-use Rattle.fabric_rounds.specs.Happenings.{Happening, happening, Answers, Leads}
-use Rattle.fabric_rounds.specs.Rounds.{Settling, at, answered, tried, times, attempted, lane_attempts, after_lanes, lane_turn, all_lanes, round, rounds, settlement}
+use Rattle.fabric_settle.specs.declared.attempt.Attempt.{Attempt}
+use Rattle.fabric_settle.specs.declared.attempt.Attempt.TheVariants as attempts
+use Rattle.fabric_settle.specs.Happenings.{Happening, happening, Answers, Leads}
+use Rattle.fabric_settle.specs.Rounds.{Settling, at, answered, tried, times, attempted, lane_attempts, after_lanes, lane_turn, all_lanes, round, rounds, settlement}
 
 one_more : (hs : List Happening) (f g h : Fabric) (e : Event) (what : Seen) → Leads Answers f hs g → answer g e ≡ Ok (what, h) → Leads Answers f (hs ++ happening g e what h ∷ []) h
 one_more [] f g h e what r a = (r, a, refl)

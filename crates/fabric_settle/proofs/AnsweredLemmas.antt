@@ -4,12 +4,12 @@ use Rattle.std.specs.Prelude.{slice_get}
 use Rattle.std.proofs.lemmas.Option.{get_or_from_slice_get}
 use Rattle.tlp_core.specs.TlpView.{TlpView}
 use Rattle.requester_core.specs.RequesterView.{RequesterView}
-use Rattle.lane_ends.specs.Steps.{LaneEndsView}
+use Rattle.lane_core.specs.Steps.{LaneEndsView}
 use Rattle.lane_core.specs.Calls.{content}
-use Rattle.fabric_laws.specs.Fabric.{Fabric, items, whole_of}
-use Rattle.fabric_laws.specs.Packets.{marked_packet}
-use Rattle.fabric_laws.specs.Sound.{Sound}
-use Rattle.fabric_laws.specs.Whole.{Whole, up_of, down_of, requester_of, open_number, unused}
+use Rattle.fabric_steps.specs.Fabric.{Fabric, items, whole_of}
+use Rattle.fabric_steps.specs.Packets.{marked_packet}
+use Rattle.fabric_steps.specs.Sound.{Sound}
+use Rattle.fabric_steps.specs.Whole.{Whole, up_of, down_of, requester_of, open_number, unused}
 use Rattle.fabric_core.specs.Kept.{IsSoundFabric}
 use Rattle.fabric_core.specs.Quiet.{IsQuiet}
 

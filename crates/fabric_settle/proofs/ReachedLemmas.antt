@@ -2,12 +2,12 @@
 use Rattle.std.proofs.Common.{◌≡◌, ◌∙◌, ◌++◌, List, [], ◌∷◌, refl, sym, ap, subst, Result, Ok, Err, OnOk, IfErr}
 use Rattle.std.specs.Prelude.{fold}
 use Rattle.std.proofs.lemmas.List.Sums.{fold-append}
-use Rattle.fabric_laws.specs.Fabric.{Fabric}
-use Rattle.fabric_events.specs.Events.{Event, Seen}
-use Rattle.fabric_events.specs.declared.fault.Refusal.{Refusal}
-use Rattle.fabric_events.specs.declared.fault.Refusal.TheVariants as refusals
+use Rattle.fabric_steps.specs.Fabric.{Fabric}
+use Rattle.fabric_steps.specs.Event.{Event, Seen}
+use Rattle.fabric_steps.specs.declared.fault.Refusal.{Refusal}
+use Rattle.fabric_steps.specs.declared.fault.Refusal.TheVariants as refusals
 use Rattle.fabric_core.specs.Answers.{Happens}
-use Rattle.fabric_rounds.specs.Happenings.{Happening, happening, Leads, Answers}
+use Rattle.fabric_settle.specs.Happenings.{Happening, happening, Leads, Answers}
 use Rattle.fabric_settle.specs.Keeping.{Witnessed, IsLossless}
 use Rattle.fabric_settle.specs.Reached.{Reached}
 

@@ -2,16 +2,16 @@
 use Rattle.std.proofs.Common.{◌≡◌, ◌∙◌, ℕ, zero, suc, ◌+◌, ◌-◌, ◌≤◌, ◌<◌, Bool, true, false, if◌then◌else◌, List, [], ◌∷◌, ◌++◌, length, take, get_or, refl, sym, ap, subst, Result, Ok, Err, arith}
 use Rattle.std.specs.Prelude.{is_ok, ◌||◌, fold}
 use Rattle.std.proofs.lemmas.List.Sums.{fold_more, fold-append}
-use Rattle.fabric_laws.specs.Fabric.{Fabric}
-use Rattle.fabric_events.specs.Events.{Event, Seen}
-use Rattle.fabric_events.specs.declared.fault.Refusal.{Refusal}
+use Rattle.fabric_steps.specs.Fabric.{Fabric}
+use Rattle.fabric_steps.specs.Event.{Event, Seen}
+use Rattle.fabric_steps.specs.declared.fault.Refusal.{Refusal}
 use Rattle.fabric_core.specs.Answers.{answer}
-use Rattle.fabric_events.specs.declared.event.LaneName.{LaneName}
-use Rattle.fabric_rounds.specs.declared.attempts.Attempt.{Attempt}
-use Rattle.fabric_rounds.specs.Happenings.{Happening, happening}
+use Rattle.fabric_steps.specs.declared.event.LaneName.{LaneName}
+use Rattle.fabric_settle.specs.declared.attempt.Attempt.{Attempt}
+use Rattle.fabric_settle.specs.Happenings.{Happening, happening}
 use Rattle.fabric_settle.specs.Keeping.{Witnessed}
 use Rattle.fabric_settle.specs.Doing.{IsBeside, Does}
-use Rattle.fabric_rounds.specs.Rounds.{Settling, at, answered, tried, goes, times, is_move, round, rounds, if_moved, attempted, lane_attempts, after_lanes, lane_turn, all_lanes}
+use Rattle.fabric_settle.specs.Rounds.{Settling, at, answered, tried, goes, times, is_move, round, rounds, if_moved, attempted, lane_attempts, after_lanes, lane_turn, all_lanes}
 
 -- ---- one event
 

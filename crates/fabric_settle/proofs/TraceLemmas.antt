@@ -3,11 +3,11 @@ use Rattle.std.proofs.Common.{◌≡◌, ◌∙◌, ◌++◌, List, [], ◌∷�
 use Rattle.std.specs.Prelude.{fold}
 use Rattle.std.proofs.lemmas.List.{append-nil}
 use Rattle.history_words.specs.Records.{Record}
-use Rattle.fabric_laws.specs.Fabric.{Fabric}
+use Rattle.fabric_steps.specs.Fabric.{Fabric}
 use Rattle.fabric_core.specs.Answers.{Happens}
 use Rattle.fabric_core.specs.Kept.{records_of}
 use Rattle.fabric_core.specs.Runs.{Runs}
-use Rattle.fabric_rounds.specs.Happenings.{Happening, Leads}
+use Rattle.fabric_settle.specs.Happenings.{Happening, Leads}
 use Rattle.fabric_settle.specs.Keeping.{events_of, with_record}
 
 -- the run, and that a trace grows by its records

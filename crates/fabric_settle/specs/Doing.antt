@@ -1,8 +1,8 @@
 -- A fabric and what a witness keeps, beside the definition of a settling.
 use Rattle.std.specs.Prelude.{◌≡◌, Bool, List, fold}
-use Rattle.fabric_laws.specs.Fabric.{Fabric}
-use Rattle.fabric_rounds.specs.Happenings.{Happening}
-use Rattle.fabric_rounds.specs.Rounds.{Settling, at}
+use Rattle.fabric_steps.specs.Fabric.{Fabric}
+use Rattle.fabric_settle.specs.Happenings.{Happening}
+use Rattle.fabric_settle.specs.Rounds.{Settling, at}
 
 -- the fabric is that of the settling, and what is kept is of what happened in it
 pub record IsBeside {K : Type 0} (saw : K → Happening → K) (start : K) (f : Fabric) (k : K) (moved : Bool) (s : Settling) : Type 0 where

@@ -1,14 +1,14 @@
 -- What is kept of a fabric's events.
 use Rattle.std.specs.Prelude.{◌≡◌, ◌⊎◌, true, List, ◌++◌, length, map}
 use Rattle.history_words.specs.Records.{Record}
-use Rattle.fabric_laws.specs.Fabric.{Fabric}
-use Rattle.fabric_events.specs.Events.{Event, Seen}
-use Rattle.fabric_events.specs.declared.fault.Refusal.{Refusal}
+use Rattle.fabric_steps.specs.Fabric.{Fabric}
+use Rattle.fabric_steps.specs.Event.{Event, Seen}
+use Rattle.fabric_steps.specs.declared.fault.Refusal.{Refusal}
 use Rattle.fabric_core.specs.Answers.{Happens, Refused}
-use Rattle.fabric_events.specs.Faults.{is_memory}
+use Rattle.fabric_steps.specs.Faults.{is_memory}
 use Rattle.fabric_core.specs.Kept.{records_of}
 use Rattle.fabric_core.specs.Runs.{has_record}
-use Rattle.fabric_rounds.specs.Happenings.{Happening, happening}
+use Rattle.fabric_settle.specs.Happenings.{Happening, happening}
 
 -- the event happens, and the witness keeps what is to be kept of it
 pub record Witnessed {K : Type 0} (saw : K → Happening → K) (f : Fabric) (k : K) (event : Event) (f' : Fabric) (k' : K) : Type 0 where

@@ -1,5 +1,7 @@
-pub mod Happenings
-pub mod Keeping
-pub mod Rounds
 pub mod Doing
+pub mod Keeping
 pub mod Reached
+pub mod Hops
+pub mod Happenings
+pub mod Rounds
+pub mod Rest

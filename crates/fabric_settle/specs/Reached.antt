@@ -1,8 +1,8 @@
 -- What a list of events leads to.
 use Rattle.std.specs.Prelude.{◌≡◌, List, fold}
-use Rattle.fabric_laws.specs.Fabric.{Fabric}
+use Rattle.fabric_steps.specs.Fabric.{Fabric}
 use Rattle.fabric_core.specs.Answers.{Happens}
-use Rattle.fabric_rounds.specs.Happenings.{Happening, Leads}
+use Rattle.fabric_settle.specs.Happenings.{Happening, Leads}
 
 -- the events happen in turn to the fabric and leave the other, and a witness that loses nothing has kept what is to be
 -- kept of them

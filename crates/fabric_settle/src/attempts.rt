@@ -1,10 +1,10 @@
 //! What a round tries, in order.
 ghost use Rattle.std.specs.Prelude.{◌≡◌};
-ghost use Rattle.fabric_rounds.specs.Rounds as spec;
+ghost use Rattle.fabric_settle.specs.Rounds as spec;
 
+use crate::Attempt;
 use dllp_core::Class;
 use fabric_core::{Event, LaneName};
-use fabric_rounds::Attempt;
 use lane_core::{DllpKind, Fate};
 
 /// The lanes of a fabric with seven requesters.

@@ -3,13 +3,13 @@ ghost use Rattle.std.specs.Prelude.{◌≡◌, ◌++◌, List, fold};
 ghost use Rattle.history_words.specs.Records.{Record};
 ghost use Rattle.history_words.specs.Clocks.{KeepsRealTimeOrder};
 ghost use Rattle.history_words.specs.Trace.{Explains};
-ghost use Rattle.fabric_laws.specs.Fabric.{Fabric, whole_of};
-ghost use Rattle.fabric_laws.specs.Trace.{Belongs};
+ghost use Rattle.fabric_steps.specs.Fabric.{Fabric, whole_of};
+ghost use Rattle.fabric_steps.specs.Trace.{Belongs};
 ghost use Rattle.fabric_core.specs.Answers.{Happens};
 ghost use Rattle.fabric_core.specs.Kept.{IsSoundFabric};
 ghost use Rattle.fabric_core.specs.Runs.{Runs};
-ghost use Rattle.fabric_rounds.specs.Happenings.{Answers, Happening, Leads};
-ghost use Rattle.fabric_rounds.specs.Rounds.{settlement};
+ghost use Rattle.fabric_settle.specs.Happenings.{Answers, Happening, Leads};
+ghost use Rattle.fabric_settle.specs.Rounds.{settlement};
 ghost use Rattle.fabric_settle.specs.Keeping.{IsLossless, Never, events_of, with_record};
 ghost use Rattle.fabric_settle.specs.Reached.{Reached};
 

@@ -1,21 +1,21 @@
 //! Rounds until one moves nothing.
 ghost use Rattle.std.specs.Prelude.{◌≡◌, ◌≢◌, ◌+◌, ℕ, [], Some, false, fold, slice_get, OnOk, OnErr};
 ghost use Rattle.requester_core.specs.RequesterView.{RequesterView};
-ghost use Rattle.fabric_laws.specs.Whole.{open_number};
-ghost use Rattle.fabric_events.specs.Events as events;
+ghost use Rattle.fabric_steps.specs.Whole.{open_number};
+ghost use Rattle.fabric_steps.specs.Event as events;
 ghost use Rattle.fabric_core.specs.Quiet.{IsQuiet};
-ghost use Rattle.fabric_hops.specs.Hops.{AreFlushed, hops_left};
-ghost use Rattle.fabric_rest.specs.Rest.{EndsWithin};
+ghost use Rattle.fabric_settle.specs.Hops.{AreFlushed, hops_left};
+ghost use Rattle.fabric_settle.specs.Rest.{EndsWithin};
 ghost use Rattle.fabric_settle.specs.Doing.{Does};
 ghost use Rattle.fabric_settle.specs.Keeping.{IsLossless, WantsMemory};
 ghost use Rattle.fabric_settle.specs.Reached.{Reached};
-ghost use Rattle.fabric_rounds.specs.Rounds as spec;
+ghost use Rattle.fabric_settle.specs.Rounds as spec;
 
+use crate::rest_laws::every_fabric_comes_to_rest;
 use crate::turns::round;
 use crate::witness::Witness;
 use fabric_core::Fabric;
-use fabric_laws::laws::quiet_is_all_acted;
-use fabric_rest::laws::every_fabric_comes_to_rest;
+use fabric_steps::laws::quiet_is_all_acted;
 use std::alloc::AllocError;
 
 /// The most rounds.

@@ -1,15 +1,15 @@
 //! A round of events.
 ghost use Rattle.std.specs.Prelude.{◌≡◌, fold, IfOk, OnOk, OnErr};
-ghost use Rattle.fabric_events.specs.Events as events;
+ghost use Rattle.fabric_steps.specs.Event as events;
 ghost use Rattle.fabric_settle.specs.Doing.{Does};
 ghost use Rattle.fabric_settle.specs.Keeping.{IsLossless, WantsMemory};
 ghost use Rattle.fabric_settle.specs.Reached.{Reached};
-ghost use Rattle.fabric_rounds.specs.Rounds as spec;
+ghost use Rattle.fabric_settle.specs.Rounds as spec;
 
+use crate::Attempt;
 use crate::attempts::{AFTER_LANES, LANES, is_move, lane_attempts};
 use crate::witness::{Witness, happen};
 use fabric_core::{Event, Fabric, LaneName};
-use fabric_rounds::Attempt;
 use std::alloc::AllocError;
 
 /// Tries the event, and tells whether it happened.

@@ -1,11 +1,11 @@
 //! Who keeps something of a fabric's events.
 ghost use Rattle.std.specs.Prelude.{◌≡◌, ◌<◌, ◌++◌, ℕ, vec_len, vec_capacity, option_to_list, true, OnOk, OnErr, IfErr};
-ghost use Rattle.fabric_laws.specs.Fabric as fabrics;
-ghost use Rattle.fabric_events.specs.Events as events;
+ghost use Rattle.fabric_steps.specs.Fabric as fabrics;
+ghost use Rattle.fabric_steps.specs.Event as events;
 ghost use Rattle.fabric_core.specs.Answers.{answer};
-ghost use Rattle.fabric_events.specs.Faults.{is_memory, IsTold};
+ghost use Rattle.fabric_steps.specs.Faults.{is_memory, IsTold};
 ghost use Rattle.fabric_core.specs.Runs.{has_record};
-ghost use Rattle.fabric_rounds.specs.Happenings.{Happening, happening, Answers};
+ghost use Rattle.fabric_settle.specs.Happenings.{Happening, happening, Answers};
 ghost use Rattle.fabric_settle.specs.Keeping.{Witnessed, IsLossless, WantsMemory};
 ghost use Rattle.fabric_settle.specs.Reached.{Reached};
 

@@ -1,17 +1,17 @@
 -- What happens in a settlement is answers to events that submit nothing.
 use Rattle.std.proofs.Common.{◌≡◌, ℕ, zero, suc, Bool, true, false, if◌then◌else◌, List, [], ◌∷◌, ◌++◌, refl, sym, subst, Result, Ok, Err}
 use Rattle.std.specs.Prelude.{fold}
-use Rattle.fabric_laws.specs.Fabric.{Fabric}
-use Rattle.fabric_laws.specs.Lists.{Each}
-use Rattle.fabric_events.specs.Events.{Event, Seen}
-use Rattle.fabric_events.specs.declared.event.LaneName.{LaneName}
-use Rattle.fabric_events.specs.declared.fault.Refusal.{Refusal}
+use Rattle.fabric_steps.specs.Fabric.{Fabric}
+use Rattle.fabric_steps.specs.Lists.{Each}
+use Rattle.fabric_steps.specs.Event.{Event, Seen}
+use Rattle.fabric_steps.specs.declared.event.LaneName.{LaneName}
+use Rattle.fabric_steps.specs.declared.fault.Refusal.{Refusal}
 use Rattle.fabric_core.specs.Answers.{answer, Happens}
 use Rattle.fabric_core.specs.Kept.{IsSoundFabric, IsNoSubmission}
-use Rattle.fabric_rounds.specs.declared.attempts.Attempt.{Attempt}
-use Rattle.fabric_rounds.specs.declared.attempts.Attempt.TheVariants as attempts
-use Rattle.fabric_rounds.specs.Happenings.{Happening, happening, Answers, Leads}
-use Rattle.fabric_rounds.specs.Rounds.{Settling, at, answered, tried, times, attempted, lane_attempts, after_lanes, lane_turn, all_lanes, round, rounds, settlement}
+use Rattle.fabric_settle.specs.declared.attempt.Attempt.{Attempt}
+use Rattle.fabric_settle.specs.declared.attempt.Attempt.TheVariants as attempts
+use Rattle.fabric_settle.specs.Happenings.{Happening, happening, Answers, Leads}
+use Rattle.fabric_settle.specs.Rounds.{Settling, at, answered, tried, times, attempted, lane_attempts, after_lanes, lane_turn, all_lanes, round, rounds, settlement}
 
 abbrev By : Fabric → Event → Seen → Fabric → Type 0
 By f e what g = Answers f e what g × IsNoSubmission e

@@ -1,12 +1,12 @@
 //! What happens in a settlement.
 #![tactic(auto)]
 
-ghost use Rattle.fabric_laws.specs.Fabric.{Fabric};
-ghost use Rattle.fabric_laws.specs.Lists.{Each};
+ghost use Rattle.fabric_steps.specs.Fabric.{Fabric};
+ghost use Rattle.fabric_steps.specs.Lists.{Each};
 ghost use Rattle.fabric_core.specs.Answers.{Happens};
 ghost use Rattle.fabric_core.specs.Kept.{IsSoundFabric, IsNoSubmission};
-ghost use Rattle.fabric_rounds.specs.Happenings.{Happening, Leads};
-ghost use Rattle.fabric_rounds.specs.Rounds.{settlement};
+ghost use Rattle.fabric_settle.specs.Happenings.{Happening, Leads};
+ghost use Rattle.fabric_settle.specs.Rounds.{settlement};
 
 use fabric_core::laws::{each_event_keeps_it_sound, what_is_answered_happens};
 

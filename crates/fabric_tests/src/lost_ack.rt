@@ -2,8 +2,8 @@
 ghost use Rattle.std.specs.Prelude.{[], IfOk};
 ghost use Rattle.history_words.specs.Claim.{claim_of};
 ghost use Rattle.history_words.specs.Trace.{Explains};
-ghost use Rattle.fabric_laws.specs.Trace.{Belongs};
-ghost use Rattle.fabric_laws.specs.Fabric.{whole_of};
+ghost use Rattle.fabric_steps.specs.Trace.{Belongs};
+ghost use Rattle.fabric_steps.specs.Fabric.{whole_of};
 
 use fabric_core::{Config, Event, Fabric, LaneName, Refusal};
 use history_check::check;

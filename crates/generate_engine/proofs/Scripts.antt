@@ -5,9 +5,9 @@ use Rattle.std.proofs.lemmas.List.Elements.{All-nil, All-cons, All-append}
 use Rattle.std.specs.Io.KnownBytes.{Appends}
 use Rattle.line_loop.specs.Run.{IsBeginning}
 use Rattle.history_words.specs.Records.{Record}
-use Rattle.fabric_laws.specs.Fabric.{Fabric}
+use Rattle.fabric_steps.specs.Fabric.{Fabric}
 use Rattle.fabric_core.specs.declared.config.Config.{Config}
-use Rattle.fabric_events.specs.Events.{Event, Seen}
+use Rattle.fabric_steps.specs.Event.{Event, Seen}
 use Rattle.fabric_core.specs.Config.{IsNewWith}
 use Rattle.fabric_core.specs.Kept.{records_of}
 use Rattle.fabric_core.specs.Steps.{Happens}
@@ -16,8 +16,8 @@ use Rattle.trace_text.specs.Texts.{lines_text}
 use Rattle.script_text.specs.LineTexts.{event_line, fabric_line}
 use Rattle.script_text.specs.Spelled.{IsSpelledEvent}
 use Rattle.parameters.specs.declared.storm.Storm.{Storm}
-use Rattle.storm_events.specs.Arrivals.{IsAfter}
-use Rattle.storm_events.specs.Choice.{ChooserView, IsChosen}
+use Rattle.generate_engine.specs.Arrivals.{IsAfter}
+use Rattle.generate_engine.specs.Choice.{ChooserView, IsChosen}
 use Rattle.generate_engine.specs.Script.{config_of, text_of, IsUnderWay, BeginsScript}
 
 -- ---- one event more

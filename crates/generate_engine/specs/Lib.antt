@@ -1,1 +1,4 @@
 pub mod Script
+pub mod Arrivals
+pub mod Candidates
+pub mod Choice

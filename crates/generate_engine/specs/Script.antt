@@ -3,17 +3,17 @@ use Rattle.std.specs.Prelude.{ℕ, ◌≡◌, ◌≤◌, ◌⊎◌, List, [], �
 use Rattle.std.specs.Io.KnownBytes.{Appends}
 use Rattle.line_loop.specs.Run.{IsBeginning}
 use Rattle.history_words.specs.Records.{Record}
-use Rattle.fabric_laws.specs.Fabric.{Fabric}
+use Rattle.fabric_steps.specs.Fabric.{Fabric}
 use Rattle.fabric_core.specs.declared.config.Config.{Config}
-use Rattle.fabric_events.specs.Events.{Event}
+use Rattle.fabric_steps.specs.Event.{Event}
 use Rattle.fabric_core.specs.Config.{IsNewWith}
 use Rattle.fabric_core.specs.Runs.{Runs}
 use Rattle.trace_text.specs.Texts.{lines_text}
 use Rattle.script_text.specs.LineTexts.{event_line, fabric_line}
 use Rattle.script_text.specs.Spelled.{IsSpelledEvent}
 use Rattle.parameters.specs.declared.storm.Storm.{Storm}
-use Rattle.storm_events.specs.Arrivals.{AreFated, IsAfter}
-use Rattle.storm_events.specs.Choice.{ChooserView}
+use Rattle.generate_engine.specs.Arrivals.{AreFated, IsAfter}
+use Rattle.generate_engine.specs.Choice.{ChooserView}
 
 -- a memory of 4096 bytes at 0, and the credits that lanes have unless told otherwise
 abbrev pub config_of : Storm → Config

@@ -2,24 +2,24 @@
 ghost use Rattle.std.specs.Prelude.{◌≡◌, ◌≢◌, ◌+◌, ◌*◌, ◌++◌, ◌∷◌, [], ℕ, List, IfOk, IfErr, OnOk, OnErr};
 ghost use Rattle.std.specs.Io.KnownBytes.{Appends};
 ghost use Rattle.line_loop.specs.Run.{IsBeginning};
-ghost use Rattle.fabric_events.specs.Events.{Event};
+ghost use Rattle.fabric_steps.specs.Event.{Event};
 ghost use Rattle.fabric_core.specs.Config.{IsNewWith};
 ghost use Rattle.script_text.specs.LineTexts.{event_line};
 ghost use Rattle.parameters.specs.declared.storm.Storm.{Storm};
 ghost use Rattle.parameters.specs.Ranges.{IsStorm};
-ghost use Rattle.storm_events.specs.Arrivals.{IsCounted};
-ghost use Rattle.storm_events.specs.Choice.{IsChosen};
+ghost use Rattle.generate_engine.specs.Arrivals.{IsCounted};
+ghost use Rattle.generate_engine.specs.Choice.{IsChosen};
 ghost use Rattle.generate_engine.specs.Script.{config_of, IsUnderWay, BeginsScript, IsWhole, IsPart};
 
+use crate::Chooser;
+use crate::laws::counted_events_are_fated;
 use crate::lines::{EventLine, put_fabric};
 use fabric_core::{Config, Fabric};
-use fc_credit::LaneCredits;
+use flow_control::LaneCredits;
 use line_loop::{EngineFault, write_out};
 use parameters::Storm;
 use std::alloc::{AllocError, Global};
 use std::io::Write;
-use storm_events::Chooser;
-use storm_events::laws::counted_events_are_fated;
 
 /// How many events are written at once.
 const BLOCK: u64 = 256;

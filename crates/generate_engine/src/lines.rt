@@ -2,11 +2,11 @@
 ghost use Rattle.std.specs.Prelude.{◌≡◌, ◌++◌, ◌∷◌, [], OnOk, OnErr};
 ghost use Rattle.script_text.specs.LineTexts.{fabric_line};
 
+use crate::Listener;
 use arrayvec::ArrayString;
 use fabric_core::{Config, EventRef};
 use script_text::{write_event, write_fabric};
 use std::alloc::AllocError;
-use storm_events::Listener;
 
 /// The line of the event that was heard last, with the line feed that ends it.
 #[derive(Drop)]

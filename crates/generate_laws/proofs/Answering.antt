@@ -2,11 +2,11 @@
 use Rattle.std.proofs.Common.{◌≡◌, ◌∙◌, ◌+◌, ◌++◌, ℕ, Bool, true, false, List, [], ◌∷◌, length, sym, ap, subst, map, Option, Some, None, Result, if◌then◌else◌}
 use Rattle.std.specs.Prelude.{◌-◌, ◌^◌, min, fold, nat_lt}
 use Rattle.history_words.specs.Records.{Record}
-use Rattle.fabric_laws.specs.Fabric.{Fabric}
+use Rattle.fabric_steps.specs.Fabric.{Fabric}
 use Rattle.fabric_core.specs.declared.config.Config.{Config}
 use Rattle.fabric_core.specs.declared.config.ConfigFault.{ConfigFault}
-use Rattle.fabric_events.specs.Events.{Event, Seen}
-use Rattle.fabric_events.specs.declared.fault.Refusal.{Refusal}
+use Rattle.fabric_steps.specs.Event.{Event, Seen}
+use Rattle.fabric_steps.specs.declared.fault.Refusal.{Refusal}
 use Rattle.fabric_core.specs.Config.{IsNewWith}
 use Rattle.fabric_core.specs.Steps.{Happens}
 use Rattle.fabric_core.specs.Runs.{Runs}
@@ -15,7 +15,7 @@ use Rattle.operation_text.specs.Words.{words}
 use Rattle.script_text.specs.declared.line.Line.{Line}
 use Rattle.script_text.specs.declared.line.Line.TheVariants as lines
 use Rattle.script_text.specs.Forms.{line_of}
-use Rattle.text_lines.specs.Lines.{lines_of, bare, said, is_skipped}
+use Rattle.hex_text.specs.Lines.{lines_of, bare, said, is_skipped}
 use Rattle.line_loop.specs.Run.{Answer, Run as Output, with_answer, after_line, after_end}
 use Rattle.step_engine.specs.Script.{script_of, IsScript}
 use Rattle.step_engine.specs.Script.{event_line as event_of}

@@ -7,11 +7,11 @@ use Rattle.std.proofs.lemmas.Bool.Decides.{nat_tests}
 use Rattle.std.proofs.lemmas.Grind.{common_steps}
 use Rattle.std.proofs.lemmas.List.Elements.{All-head, All-drop, All-get_or}
 use Rattle.fabric_core.specs.declared.config.Config.{Config}
-use Rattle.fabric_events.specs.Events.{Event}
+use Rattle.fabric_steps.specs.Event.{Event}
 use Rattle.fabric_core.specs.Config.{IsConfig}
 use Rattle.operation_text.specs.Texts.{IsPrinted, IsPrintedChar}
 use Rattle.trace_text.specs.Texts.{lines_text}
-use Rattle.text_lines.specs.Lines.{lines_of, bare}
+use Rattle.hex_text.specs.Lines.{lines_of, bare}
 use Rattle.script_text.specs.declared.line.Line.{Line}
 use Rattle.script_text.specs.declared.line.Line.TheVariants as lines
 use Rattle.script_text.specs.LineTexts.{event_line, fabric_line}

@@ -5,13 +5,13 @@ use Rattle.std.specs.Prelude.{remove, slice_index_or, slice_get}
 use mathlib.Core.Logic.{dite}
 use native.Mathlib.Decide.{ℕ_discrete, dec_le}
 use Rattle.atomic_table.specs.Seated.{TableId}
-use Rattle.fabric_laws.specs.Lists.{Each}
-use Rattle.fabric_laws.specs.Fabric.{Fabric}
+use Rattle.fabric_steps.specs.Lists.{Each}
+use Rattle.fabric_steps.specs.Fabric.{Fabric}
 use Rattle.hall_laws.specs.declared.token.Token.{Token}
 use Rattle.hall_laws.specs.Calls.{knowing}
 use Rattle.hall_laws.specs.Standing.{Sat, token_of, one_if_same, named}
 use Rattle.hall_laws.specs.Story.{Act, Tells, IsStoryOf, done_by}
-use Rattle.hall_assembly.specs.Opens.{Leaves, AllRan}
+use Rattle.hall_core.specs.Opens.{Leaves, AllRan}
 use Rattle.hall_core.specs.Views.{SeatView, HallView, IsSeatOf, AreSeatsOf, HasNumber, RanBy}
 use Rattle.hall_core.specs.Joins.{AreAt, token_at, tokens_of}
 

@@ -1,3 +1,7 @@
 pub mod Joined
 pub mod Newcomers
 pub mod Possible
+pub mod Emptied
+pub mod Lists
+pub mod Opened
+pub mod Shelved

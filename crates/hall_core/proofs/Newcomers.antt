@@ -1,9 +1,9 @@
 -- The tokens of new seats, one after the other.
 use Rattle.std.proofs.Common.{◌≡◌, ℕ, zero, suc, ◌+◌, ◌-◌, ◌<◌, List, [], ◌∷◌, ◌++◌, length, length-append, refl, sym, ap, ◌∙◌, subst, arith, Some, ⊎_elim}
 use Rattle.std.specs.Prelude.{slice_get}
-use Rattle.fabric_laws.specs.Fabric.{Fabric}
+use Rattle.fabric_steps.specs.Fabric.{Fabric}
 use Rattle.fabric_core.specs.declared.config.Config.{Config}
-use Rattle.fabric_laws.specs.ListFacts.{get_push}
+use Rattle.fabric_steps.specs.ListFacts.{get_push}
 use Rattle.hall_laws.specs.Standing.{token_of, others_of}
 use Rattle.hall_laws.specs.Rule.{newcomer, newcomers}
 use Rattle.hall_core.specs.Views.{SeatView, HallView, AreNewSeats}

@@ -1,7 +1,7 @@
 -- Seats whose tokens go to one place.
 use Rattle.std.specs.Prelude.{◌≡◌, List, [], map}
 use Rattle.atomic_table.specs.Seated.{TableId}
-use Rattle.fabric_laws.specs.Lists.{Each}
+use Rattle.fabric_steps.specs.Lists.{Each}
 use Rattle.hall_laws.specs.declared.token.Token.{Token}
 use Rattle.hall_core.specs.Views.{SeatView}
 

@@ -7,7 +7,7 @@ use Rattle.history_words.specs.Records.{Record}
 use Rattle.history_words.specs.declared.record.RecordOf.TheVariants.{Sub}
 use Rattle.history_words.specs.Clocks.{KeepsRealTimeOrder}
 use Rattle.history_words.specs.Trace.{Explains, answers_to}
-use Rattle.fabric_laws.specs.Fabric.{Fabric}
+use Rattle.fabric_steps.specs.Fabric.{Fabric}
 
 -- the fabric's history explains the records, and keeps the order of real time
 pub record IsLinearizable (f : Fabric) (rs : List Record) : Type 0 where

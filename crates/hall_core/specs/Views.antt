@@ -3,9 +3,9 @@ use Rattle.std.specs.Prelude.{ℕ, suc, ◌≡◌, ◌⊎◌, ◌+◌, List, [],
 use Rattle.atomic_table.specs.Seated.{TableId}
 use Rattle.history_words.specs.Records.{Record}
 use Rattle.history_words.specs.Trace.{submissions}
-use Rattle.fabric_laws.specs.Lists.{Each}
-use Rattle.fabric_laws.specs.Fabric.{Fabric, whole_of}
-use Rattle.fabric_laws.specs.Trace.{Belongs}
+use Rattle.fabric_steps.specs.Lists.{Each}
+use Rattle.fabric_steps.specs.Fabric.{Fabric, whole_of}
+use Rattle.fabric_steps.specs.Trace.{Belongs}
 use Rattle.fabric_core.specs.declared.config.Config.{Config}
 use Rattle.fabric_core.specs.Kept.{IsSoundFabric}
 use Rattle.hall_laws.specs.declared.token.Knowledge.{Knowledge}

@@ -1,26 +1,26 @@
 //! The hall and its calls.
 ghost use Rattle.std.specs.Prelude.{◌≡◌, ◌≢◌, ◌+◌, ◌<◌, ◌≤◌, ◌++◌, List, length, IfOk, IfErr, MatchOption};
 ghost use Rattle.seq_memory.specs.Entries.{Entry};
-ghost use Rattle.fabric_laws.specs.Lists.{Each};
-ghost use Rattle.fabric_events.specs.declared.event.EventOf.TheVariants.{Submit, Collect};
+ghost use Rattle.fabric_steps.specs.Lists.{Each};
+ghost use Rattle.fabric_steps.specs.declared.event.EventOf.TheVariants.{Submit, Collect};
 ghost use Rattle.hall_laws.specs.declared.part.Part.TheVariants.{Memory};
 ghost use Rattle.hall_laws.specs.Shows.{Shows};
 ghost use Rattle.hall_laws.specs.Calls.{IsSized};
 ghost use Rattle.hall_laws.specs.Parts.{IsPartName};
 ghost use Rattle.hall_laws.specs.Rule.{HasConfig};
 ghost use Rattle.hall_laws.specs.Tells.{SubmitTells, CollectTells, SeesTells, Met};
-ghost use Rattle.hall_assembly.specs.Opens.{IsUnused, Leaves};
+ghost use Rattle.hall_core.specs.Opens.{IsUnused, Leaves};
 ghost use Rattle.hall_events.specs.Refusals.{IsRefused, IsWithAnother, IsPossibleInHall, IsBusy};
 ghost use Rattle.hall_events.specs.Works.{Pumped, event_of};
 ghost use Rattle.hall_core.specs.Faults.{IsSeatCount, HasHallFault};
 ghost use Rattle.hall_core.specs.Views.{SeatView, AreNewSeats, IsSeatOf, AreSeatsOf, RanBy};
 
+use crate::closing::{StillHeld, close};
 use crate::fault::HallFault;
+use crate::opening::{Board, Opened, Shelves, open};
 use crate::seats::{ReqSeat, WorkSeat, all_at_once, req_seats, seat, work_seats};
 use crate::told::{Answered, Submitted};
 use fabric_core::{Config, Fabric, Seen};
-use hall_assembly::closing::{StillHeld, close};
-use hall_assembly::opening::{Board, Opened, Shelves, open};
 use hall_events::desk::Desk;
 use hall_events::meeting::meet_as;
 use hall_events::refusal::{HallRefusal, each_refusal_is_possible};

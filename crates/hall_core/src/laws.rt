@@ -4,8 +4,8 @@ ghost use Rattle.std.specs.Prelude.{◌++◌, List};
 ghost use Rattle.history_words.specs.Records.{Record};
 ghost use Rattle.history_words.specs.Clocks.{KeepsRealTimeOrder};
 ghost use Rattle.history_words.specs.Trace.{Explains};
-ghost use Rattle.fabric_laws.specs.Fabric.{Fabric};
-ghost use Rattle.fabric_events.specs.Events.{Event};
+ghost use Rattle.fabric_steps.specs.Fabric.{Fabric};
+ghost use Rattle.fabric_steps.specs.Event.{Event};
 ghost use Rattle.fabric_core.specs.Quiet.{IsQuiet};
 ghost use Rattle.fabric_core.specs.Runs.{Runs};
 ghost use Rattle.hall_core.specs.Linearizable.{IsLinearizable, AreAnswered};
@@ -14,7 +14,7 @@ ghost use Rattle.hall_core.specs.Views.{SeatView, HallView, RanBy};
 use fabric_core::laws::{
     a_run_keeps_its_trace, answered_first_acts_first, each_request_is_answered_at_rest,
 };
-use fabric_laws::laws::the_trace_belongs;
+use fabric_steps::laws::the_trace_belongs;
 pub use hall_laws::laws::{
     Place, Steps, event, join, put_back, put_back_seen, split, take, the_rule_line_by_line,
     what_a_seat_knows_is_true, what_threads_did_is_a_run,

@@ -10,17 +10,24 @@
 //!
 //! A [`Hall`] is `Sync`, so that threads share it by `&`; seats are `Send`, and each moves to the thread that uses it.
 //! A seat is used with the hall that it came from.
+//!
+//! [`opening`] puts the parts of a fabric into the slots of a table, and [`closing`] takes them out again. The words stand
+//! [`WORDS_APART`] places apart; [`free_words`] is a row of them before any seat has a part.
 #![tactic(auto)]
 
+pub mod closing;
 mod fault;
+mod free;
 mod hall;
 pub mod laws;
+pub mod opening;
 mod seats;
 mod told;
 
+pub use closing::StillHeld;
 pub use fault::HallFault;
+pub use free::{first_taken, free_words};
 pub use hall::Hall;
-pub use hall_assembly::closing::StillHeld;
 pub use hall_events::refusal::HallRefusal;
 pub use hall_events::work::WorkEvent;
 pub use hall_laws::part::Part;

@@ -1,10 +1,10 @@
 -- The laws of packets that go on as one.
 use Rattle.std.proofs.Common.{◌≡◌, ◌≢◌, ◌+◌, ◌<◌, ◌≤◌, ℕ, List, [], ◌∷◌, Ok, sym, subst, arith, ⊎_elim}
-use Rattle.lane_ends.specs.Steps.{ReceiverEndView, SenderEndView}
-use Rattle.fabric_events.specs.declared.event.EventOf.TheVariants as events
-use Rattle.fabric_events.specs.declared.event.LaneName.{LaneName}
-use Rattle.fabric_events.specs.declared.event.LaneName.TheVariants as lanes
-use Rattle.fabric_events.specs.declared.event.SeenOf.TheVariants.{To}
+use Rattle.lane_core.specs.Steps.{ReceiverEndView, SenderEndView}
+use Rattle.fabric_steps.specs.declared.event.EventOf.TheVariants as events
+use Rattle.fabric_steps.specs.declared.event.LaneName.{LaneName}
+use Rattle.fabric_steps.specs.declared.event.LaneName.TheVariants as lanes
+use Rattle.fabric_steps.specs.declared.event.SeenOf.TheVariants.{To}
 use Rattle.hall_laws.specs.declared.part.PartValue.TheVariants.{Sender, Receiver}
 use Rattle.hall_laws.specs.declared.token.Token.{Token}
 use Rattle.hall_laws.specs.Causes.{KnownHolding, UpHasNoWay, UpIsKept, OutHasNoWay, OutHasNoLane, OutIsKept}

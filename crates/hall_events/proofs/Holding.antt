@@ -6,7 +6,7 @@ use Rattle.hall_laws.specs.declared.token.Knowledge.{Knowledge}
 use Rattle.hall_laws.specs.Calls.{IsIdle, Took}
 use Rattle.hall_laws.specs.Rule.{Known}
 use Rattle.hall_laws.specs.Standing.{Sat, Values, Outside, token_of, holding_first}
-use Rattle.fabric_events.specs.Events.{Event, Seen}
+use Rattle.fabric_steps.specs.Event.{Event, Seen}
 use Rattle.hall_laws.specs.Parts.{part_slot}
 use Rattle.hall_laws.specs.Rule.{Goes, with_done}
 use Rattle.hall_events.specs.declared.desk.Desk.{Desk}

@@ -1,15 +1,15 @@
 -- The laws of the events of a link as one.
 use Rattle.std.proofs.Common.{◌≡◌, ◌≢◌, ◌+◌, ℕ, List, [], ◌∷◌, Option, Some, None, Result, Ok, Err, refl, sym, subst, arith}
-use Rattle.lane_ends.specs.declared.packet.Fate.{Fate}
-use Rattle.lane_ends.specs.declared.packet.DllpKind.{DllpKind}
-use Rattle.fabric_events.specs.declared.event.EventOf.TheVariants as events
-use Rattle.fabric_events.specs.declared.event.LaneName.{LaneName}
-use Rattle.fabric_events.specs.declared.event.LinkEvent.{LinkEvent}
-use Rattle.fabric_events.specs.declared.event.LinkEvent.TheVariants as links
-use Rattle.fabric_events.specs.Events.{Seen}
-use Rattle.fabric_events.specs.declared.event.SeenOf.TheVariants as seen
-use Rattle.fabric_events.specs.declared.fault.Refusal.{Refusal}
-use Rattle.fabric_events.specs.declared.fault.Refusal.TheVariants.{Idle}
+use Rattle.lane_core.specs.declared.packet.Fate.{Fate}
+use Rattle.lane_core.specs.declared.packet.DllpKind.{DllpKind}
+use Rattle.fabric_steps.specs.declared.event.EventOf.TheVariants as events
+use Rattle.fabric_steps.specs.declared.event.LaneName.{LaneName}
+use Rattle.fabric_steps.specs.declared.event.LinkEvent.{LinkEvent}
+use Rattle.fabric_steps.specs.declared.event.LinkEvent.TheVariants as links
+use Rattle.fabric_steps.specs.Event.{Seen}
+use Rattle.fabric_steps.specs.declared.event.SeenOf.TheVariants as seen
+use Rattle.fabric_steps.specs.declared.fault.Refusal.{Refusal}
+use Rattle.fabric_steps.specs.declared.fault.Refusal.TheVariants.{Idle}
 use Rattle.fabric_core.specs.Answers.{Refuses, link_grows, lane_grows, arrival_grows, transmit_on, deliver_on, send_dllp_on, deliver_dllp_on, timer_on, retrained_on}
 use Rattle.hall_laws.specs.declared.part.Part.{Part}
 use Rattle.hall_laws.specs.declared.part.Part.TheVariants as parts

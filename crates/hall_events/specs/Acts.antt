@@ -1,12 +1,12 @@
 -- The events of a link over the ends that they use: what is seen, and the ends after it, or the refusal.
 use Rattle.std.specs.Prelude.{◌≡◌, [], None, Result, Ok, Err}
-use Rattle.lane_ends.specs.Steps.{transmitted}
-use Rattle.fabric_events.specs.declared.event.LinkEvent.{LinkEvent}
-use Rattle.fabric_events.specs.declared.event.LinkEvent.TheVariants as links
-use Rattle.fabric_events.specs.Events.{Seen}
-use Rattle.fabric_events.specs.declared.event.SeenOf.TheVariants as seen
-use Rattle.fabric_events.specs.declared.fault.Refusal.{Refusal}
-use Rattle.fabric_events.specs.declared.fault.Refusal.TheVariants.{NoSuchPart}
+use Rattle.lane_core.specs.Steps.{transmitted}
+use Rattle.fabric_steps.specs.declared.event.LinkEvent.{LinkEvent}
+use Rattle.fabric_steps.specs.declared.event.LinkEvent.TheVariants as links
+use Rattle.fabric_steps.specs.Event.{Seen}
+use Rattle.fabric_steps.specs.declared.event.SeenOf.TheVariants as seen
+use Rattle.fabric_steps.specs.declared.fault.Refusal.{Refusal}
+use Rattle.fabric_steps.specs.declared.fault.Refusal.TheVariants.{NoSuchPart}
 use Rattle.fabric_core.specs.Answers.{map_ok, transmit_on, deliver_on, send_dllp_on, deliver_dllp_on, timer_on, retrained_on}
 use Rattle.hall_laws.specs.declared.part.PartValue.{PartValue}
 use Rattle.hall_laws.specs.declared.part.PartValue.TheVariants.{Sender, Forward, Back, Receiver}

@@ -1,6 +1,6 @@
 -- The desk of a call: its seat at the table of a hall.
 use Rattle.std.specs.Prelude.{ℕ, ◌≡◌, ◌≢◌, ◌<◌, List, [], ◌∷◌, length, drop}
-use Rattle.fabric_events.specs.Events.{Event, Seen}
+use Rattle.fabric_steps.specs.Event.{Event, Seen}
 use Rattle.hall_laws.specs.declared.part.PartValue.{PartValue}
 use Rattle.hall_laws.specs.declared.token.Knowledge.{Knowledge}
 use Rattle.hall_laws.specs.Calls.{IsSized, IsOf}

@@ -1,12 +1,12 @@
 -- Why a call is refused.
 use Rattle.std.specs.Prelude.{ℕ, suc, ◌≡◌, ◌≢◌, ◌⊎◌, length, List, [], ◌∷◌, codes}
-use Rattle.fabric_laws.specs.Fabric.{Fabric}
-use Rattle.fabric_events.specs.Events.{Event}
-use Rattle.fabric_events.specs.declared.event.EventOf.TheVariants as events
-use Rattle.fabric_events.specs.declared.event.LaneName.{LaneName}
-use Rattle.fabric_events.specs.declared.event.LaneName.TheVariants as lanes
-use Rattle.fabric_events.specs.declared.fault.Refusal.{Refusal}
-use Rattle.fabric_events.specs.declared.fault.Refusal.TheVariants.{NoSuchPart}
+use Rattle.fabric_steps.specs.Fabric.{Fabric}
+use Rattle.fabric_steps.specs.Event.{Event}
+use Rattle.fabric_steps.specs.declared.event.EventOf.TheVariants as events
+use Rattle.fabric_steps.specs.declared.event.LaneName.{LaneName}
+use Rattle.fabric_steps.specs.declared.event.LaneName.TheVariants as lanes
+use Rattle.fabric_steps.specs.declared.fault.Refusal.{Refusal}
+use Rattle.fabric_steps.specs.declared.fault.Refusal.TheVariants.{NoSuchPart}
 use Rattle.fabric_core.specs.Kept.{IsPossible}
 use Rattle.fabric_core.specs.Steps.{HasLanes, Refused}
 use Rattle.hall_events.specs.declared.refusal.HallRefusal.{HallRefusal}
@@ -16,7 +16,7 @@ use Rattle.hall_laws.specs.declared.part.Part.TheVariants as parts
 use Rattle.hall_laws.specs.declared.token.Knowledge.{Knowledge}
 use Rattle.hall_laws.specs.Tells.{Has}
 use Rattle.hall_laws.specs.Shows.{MayRefuse}
-use Rattle.fabric_events.specs.Faults.{refusal_name}
+use Rattle.fabric_steps.specs.Faults.{refusal_name}
 
 -- no fabric with so many requesters has the part
 abbrev pub HasNoPart : ℕ → Event → Refusal → Type 0

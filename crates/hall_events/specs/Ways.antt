@@ -1,13 +1,13 @@
 -- The way of a packet through the switch, and what a packet that goes on owes.
 use Rattle.std.specs.Prelude.{◌≡◌, ◌⊎◌, ◌+◌, ◌<◌, ◌≤◌, ℕ, List, [], ◌∷◌, Ok, Err}
-use Rattle.lane_ends.specs.Steps.{ReceiverEndView, SenderEndView}
-use Rattle.switch_ports.specs.declared.fault.RouteFault.TheVariants.{NoPort}
-use Rattle.fabric_events.specs.declared.event.EventOf.TheVariants.{Forward}
-use Rattle.fabric_events.specs.declared.event.LaneName.{LaneName}
-use Rattle.fabric_events.specs.declared.event.LaneName.TheVariants as lanes
-use Rattle.fabric_events.specs.declared.event.SeenOf.TheVariants.{To}
-use Rattle.fabric_events.specs.declared.fault.Refusal.{Refusal}
-use Rattle.fabric_events.specs.declared.fault.Refusal.TheVariants.{Route}
+use Rattle.lane_core.specs.Steps.{ReceiverEndView, SenderEndView}
+use Rattle.switch_core.specs.declared.route_fault.RouteFault.TheVariants.{NoPort}
+use Rattle.fabric_steps.specs.declared.event.EventOf.TheVariants.{Forward}
+use Rattle.fabric_steps.specs.declared.event.LaneName.{LaneName}
+use Rattle.fabric_steps.specs.declared.event.LaneName.TheVariants as lanes
+use Rattle.fabric_steps.specs.declared.event.SeenOf.TheVariants.{To}
+use Rattle.fabric_steps.specs.declared.fault.Refusal.{Refusal}
+use Rattle.fabric_steps.specs.declared.fault.Refusal.TheVariants.{Route}
 use Rattle.fabric_core.specs.Answers.{Refuses, lane_grows, destination_on, forward_on, ForwardFits}
 use Rattle.hall_laws.specs.declared.part.PartValue.TheVariants.{Sender, Receiver}
 use Rattle.hall_laws.specs.declared.token.Token.{Token}

@@ -1,7 +1,7 @@
 //! The desk of a call: a seat at the table of its hall, and the parts that it takes there.
 ghost use Rattle.std.specs.Prelude.{◌≡◌, ◌≢◌, ◌<◌, [], ◌∷◌, length, drop, None, Ok, Err, IfOk, IfErr, MatchResult};
 ghost use Rattle.atomic_table.specs.Table.{rest};
-ghost use Rattle.fabric_events.specs.Events.{Event, Seen};
+ghost use Rattle.fabric_steps.specs.Event.{Event, Seen};
 ghost use Rattle.hall_laws.specs.Calls.{knowing};
 ghost use Rattle.hall_laws.specs.Parts.{part_slot, IsPartName, IsPartValue, IsMemory};
 ghost use Rattle.hall_laws.specs.Rule.{Goes, history_in};

@@ -1,6 +1,6 @@
 //! Submissions and collections.
 ghost use Rattle.std.specs.Prelude.{◌≡◌, ◌+◌, ◌<◌, IfOk, IfErr, OnErr, MatchOption};
-ghost use Rattle.fabric_events.specs.declared.event.EventOf.TheVariants.{Submit, Collect};
+ghost use Rattle.fabric_steps.specs.declared.event.EventOf.TheVariants.{Submit, Collect};
 ghost use Rattle.hall_laws.specs.declared.token.Knowledge.{Knowledge};
 ghost use Rattle.hall_laws.specs.Calls.{IsIdle, knowing};
 ghost use Rattle.hall_laws.specs.Tells.{SubmitTells, CollectTells, SeesTells};

@@ -1,7 +1,7 @@
 //! Packets that go on, and requests that act.
 ghost use Rattle.std.specs.Prelude.{◌≡◌, ◌↔◌, ◌<◌, ◌≤◌, IsTrue, IfOk, IfErr, OnErr};
-ghost use Rattle.fabric_events.specs.declared.event.EventOf.TheVariants.{Forward, Serve};
-ghost use Rattle.fabric_events.specs.declared.event.SeenOf.TheVariants.{At};
+ghost use Rattle.fabric_steps.specs.declared.event.EventOf.TheVariants.{Forward, Serve};
+ghost use Rattle.fabric_steps.specs.declared.event.SeenOf.TheVariants.{At};
 ghost use Rattle.hall_laws.specs.Calls.{IsIdle, knowing, serving_also};
 ghost use Rattle.hall_laws.specs.Rule.{with_done};
 ghost use Rattle.hall_laws.specs.Shows.{Shows};
@@ -17,7 +17,7 @@ use hall_laws::duties::{forwarding_out, forwarding_up, serving};
 use hall_laws::part::Part;
 use lane_core::ReceiverEnd;
 use std::marker::Brand;
-use switch_ports::{Port, RouteFault};
+use switch_core::{Port, RouteFault};
 
 /// A packet that goes on, over the receiver's end of its lane and the sender's end of the next, is that event of the
 /// fabric, which shows what is seen of it; where they refuse it, so does the fabric, and so it does where the packet has

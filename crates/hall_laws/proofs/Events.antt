@@ -14,16 +14,16 @@ use Rattle.seq_memory.specs.Entries.{Entry}
 use Rattle.lane_core.specs.Calls.{content}
 use Rattle.history_words.specs.Records.{Record}
 use Rattle.history_words.specs.declared.record.RecordOf.TheVariants.{Sub, Ans}
-use Rattle.fabric_laws.specs.Lists.{Each}
-use Rattle.fabric_laws.specs.Fabric.{Fabric, whole_of}
-use Rattle.fabric_laws.specs.Whole.{Whole}
-use Rattle.fabric_laws.specs.Sound.{Sound}
-use Rattle.fabric_laws.specs.Routed.{IsRouted}
-use Rattle.fabric_laws.specs.Steps.{Step, Run, stays, goes}
-use Rattle.fabric_laws.specs.Trace.{Belongs, moment}
+use Rattle.fabric_steps.specs.Lists.{Each}
+use Rattle.fabric_steps.specs.Fabric.{Fabric, whole_of}
+use Rattle.fabric_steps.specs.Whole.{Whole}
+use Rattle.fabric_steps.specs.Sound.{Sound}
+use Rattle.fabric_steps.specs.Routed.{IsRouted}
+use Rattle.fabric_steps.specs.Steps.{Step, Run, stays, goes}
+use Rattle.fabric_steps.specs.Trace.{Belongs, moment}
 use Rattle.hall_laws.proofs.Lists.{made_own, made_ans}
 use Rattle.hall_laws.proofs.Lists.{each_at}
-use Rattle.fabric_events.specs.Events.{Event, Seen}
+use Rattle.fabric_steps.specs.Event.{Event, Seen}
 use Rattle.fabric_core.specs.Kept.{IsSoundFabric, records_of}
 use Rattle.fabric_core.specs.Answers.{Happens}
 use Rattle.hall_laws.specs.declared.part.PartValue.{PartValue}

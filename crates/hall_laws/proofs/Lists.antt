@@ -14,7 +14,7 @@ use Rattle.history_words.specs.Records.{Record}
 use Rattle.history_words.specs.declared.record.RecordOf.TheVariants.{Sub, Ans}
 use Rattle.history_words.specs.Trace.{submission, submissions, answers_to}
 use Rattle.hall_laws.specs.Standing.{word_of}
-pub use Rattle.fabric_laws.specs.ListFacts.{each_at, get_before, get_seam}
+pub use Rattle.fabric_steps.specs.ListFacts.{each_at, get_before, get_seam}
 
 -- ---- elements by number
 

@@ -8,7 +8,7 @@ use Rattle.hall_laws.proofs.Lists.{at_set, at_set_word, set_here, set_else, set_
 use mathlib.Core.Logic.{dite}
 use native.Mathlib.Decide.{ℕ_discrete}
 use prog.Atomic.{either}
-use Rattle.fabric_laws.specs.Lists.{Each}
+use Rattle.fabric_steps.specs.Lists.{Each}
 use Rattle.hall_laws.specs.declared.part.PartValue.{PartValue}
 use Rattle.hall_laws.specs.declared.token.Token.{Token}
 use Rattle.hall_laws.specs.declared.token.Knowledge.{Knowledge}

@@ -9,19 +9,19 @@ use Rattle.tlp_core.specs.Operation.{is_completion}
 use Rattle.dllp_core.specs.declared.packet.Dllp.{Dllp}
 use Rattle.seq_memory.specs.History.{MemoryView}
 use Rattle.requester_core.specs.RequesterView.{RequesterView}
-use Rattle.vc_queue.specs.Queue.{Item}
+use Rattle.flow_control.specs.Queue.{Item}
 use Rattle.history_words.specs.Records.{Record}
-use Rattle.lane_ends.specs.declared.packet.WirePacket.{WirePacket}
-use Rattle.lane_ends.specs.Steps.{LaneEndsView, ReceiverEndView, SenderEndView}
-use Rattle.switch_ports.specs.Routing.{route, port_of, is_requester}
-use Rattle.switch_ports.specs.declared.fault.RouteFault.TheVariants.{NoPort}
-use Rattle.fabric_laws.specs.Lists.{Each}
-use Rattle.fabric_laws.specs.Fabric.{Fabric}
-use Rattle.fabric_events.specs.Events.{Event, Seen}
-use Rattle.fabric_events.specs.declared.event.LaneName.{LaneName}
-use Rattle.fabric_events.specs.declared.event.LaneName.TheVariants as lanes
-use Rattle.fabric_events.specs.declared.fault.Refusal.{Refusal}
-use Rattle.fabric_events.specs.declared.fault.Refusal.TheVariants as refusals
+use Rattle.lane_core.specs.declared.packet.WirePacket.{WirePacket}
+use Rattle.lane_core.specs.Steps.{LaneEndsView, ReceiverEndView, SenderEndView}
+use Rattle.switch_core.specs.Routing.{route, port_of, is_requester}
+use Rattle.switch_core.specs.declared.route_fault.RouteFault.TheVariants.{NoPort}
+use Rattle.fabric_steps.specs.Lists.{Each}
+use Rattle.fabric_steps.specs.Fabric.{Fabric}
+use Rattle.fabric_steps.specs.Event.{Event, Seen}
+use Rattle.fabric_steps.specs.declared.event.LaneName.{LaneName}
+use Rattle.fabric_steps.specs.declared.event.LaneName.TheVariants as lanes
+use Rattle.fabric_steps.specs.declared.fault.Refusal.{Refusal}
+use Rattle.fabric_steps.specs.declared.fault.Refusal.TheVariants as refusals
 use Rattle.fabric_core.specs.Answers.{and_then, map_err, Refuses, map_ok, item_at, destination_on, lane_at}
 use Rattle.fabric_core.specs.Kept.{records_of}
 use Rattle.fabric_core.specs.Steps.{HasLane, HasPart}

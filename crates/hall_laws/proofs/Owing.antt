@@ -8,17 +8,17 @@ use Rattle.seq_memory.specs.Entries.{Entry}
 use Rattle.seq_memory.specs.History.{MemoryView}
 use Rattle.requester_core.specs.RequesterView.{RequesterView}
 use Rattle.history_words.specs.Records.{Record}
-use Rattle.lane_ends.specs.Steps.{LaneEndsView, ReceiverEndView, SenderEndView}
-use Rattle.fabric_laws.specs.Lists.{Each}
-use Rattle.fabric_laws.specs.Fabric.{Fabric}
-use Rattle.fabric_events.specs.Events.{Event, Seen}
-use Rattle.fabric_events.specs.declared.event.EventOf.TheVariants as events
-use Rattle.fabric_events.specs.declared.event.LaneName.{LaneName}
-use Rattle.fabric_events.specs.declared.event.LaneName.TheVariants as lanes
-use Rattle.fabric_events.specs.declared.event.LinkEvent.{LinkEvent}
-use Rattle.fabric_events.specs.declared.event.LinkEvent.TheVariants as links
-use Rattle.fabric_events.specs.declared.event.SeenOf.TheVariants as seen
-use Rattle.fabric_events.specs.declared.fault.Refusal.{Refusal}
+use Rattle.lane_core.specs.Steps.{LaneEndsView, ReceiverEndView, SenderEndView}
+use Rattle.fabric_steps.specs.Lists.{Each}
+use Rattle.fabric_steps.specs.Fabric.{Fabric}
+use Rattle.fabric_steps.specs.Event.{Event, Seen}
+use Rattle.fabric_steps.specs.declared.event.EventOf.TheVariants as events
+use Rattle.fabric_steps.specs.declared.event.LaneName.{LaneName}
+use Rattle.fabric_steps.specs.declared.event.LaneName.TheVariants as lanes
+use Rattle.fabric_steps.specs.declared.event.LinkEvent.{LinkEvent}
+use Rattle.fabric_steps.specs.declared.event.LinkEvent.TheVariants as links
+use Rattle.fabric_steps.specs.declared.event.SeenOf.TheVariants as seen
+use Rattle.fabric_steps.specs.declared.fault.Refusal.{Refusal}
 use Rattle.fabric_core.specs.Answers.{map_ok, send_dllp_on, link_on, link_at, destination_on, forward_on, port_from, part_at, lane_to, with_requester, Happens, SubmitFits, ForwardFits}
 use Rattle.fabric_core.specs.Kept.{records_of}
 use Rattle.fabric_core.specs.Steps.{HasLane}

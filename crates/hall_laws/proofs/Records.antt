@@ -11,7 +11,7 @@ use Rattle.history_words.specs.Records.{Record}
 use Rattle.history_words.specs.declared.record.RecordOf.TheVariants.{Sub, Ans}
 use Rattle.history_words.specs.Trace.{submission, submissions}
 use Rattle.history_words.specs.Lookup.{requester_of}
-use Rattle.fabric_laws.specs.Lists.{Each}
+use Rattle.fabric_steps.specs.Lists.{Each}
 use Rattle.hall_laws.specs.Waiting.{requester_in, without, after_record, waiting_after, waiting, records_by}
 
 pub waiting_append : (i : ℕ) (ps : List (ℕ × ℕ)) (rs ss : List Record) → waiting_after i ps (rs ++ ss) ≡ waiting_after i (waiting_after i ps rs) ss

@@ -8,10 +8,10 @@ use Rattle.seq_memory.specs.Entries.{Reply}
 use Rattle.history_words.specs.Records.{Record}
 use Rattle.history_words.specs.declared.record.RecordOf.TheVariants.{Sub, Ans}
 use Rattle.history_words.specs.Trace.{submissions, answers_to, stands, is_request, IsLawful, IsExplained, Explains}
-use Rattle.fabric_laws.specs.Whole.{Whole, memory_of}
-use Rattle.fabric_laws.specs.Sound.{Sound}
-use Rattle.fabric_laws.specs.Trace.{Belongs}
-use Rattle.fabric_laws.specs.Fabric.{whole_of}
+use Rattle.fabric_steps.specs.Whole.{Whole, memory_of}
+use Rattle.fabric_steps.specs.Sound.{Sound}
+use Rattle.fabric_steps.specs.Trace.{Belongs}
+use Rattle.fabric_steps.specs.Fabric.{whole_of}
 use Rattle.hall_laws.proofs.Lists.{get_seam, take_before, take_all}
 use Rattle.hall_laws.proofs.Lists.{answer_is}
 use Rattle.hall_laws.specs.declared.token.Knowledge.{Knowledge}

@@ -3,7 +3,7 @@ use Rattle.std.proofs.Common.{◌≡◌, ◌≢◌, ℕ, subst, zero, suc, ◌+�
 use Rattle.std.proofs.Common.{eq-eqb}
 use mathlib.Core.Option.{some, some-injective, some-ne-none}
 use lib.ListN.{get_elem?}
-use Rattle.fabric_laws.specs.Lists.{Each}
+use Rattle.fabric_steps.specs.Lists.{Each}
 use Rattle.hall_laws.specs.declared.part.PartValue.{PartValue}
 use Rattle.hall_laws.specs.declared.token.Token.{Token}
 use Rattle.hall_laws.specs.Standing.{total, one_if_same, times, serving, named, Values, Covers, Outside, SomeHolds, AreAlike}

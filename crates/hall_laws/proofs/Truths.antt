@@ -9,9 +9,9 @@ use Rattle.tlp_core.specs.Operation.{is_posted}
 use Rattle.seq_memory.specs.Entries.{Entry}
 use Rattle.history_words.specs.declared.record.RecordOf.TheVariants.{Sub, Ans}
 use Rattle.history_words.specs.Trace.{submissions, answers_to, is_request}
-use Rattle.fabric_laws.specs.Whole.{view}
-use Rattle.fabric_laws.specs.Trace.{IsMade}
-use Rattle.fabric_laws.specs.Fabric.{Fabric, whole_of}
+use Rattle.fabric_steps.specs.Whole.{view}
+use Rattle.fabric_steps.specs.Trace.{IsMade}
+use Rattle.fabric_steps.specs.Fabric.{Fabric, whole_of}
 use Rattle.fabric_core.specs.Runs.{Runs}
 use Rattle.hall_laws.proofs.Lists.{answer_is}
 use Rattle.hall_laws.specs.declared.token.Knowledge.{Knowledge}

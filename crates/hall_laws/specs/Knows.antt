@@ -4,10 +4,10 @@ use mathlib.Core.Option.{some}
 use lib.ListN.{get_elem?}
 use Rattle.history_words.specs.Records.{Record}
 use Rattle.history_words.specs.Trace.{stands}
-use Rattle.fabric_laws.specs.Lists.{Each}
-use Rattle.fabric_laws.specs.Whole.{view}
-use Rattle.fabric_laws.specs.Trace.{Belongs, IsMade, IsOpen}
-use Rattle.fabric_laws.specs.Fabric.{Fabric, whole_of}
+use Rattle.fabric_steps.specs.Lists.{Each}
+use Rattle.fabric_steps.specs.Whole.{view}
+use Rattle.fabric_steps.specs.Trace.{Belongs, IsMade, IsOpen}
+use Rattle.fabric_steps.specs.Fabric.{Fabric, whole_of}
 use Rattle.hall_laws.specs.declared.token.Knowledge.{Knowledge}
 use Rattle.fabric_core.specs.Kept.{IsSoundFabric}
 use Rattle.hall_laws.specs.declared.part.PartValue.{PartValue}

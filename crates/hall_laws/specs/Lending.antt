@@ -2,10 +2,10 @@
 use Rattle.std.specs.Borrow.{Lends, MutBor, Fml}
 use Rattle.seq_memory.specs.contracts.memory.Memory as memory
 use Rattle.requester_core.specs.contracts.requester.Requester as requester
-use Rattle.lane_ends.specs.contracts.sender_end.SenderEnd as sender
-use Rattle.lane_ends.specs.contracts.wires.ForwardWire as forward
-use Rattle.lane_ends.specs.contracts.wires.BackWire as back
-use Rattle.lane_ends.specs.contracts.receiver_end.ReceiverEnd as receiver
+use Rattle.lane_core.specs.contracts.sender_end.SenderEnd as sender
+use Rattle.lane_core.specs.contracts.wires.ForwardWire as forward
+use Rattle.lane_core.specs.contracts.wires.BackWire as back
+use Rattle.lane_core.specs.contracts.receiver_end.ReceiverEnd as receiver
 use Rattle.hall_laws.specs.declared.part.PartValue.{PartValue}
 use Rattle.hall_laws.specs.declared.part.PartValue.TheVariants.{Memory, Requester, Sender, Forward, Back, Receiver}
 use Rattle.hall_laws.specs.contracts.part.PartValue.{the_row}

@@ -2,10 +2,10 @@
 use Rattle.std.specs.Prelude.{◌≡◌, ◌==◌, ◌<◌, ℕ, suc, Bool, true, false, List, [], ◌∷◌, ◌++◌, map, length}
 use Rattle.history_words.specs.Records.{Record}
 use Rattle.history_words.specs.Trace.{submissions}
-use Rattle.fabric_laws.specs.Lists.{Each}
-use Rattle.fabric_laws.specs.Fabric.{Fabric, whole_of}
-use Rattle.fabric_laws.specs.Trace.{Belongs}
-use Rattle.fabric_events.specs.Events.{Event}
+use Rattle.fabric_steps.specs.Lists.{Each}
+use Rattle.fabric_steps.specs.Fabric.{Fabric, whole_of}
+use Rattle.fabric_steps.specs.Trace.{Belongs}
+use Rattle.fabric_steps.specs.Event.{Event}
 use Rattle.fabric_core.specs.Kept.{records_of}
 use Rattle.fabric_core.specs.Answers.{Happens}
 use Rattle.hall_laws.specs.declared.token.Done.{Done}

@@ -7,8 +7,8 @@ use Rattle.seq_memory.specs.Entries.{Reply}
 use Rattle.seq_memory.specs.History.{reply_at}
 use Rattle.history_words.specs.declared.record.RecordOf.TheVariants.{Sub, Ans}
 use Rattle.history_words.specs.Trace.{stands, IsLawful}
-use Rattle.fabric_events.specs.declared.event.EventOf.TheVariants as events
-use Rattle.fabric_events.specs.declared.event.SeenOf.TheVariants as seen
+use Rattle.fabric_steps.specs.declared.event.EventOf.TheVariants as events
+use Rattle.fabric_steps.specs.declared.event.SeenOf.TheVariants as seen
 use Rattle.hall_laws.specs.declared.token.Knowledge.{Knowledge}
 use Rattle.hall_laws.specs.Waiting.{without}
 use Rattle.hall_laws.specs.Rule.{Traced, IsSoundTraced, Fits, Begins, with_done, extent_for}

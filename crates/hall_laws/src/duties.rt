@@ -5,7 +5,7 @@ ghost use Rattle.hall_laws.specs.Causes.{TransmitIsRefused, SenderHasNothing, De
 ghost use Rattle.hall_laws.specs.Telling.{SubmissionTells, CollectionTells, LookTells, MeetingTells, EventShows};
 
 use fabric_core::laws::each_event_keeps_it_sound;
-use fabric_laws::laws::{packets_keep_their_ports, the_trace_belongs};
+use fabric_steps::laws::{packets_keep_their_ports, the_trace_belongs};
 
 /// A transmission over a sender's end and its forward wire is that event of the fabric, which shows what is seen of it;
 /// where the parts refuse it, so does the fabric, and so it does where the sender's end alone has nothing to send.

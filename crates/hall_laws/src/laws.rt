@@ -1,12 +1,12 @@
 //! The steps on the words.
 ghost use Rattle.std.specs.Prelude.{◌≡◌, ◌≢◌, suc, ◌+◌, ◌<◌, ◌^◌, [], ◌∷◌, ◌++◌, length, drop, MatchResult, Some, None};
 ghost use Rattle.atomic_table.specs.Table.{rest};
-ghost use Rattle.fabric_events.specs.Events.{Event, Seen};
+ghost use Rattle.fabric_steps.specs.Event.{Event, Seen};
 ghost use Rattle.hall_laws.specs.declared.token.Token.{Token};
 ghost use Rattle.hall_laws.specs.Standing.{token_of, others_of, holding_first, Outside};
 ghost use Rattle.hall_laws.specs.Calls.{HasSlot};
 ghost use Rattle.hall_laws.specs.declared.token.Knowledge.{Knowledge};
-ghost use Rattle.fabric_laws.specs.Fabric.{Fabric};
+ghost use Rattle.fabric_steps.specs.Fabric.{Fabric};
 ghost use Rattle.fabric_core.specs.Runs.{Runs};
 ghost use Rattle.hall_laws.specs.Knows.{IsTrueOf, IsRuled};
 ghost use Rattle.hall_laws.specs.Story.{Ran, events_in};
@@ -20,7 +20,7 @@ use crate::slots::WORDS_APART;
 use crate::token::{Start, Token};
 use atomic_table::{Join, Play, Seat, Shared, Split, TableRule};
 use fabric_core::laws::each_event_keeps_it_sound;
-use fabric_laws::laws::{packets_keep_their_ports, the_trace_belongs};
+use fabric_steps::laws::{packets_keep_their_ports, the_trace_belongs};
 use seq_memory::Memory;
 use std::collections::LinkedList;
 use std::marker::{Brand, PhantomData};

@@ -1,2 +1,2 @@
-pub mod TextLemmas
 pub mod HexLemmas
+pub mod TextLemmas

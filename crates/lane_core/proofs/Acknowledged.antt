@@ -2,14 +2,14 @@
 use Rattle.std.proofs.Common.{◌≡◌, ℕ, zero, suc, ◌≤◌, List, [], ◌∷◌, ◌++◌, length, drop, refl, ◌∙◌, ap, arith}
 use Rattle.dllp_core.specs.declared.packet.Dllp.{Dllp}
 use Rattle.seq12.specs.Numbers.{previous_of, distance_of}
-use Rattle.replay_sender.specs.SenderView.{SenderView}
-use Rattle.link_receiver.specs.declared.receiver.NakScheduled.{NakScheduled}
-use Rattle.link_receiver.specs.declared.receiver.NakScheduled.TheVariants.{Clear, Due, Sent}
-use Rattle.link_receiver.specs.ReceiverView.{ReceiverView, acknowledgment_of, dllp_by}
-use Rattle.lane_ends.specs.declared.packet.WirePacket.{WirePacket}
-use Rattle.lane_ends.specs.declared.packet.Fate.TheVariants.{Good}
-use Rattle.lane_ends.specs.Content.{unaccepted_of}
-use Rattle.lane_ends.specs.Steps.{SenderEndView, ReceiverEndView, after_dllp}
+use Rattle.link_replay.specs.SenderView.{SenderView}
+use Rattle.link_replay.specs.declared.receiver.NakScheduled.{NakScheduled}
+use Rattle.link_replay.specs.declared.receiver.NakScheduled.TheVariants.{Clear, Due, Sent}
+use Rattle.link_replay.specs.ReceiverView.{ReceiverView, acknowledgment_of, dllp_by}
+use Rattle.lane_core.specs.declared.packet.WirePacket.{WirePacket}
+use Rattle.lane_core.specs.declared.packet.Fate.TheVariants.{Good}
+use Rattle.lane_core.specs.Content.{unaccepted_of}
+use Rattle.lane_core.specs.Steps.{SenderEndView, ReceiverEndView, after_dllp}
 use Rattle.lane_core.specs.Calls.{DeliverDllp}
 use Rattle.lane_core.specs.Flushed.{times}
 use Rattle.lane_core.proofs.UnderWay.{AreNumbered}

@@ -6,15 +6,15 @@ use Rattle.std.proofs.lemmas.Bool.Decides.{nat_tests}
 use Rattle.dllp_core.specs.declared.packet.Dllp.{Dllp}
 use Rattle.seq12.specs.Numbers.{next_of, distance_of}
 use Rattle.seq12.specs.declared.class.SequenceClass.TheVariants.{Expected, Duplicate as Older, Ahead}
-use Rattle.replay_sender.specs.CargoView.{CargoView}
-use Rattle.replay_sender.specs.SenderView.{SenderView}
-use Rattle.link_receiver.specs.declared.receiver.NakScheduled.{NakScheduled}
-use Rattle.link_receiver.specs.declared.receiver.NakScheduled.TheVariants.{Clear, Due, Sent}
-use Rattle.link_receiver.specs.ReceiverView.{ReceiverView, answer_by, next_after}
-use Rattle.lane_ends.specs.declared.packet.WirePacket.{WirePacket}
-use Rattle.lane_ends.specs.declared.packet.Fate.TheVariants.{Good}
-use Rattle.lane_ends.specs.Content.{received_of, unaccepted_of}
-use Rattle.lane_ends.specs.Steps.{SenderEndView, ReceiverEndView, arrival_of, receiving_on, after_arrival}
+use Rattle.link_replay.specs.CargoView.{CargoView}
+use Rattle.link_replay.specs.SenderView.{SenderView}
+use Rattle.link_replay.specs.declared.receiver.NakScheduled.{NakScheduled}
+use Rattle.link_replay.specs.declared.receiver.NakScheduled.TheVariants.{Clear, Due, Sent}
+use Rattle.link_replay.specs.ReceiverView.{ReceiverView, answer_by, next_after}
+use Rattle.lane_core.specs.declared.packet.WirePacket.{WirePacket}
+use Rattle.lane_core.specs.declared.packet.Fate.TheVariants.{Good}
+use Rattle.lane_core.specs.Content.{received_of, unaccepted_of}
+use Rattle.lane_core.specs.Steps.{SenderEndView, ReceiverEndView, arrival_of, receiving_on, after_arrival}
 use Rattle.lane_core.specs.Calls.{Deliver}
 use Rattle.lane_core.specs.Flushed.{times}
 use Rattle.lane_core.proofs.UnderWay.{AreNumbered}

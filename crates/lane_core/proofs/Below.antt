@@ -4,12 +4,12 @@ use Rattle.tlp_core.specs.TlpView.{TlpView, IsPacket}
 use Rattle.tlp_core.specs.Layout.{Spells}
 use Rattle.tlp_core.specs.Faults.{reading}
 use Rattle.dllp_core.specs.declared.packet.Class.{Class}
-use Rattle.fc_credit.specs.declared.needs.Need.{Need}
-use Rattle.fc_credit.specs.declared.limits.LaneCredits.{LaneCredits}
-use Rattle.fc_credit.specs.Limits.{IsInLimits, least_units}
-use Rattle.fc_credit.specs.Needs.{need_of}
-use Rattle.fc_credit.specs.Credits.{pick, gate_covers, first_of, allowance, grant}
-use Rattle.fc_credit.specs.Account.{Event, HasCredit, IsRight, demand, new_direction, first_numbers, after_events, numbers_in}
+use Rattle.flow_control.specs.declared.needs.Need.{Need}
+use Rattle.flow_control.specs.declared.limits.LaneCredits.{LaneCredits}
+use Rattle.flow_control.specs.Limits.{IsInLimits, least_units}
+use Rattle.flow_control.specs.Needs.{need_of}
+use Rattle.flow_control.specs.Credits.{pick, gate_covers, first_of, allowance, grant}
+use Rattle.flow_control.specs.Account.{Event, HasCredit, IsRight, demand, new_direction, first_numbers, after_events, numbers_in}
 
 -- what spells a packet is read as that packet
 abbrev pub IsRead : Type 0

@@ -11,27 +11,27 @@ use Rattle.tlp_core.specs.Layout.{Spells, canonical}
 use Rattle.dllp_core.specs.declared.packet.Dllp.{Dllp}
 use Rattle.dllp_core.specs.declared.packet.Dllp.TheVariants.{Ack, Nak, Update}
 use Rattle.seq12.specs.Numbers.{previous_of}
-use Rattle.link_receiver.specs.declared.receiver.NakScheduled.{NakScheduled}
-use Rattle.link_receiver.specs.declared.receiver.NakScheduled.TheVariants.{Clear, Due, Sent}
-use Rattle.link_receiver.specs.ReceiverView.{ReceiverView, acknowledgment_of, dllp_by}
-use Rattle.replay_sender.specs.CargoView.{CargoView}
-use Rattle.fc_credit.specs.declared.needs.Need.{Need}
-use Rattle.fc_credit.specs.declared.limits.LaneCredits.{LaneCredits}
-use Rattle.fc_credit.specs.declared.ledger.CreditLedger.{CreditLedger}
-use Rattle.fc_credit.specs.Needs.{need_of}
-use Rattle.fc_credit.specs.Limits.{least_units}
+use Rattle.link_replay.specs.declared.receiver.NakScheduled.{NakScheduled}
+use Rattle.link_replay.specs.declared.receiver.NakScheduled.TheVariants.{Clear, Due, Sent}
+use Rattle.link_replay.specs.ReceiverView.{ReceiverView, acknowledgment_of, dllp_by}
+use Rattle.link_replay.specs.CargoView.{CargoView}
+use Rattle.flow_control.specs.declared.needs.Need.{Need}
+use Rattle.flow_control.specs.declared.limits.LaneCredits.{LaneCredits}
+use Rattle.flow_control.specs.declared.ledger.CreditLedger.{CreditLedger}
+use Rattle.flow_control.specs.Needs.{need_of}
+use Rattle.flow_control.specs.Limits.{least_units}
 use Rattle.dllp_core.specs.declared.packet.Class.{Class}
 use Rattle.dllp_core.specs.declared.packet.Class.TheVariants.{Posted, NonPosted, Completion}
-use Rattle.fc_credit.specs.Credits.{CreditGateView, gate_covers, update_of}
-use Rattle.fc_credit.specs.Account.{Direction, Event, Consume, Receive, Free, is_small, may_go, consumed_if, freed_at, new_direction, after_events, after_event}
-use Rattle.vc_queue.specs.Queue.{Item, is_takeable}
-use Rattle.lane_ends.specs.declared.packet.WirePacket.{WirePacket}
-use Rattle.lane_ends.specs.declared.packet.Fate.{Fate}
-use Rattle.lane_ends.specs.declared.packet.Fate.TheVariants.{Good, Failed, Lost}
-use Rattle.lane_ends.specs.declared.packet.DllpKind.{DllpKind}
-use Rattle.lane_ends.specs.declared.packet.DllpKind.TheVariants as kinds
-use Rattle.lane_ends.specs.Content.{items_of, unaccepted_of}
-use Rattle.lane_ends.specs.Steps.{LaneEndsView, SenderEndView, ReceiverEndView, new_lane, may_enter, entered, with_room, all_but_first, arrival_of, taken_on, ledger_with, queue_with, after_deliver, sender_after, after_take, ledger_freed}
+use Rattle.flow_control.specs.Credits.{CreditGateView, gate_covers, update_of}
+use Rattle.flow_control.specs.Account.{Direction, Event, Consume, Receive, Free, is_small, may_go, consumed_if, freed_at, new_direction, after_events, after_event}
+use Rattle.flow_control.specs.Queue.{Item, is_takeable}
+use Rattle.lane_core.specs.declared.packet.WirePacket.{WirePacket}
+use Rattle.lane_core.specs.declared.packet.Fate.{Fate}
+use Rattle.lane_core.specs.declared.packet.Fate.TheVariants.{Good, Failed, Lost}
+use Rattle.lane_core.specs.declared.packet.DllpKind.{DllpKind}
+use Rattle.lane_core.specs.declared.packet.DllpKind.TheVariants as kinds
+use Rattle.lane_core.specs.Content.{items_of, unaccepted_of}
+use Rattle.lane_core.specs.Steps.{LaneEndsView, SenderEndView, ReceiverEndView, new_lane, may_enter, entered, with_room, all_but_first, arrival_of, taken_on, ledger_with, queue_with, after_deliver, sender_after, after_take, ledger_freed}
 use Rattle.lane_core.specs.Calls.{Call, MakeRoom, Release, Enter, Transmit, Deliver, SendDllp, DeliverDllp, Timer, Retrained, Take, IsCall, AreCalls, after_call, list_of, accepted_from, after_calls, on_the_way}
 use Rattle.lane_core.specs.Credit.{needs_of, is_update, direction_of, dllp_events, events_of, events_in}
 use Rattle.lane_core.proofs.Below.{Below}

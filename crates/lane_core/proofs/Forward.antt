@@ -2,8 +2,8 @@
 use Rattle.std.proofs.Common.{◌≡◌, ℕ, zero, suc, ◌+◌, ◌-◌, ◌%◌, ◌<◌, ◌≤◌, max, List, [], ◌∷◌, ◌++◌, length, Some, arith}
 use Rattle.std.specs.Prelude.{slice_get}
 use Rattle.std.proofs.lemmas.Option.{slice_get_within}
-use Rattle.lane_ends.specs.declared.packet.WirePacket.{WirePacket}
-use Rattle.replay_sender.specs.CargoView.{CargoView}
+use Rattle.lane_core.specs.declared.packet.WirePacket.{WirePacket}
+use Rattle.link_replay.specs.CargoView.{CargoView}
 use Rattle.lane_core.proofs.UnderWay.{ahead_of, MayArrive, IsForward}
 use Rattle.lane_core.proofs.Arithmetic.{ahead_step}
 

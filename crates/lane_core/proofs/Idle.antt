@@ -5,12 +5,12 @@ use Rattle.std.specs.Option.{option_map}
 use Rattle.std.proofs.lemmas.List.{append-nil}
 use Rattle.std.proofs.lemmas.Bool.Decides.{nat_tests}
 use Rattle.dllp_core.specs.declared.packet.Dllp.{Dllp}
-use Rattle.replay_sender.specs.CargoView.{CargoView}
-use Rattle.replay_sender.specs.SenderView.{SenderView, number_at, next_item, from_oldest, trained, replays_after, stopped_after}
-use Rattle.lane_ends.specs.declared.packet.WirePacket.{WirePacket}
-use Rattle.lane_ends.specs.declared.packet.Fate.{Fate}
-use Rattle.lane_ends.specs.declared.packet.Fate.TheVariants.{Good, Failed, Lost}
-use Rattle.lane_ends.specs.Steps.{LaneEndsView, SenderEndView, ReceiverEndView, transmitted, delivered, is_expected, seen_by, dllp_seen}
+use Rattle.link_replay.specs.CargoView.{CargoView}
+use Rattle.link_replay.specs.SenderView.{SenderView, number_at, next_item, from_oldest, trained, replays_after, stopped_after}
+use Rattle.lane_core.specs.declared.packet.WirePacket.{WirePacket}
+use Rattle.lane_core.specs.declared.packet.Fate.{Fate}
+use Rattle.lane_core.specs.declared.packet.Fate.TheVariants.{Good, Failed, Lost}
+use Rattle.lane_core.specs.Steps.{LaneEndsView, SenderEndView, ReceiverEndView, transmitted, delivered, is_expected, seen_by, dllp_seen}
 use Rattle.lane_core.specs.Calls.{Call, Transmit, Deliver, DeliverDllp, Timer, Retrained, after_call}
 use Rattle.lane_core.specs.Flushed.{times}
 

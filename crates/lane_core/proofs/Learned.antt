@@ -4,11 +4,11 @@ use Rattle.dllp_core.specs.declared.packet.Class.{Class}
 use Rattle.dllp_core.specs.declared.packet.Class.TheVariants.{Posted, NonPosted, Completion}
 use Rattle.dllp_core.specs.declared.packet.Dllp.{Dllp}
 use Rattle.dllp_core.specs.declared.packet.Dllp.TheVariants.{Ack, Nak, Update}
-use Rattle.fc_credit.specs.declared.limits.LaneCredits.{LaneCredits}
-use Rattle.fc_credit.specs.Credits.{same, modulus, allowance, grant, allocated, first_of}
-use Rattle.fc_credit.specs.Account.{Account, Accounts, Direction, Event, HasCredit, updates_in, learns, known_to, told_to, after_event, numbers_after, after_events, numbers_in}
-use Rattle.lane_ends.specs.declared.packet.Fate.TheVariants.{Good}
-use Rattle.lane_ends.specs.Steps.{LaneEndsView, new_lane}
+use Rattle.flow_control.specs.declared.limits.LaneCredits.{LaneCredits}
+use Rattle.flow_control.specs.Credits.{same, modulus, allowance, grant, allocated, first_of}
+use Rattle.flow_control.specs.Account.{Account, Accounts, Direction, Event, HasCredit, updates_in, learns, known_to, told_to, after_event, numbers_after, after_events, numbers_in}
+use Rattle.lane_core.specs.declared.packet.Fate.TheVariants.{Good}
+use Rattle.lane_core.specs.Steps.{LaneEndsView, new_lane}
 use Rattle.lane_core.specs.Calls.{DeliverDllp, after_call, IsRightWith}
 use Rattle.lane_core.specs.Credit.{is_update, direction_of, dllp_events, events_in, numbers_of}
 use Rattle.lane_core.specs.Flushed.{times, sends, with_sent}

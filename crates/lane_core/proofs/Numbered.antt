@@ -8,16 +8,16 @@ use Rattle.tlp_core.specs.TlpView.{TlpView}
 use Rattle.seq12.specs.Numbers.{distance_of}
 use Rattle.dllp_core.specs.declared.packet.Dllp.{Dllp}
 use Rattle.dllp_core.specs.declared.packet.Dllp.TheVariants.{Ack, Nak, Update}
-use Rattle.replay_sender.specs.CargoView.{CargoView}
-use Rattle.replay_sender.specs.SenderView.{SenderView, number_at, is_outstanding, acknowledged, from_oldest}
-use Rattle.fc_credit.specs.declared.limits.LaneCredits.{LaneCredits}
-use Rattle.fc_credit.specs.Needs.{need_of}
-use Rattle.vc_queue.specs.Queue.{Item, is_takeable}
-use Rattle.lane_ends.specs.declared.packet.WirePacket.{WirePacket}
-use Rattle.lane_ends.specs.declared.packet.Fate.{Fate}
-use Rattle.lane_ends.specs.declared.packet.Fate.TheVariants.{Good, Failed, Lost}
-use Rattle.lane_ends.specs.Content.{cargo_of}
-use Rattle.lane_ends.specs.Steps.{LaneEndsView, SenderEndView, new_lane, may_enter, entered, with_room, transmitted, after_dllp, sender_after, after_take}
+use Rattle.link_replay.specs.CargoView.{CargoView}
+use Rattle.link_replay.specs.SenderView.{SenderView, number_at, is_outstanding, acknowledged, from_oldest}
+use Rattle.flow_control.specs.declared.limits.LaneCredits.{LaneCredits}
+use Rattle.flow_control.specs.Needs.{need_of}
+use Rattle.flow_control.specs.Queue.{Item, is_takeable}
+use Rattle.lane_core.specs.declared.packet.WirePacket.{WirePacket}
+use Rattle.lane_core.specs.declared.packet.Fate.{Fate}
+use Rattle.lane_core.specs.declared.packet.Fate.TheVariants.{Good, Failed, Lost}
+use Rattle.lane_core.specs.Content.{cargo_of}
+use Rattle.lane_core.specs.Steps.{LaneEndsView, SenderEndView, new_lane, may_enter, entered, with_room, transmitted, after_dllp, sender_after, after_take}
 use Rattle.lane_core.specs.Calls.{Call, MakeRoom, Release, Enter, Transmit, Deliver, SendDllp, DeliverDllp, Timer, Retrained, Take, AreCalls, after_call, entered_by, after_calls, entered_in}
 use Rattle.lane_core.specs.Windows.{oldest_unacknowledged}
 use Rattle.lane_core.proofs.Below.{IsRead}

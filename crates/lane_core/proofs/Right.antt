@@ -5,12 +5,12 @@ use Rattle.std.proofs.lemmas.Option.{slice_get_within}
 use Rattle.std.proofs.lemmas.List.{drop-drop, drop-append-le, length-drop, length_push, append-nil}
 use Rattle.std.proofs.lemmas.Bool.Decides.{nat_tests}
 use Rattle.seq12.specs.Numbers.{next_of, distance_of}
-use Rattle.replay_sender.specs.SenderView.{SenderView, number_at, with_accepted, after_transmit, next_item, with_reserved, released, acknowledged, from_oldest, trained}
-use Rattle.lane_ends.specs.declared.packet.WirePacket.{WirePacket}
-use Rattle.replay_sender.specs.CargoView.{CargoView}
-use Rattle.lane_ends.specs.Content.{received_of, unaccepted_of}
+use Rattle.link_replay.specs.SenderView.{SenderView, number_at, with_accepted, after_transmit, next_item, with_reserved, released, acknowledged, from_oldest, trained}
+use Rattle.lane_core.specs.declared.packet.WirePacket.{WirePacket}
+use Rattle.link_replay.specs.CargoView.{CargoView}
+use Rattle.lane_core.specs.Content.{received_of, unaccepted_of}
 use Rattle.lane_core.proofs.UnderWay.{ahead_of, IsForward, AreNumbered}
-use Rattle.lane_ends.specs.Steps.{packets_sent}
+use Rattle.lane_core.specs.Steps.{packets_sent}
 use Rattle.lane_core.proofs.Arithmetic.{ahead_same, ahead_sent, received_step, last_distance, received_acked}
 use Rattle.lane_core.proofs.Forward as forward
 use Rattle.lane_core.proofs.Backward as backward

@@ -5,15 +5,15 @@ use Rattle.tlp_core.specs.TlpView.{TlpView, IsPacket}
 use Rattle.dllp_core.specs.declared.packet.Class.{Class}
 use Rattle.dllp_core.specs.declared.packet.Class.TheVariants.{Posted, NonPosted, Completion}
 use Rattle.dllp_core.specs.declared.packet.Dllp.{Dllp}
-use Rattle.fc_credit.specs.declared.needs.Need.{Need}
-use Rattle.fc_credit.specs.declared.limits.LaneCredits.{LaneCredits}
-use Rattle.fc_credit.specs.declared.ledger.CreditLedger.{CreditLedger}
-use Rattle.fc_credit.specs.Limits.{IsInLimits, least_units}
-use Rattle.fc_credit.specs.Needs.{need_of}
-use Rattle.fc_credit.specs.Credits.{CreditGateView, pick, allocated, allowance, grant, first_of, gate_covers}
-use Rattle.fc_credit.specs.Account.{Accounts, Direction, HasCredit, demand, new_direction, after_events, IsRight as IsBalanced}
-use Rattle.vc_queue.specs.Queue.{Item}
-use Rattle.lane_ends.specs.Steps.{LaneEndsView, new_lane, may_enter}
+use Rattle.flow_control.specs.declared.needs.Need.{Need}
+use Rattle.flow_control.specs.declared.limits.LaneCredits.{LaneCredits}
+use Rattle.flow_control.specs.declared.ledger.CreditLedger.{CreditLedger}
+use Rattle.flow_control.specs.Limits.{IsInLimits, least_units}
+use Rattle.flow_control.specs.Needs.{need_of}
+use Rattle.flow_control.specs.Credits.{CreditGateView, pick, allocated, allowance, grant, first_of, gate_covers}
+use Rattle.flow_control.specs.Account.{Accounts, Direction, HasCredit, demand, new_direction, after_events, IsRight as IsBalanced}
+use Rattle.flow_control.specs.Queue.{Item}
+use Rattle.lane_core.specs.Steps.{LaneEndsView, new_lane, may_enter}
 use Rattle.lane_core.specs.Calls.{Call, AreCalls, after_calls, on_the_way, content, IsRightWith}
 use Rattle.lane_core.specs.Credit.{needs_of, events_in, direction_of, numbers_of, HasRoom}
 use Rattle.lane_core.specs.Flushed.{IsFlushed}

@@ -3,14 +3,14 @@ use Rattle.std.proofs.Common.{◌≡◌, ℕ, zero, suc, ◌+◌, ◌≤◌, Lis
 use Rattle.std.proofs.lemmas.List.{append-nil, length-append, drop_all}
 use Rattle.dllp_core.specs.declared.packet.Dllp.{Dllp}
 use Rattle.dllp_core.specs.declared.packet.Class.TheVariants.{Posted, NonPosted, Completion}
-use Rattle.replay_sender.specs.CargoView.{CargoView}
-use Rattle.link_receiver.specs.ReceiverView.{acknowledgment_of}
-use Rattle.fc_credit.specs.declared.limits.LaneCredits.{LaneCredits}
-use Rattle.fc_credit.specs.Credits.{update_of}
-use Rattle.lane_ends.specs.declared.packet.WirePacket.{WirePacket}
-use Rattle.lane_ends.specs.declared.packet.Fate.TheVariants.{Good}
-use Rattle.lane_ends.specs.Content.{items_of, received_of, unaccepted_of}
-use Rattle.lane_ends.specs.Steps.{LaneEndsView, SenderEndView, ReceiverEndView}
+use Rattle.link_replay.specs.CargoView.{CargoView}
+use Rattle.link_replay.specs.ReceiverView.{acknowledgment_of}
+use Rattle.flow_control.specs.declared.limits.LaneCredits.{LaneCredits}
+use Rattle.flow_control.specs.Credits.{update_of}
+use Rattle.lane_core.specs.declared.packet.WirePacket.{WirePacket}
+use Rattle.lane_core.specs.declared.packet.Fate.TheVariants.{Good}
+use Rattle.lane_core.specs.Content.{items_of, received_of, unaccepted_of}
+use Rattle.lane_core.specs.Steps.{LaneEndsView, SenderEndView, ReceiverEndView}
 use Rattle.lane_core.specs.Calls.{Call, Transmit, Deliver, DeliverDllp, Timer, Retrained, IsCall, AreCalls, after_call, after_calls, content, content_after, IsRightWith, IsRight}
 use Rattle.lane_core.specs.Flushed.{IsFlushed, IsEnough, times, replayed, with_packets, sends, with_sent, with_dllps, turned}
 use Rattle.lane_core.proofs.Below.{IsRead, Below}

@@ -2,10 +2,10 @@
 -- and the receiver's, since it is at most 2047 behind and 2046 before it.
 use Rattle.std.specs.Prelude.{◌≡◌, ℕ, ◌+◌, ◌-◌, ◌%◌, ◌<◌, ◌≤◌, max, List, [], ◌∷◌, length, Some, slice_get}
 use Rattle.seq12.specs.Numbers.{distance_of}
-use Rattle.replay_sender.specs.CargoView.{CargoView}
-use Rattle.replay_sender.specs.SenderView.{SenderView}
-use Rattle.lane_ends.specs.declared.packet.WirePacket.{WirePacket}
-use Rattle.lane_ends.specs.Content.{received_of, unaccepted_of}
+use Rattle.link_replay.specs.CargoView.{CargoView}
+use Rattle.link_replay.specs.SenderView.{SenderView}
+use Rattle.lane_core.specs.declared.packet.WirePacket.{WirePacket}
+use Rattle.lane_core.specs.Content.{received_of, unaccepted_of}
 
 -- how far a number lies ahead of the receiver's next, with 2048 for that one itself
 abbrev pub ahead_of : ℕ → ℕ → ℕ

@@ -1,16 +1,16 @@
 -- The credits of a lane in whole numbers.
 use Rattle.std.proofs.Common.{◌≡◌, ◌↔◌, ◌+◌, ◌<◌, ◌≤◌, Bool, true, false, IsTrue, List, refl, sym, subst, arith, Result, Err}
 use Rattle.dllp_core.specs.declared.packet.Class.{Class}
-use Rattle.fc_credit.specs.declared.needs.Need.{Need}
-use Rattle.fc_credit.specs.declared.limits.LaneCredits.{LaneCredits}
-use Rattle.fc_credit.specs.Limits.{IsInLimits}
-use Rattle.fc_credit.specs.Credits.{most, allowance, grant, first_of, gate_covers}
-use Rattle.fc_credit.specs.Account.{Direction, demand, IsRight as IsBalanced}
-use Rattle.lane_ends.specs.Steps.{LaneEndsView, new_lane}
+use Rattle.flow_control.specs.declared.needs.Need.{Need}
+use Rattle.flow_control.specs.declared.limits.LaneCredits.{LaneCredits}
+use Rattle.flow_control.specs.Limits.{IsInLimits}
+use Rattle.flow_control.specs.Credits.{most, allowance, grant, first_of, gate_covers}
+use Rattle.flow_control.specs.Account.{Direction, demand, IsRight as IsBalanced}
+use Rattle.lane_core.specs.Steps.{LaneEndsView, new_lane}
 use Rattle.lane_core.specs.Calls.{Call, AreCalls, after_calls, on_the_way}
 use Rattle.lane_core.specs.Credit.{needs_of, events_in, numbers_of, HasRoom}
-use Rattle.lane_ends.specs.declared.packet.LaneRefusal.{LaneRefusal}
-use Rattle.lane_ends.specs.declared.packet.LaneRefusal.TheVariants.{NoCredits}
+use Rattle.lane_core.specs.declared.packet.LaneRefusal.{LaneRefusal}
+use Rattle.lane_core.specs.declared.packet.LaneRefusal.TheVariants.{NoCredits}
 use Rattle.lane_core.proofs.Below.{Below}
 use Rattle.lane_core.proofs.Directions.{lane_direction}
 

@@ -2,16 +2,16 @@
 use Rattle.std.specs.Prelude.{◌≡◌, ℕ, if◌then◌else◌, Option, Some, None, List, [], ◌∷◌, ◌++◌, slice_get, remove}
 use Rattle.tlp_core.specs.TlpView.{TlpView}
 use Rattle.tlp_core.specs.Layout.{Spells, canonical}
-use Rattle.fc_credit.specs.declared.needs.Need.{Need}
-use Rattle.fc_credit.specs.declared.limits.LaneCredits.{LaneCredits}
-use Rattle.fc_credit.specs.Limits.{IsInLimits}
-use Rattle.fc_credit.specs.Needs.{need_of}
-use Rattle.vc_queue.specs.Queue.{Item, is_takeable}
-use Rattle.lane_ends.specs.declared.packet.WirePacket.{WirePacket}
-use Rattle.lane_ends.specs.declared.packet.Fate.{Fate}
-use Rattle.lane_ends.specs.declared.packet.DllpKind.{DllpKind}
-use Rattle.lane_ends.specs.Content.{items_of, unaccepted_of}
-use Rattle.lane_ends.specs.Steps.{LaneEndsView, ReceiverEndView, new_lane, may_enter, entered, with_room, without_room, after_timer, after_retraining, after_transmission, wire_after_transmit, all_but_first, arrival_of, taken_on, after_deliver, after_send, wire_after_send, sender_after, after_take}
+use Rattle.flow_control.specs.declared.needs.Need.{Need}
+use Rattle.flow_control.specs.declared.limits.LaneCredits.{LaneCredits}
+use Rattle.flow_control.specs.Limits.{IsInLimits}
+use Rattle.flow_control.specs.Needs.{need_of}
+use Rattle.flow_control.specs.Queue.{Item, is_takeable}
+use Rattle.lane_core.specs.declared.packet.WirePacket.{WirePacket}
+use Rattle.lane_core.specs.declared.packet.Fate.{Fate}
+use Rattle.lane_core.specs.declared.packet.DllpKind.{DllpKind}
+use Rattle.lane_core.specs.Content.{items_of, unaccepted_of}
+use Rattle.lane_core.specs.Steps.{LaneEndsView, ReceiverEndView, new_lane, may_enter, entered, with_room, without_room, after_timer, after_retraining, after_transmission, wire_after_transmit, all_but_first, arrival_of, taken_on, after_deliver, after_send, wire_after_send, sender_after, after_take}
 
 -- a call of a lane; one that is refused for being out of memory changes nothing and is left out
 pub data Call : Type 0 where

@@ -2,17 +2,17 @@
 use Rattle.std.specs.Prelude.{◌+◌, ◌<◌, ◌≤◌, Bool, true, false, if◌then◌else◌, List, [], ◌∷◌, ◌++◌, map, filter}
 use Rattle.dllp_core.specs.declared.packet.Dllp.{Dllp}
 use Rattle.dllp_core.specs.declared.packet.Dllp.TheVariants.{Ack, Nak, Update}
-use Rattle.fc_credit.specs.declared.needs.Need.{Need}
-use Rattle.fc_credit.specs.declared.limits.LaneCredits.{LaneCredits}
-use Rattle.fc_credit.specs.Needs.{need_of}
-use Rattle.fc_credit.specs.Credits.{pick, first_of}
-use Rattle.fc_credit.specs.Account.{Accounts, Direction, Event, Consume, Receive, Free, Tell, Learn, Lose, new_direction, first_numbers, numbers_in}
-use Rattle.vc_queue.specs.Queue.{Item, is_takeable}
-use Rattle.lane_ends.specs.declared.packet.Fate.{Fate}
-use Rattle.lane_ends.specs.declared.packet.Fate.TheVariants.{Good, Failed, Lost}
-use Rattle.lane_ends.specs.declared.packet.DllpKind.{DllpKind}
-use Rattle.lane_ends.specs.declared.packet.DllpKind.TheVariants as kinds
-use Rattle.lane_ends.specs.Steps.{LaneEndsView, new_lane, may_enter}
+use Rattle.flow_control.specs.declared.needs.Need.{Need}
+use Rattle.flow_control.specs.declared.limits.LaneCredits.{LaneCredits}
+use Rattle.flow_control.specs.Needs.{need_of}
+use Rattle.flow_control.specs.Credits.{pick, first_of}
+use Rattle.flow_control.specs.Account.{Accounts, Direction, Event, Consume, Receive, Free, Tell, Learn, Lose, new_direction, first_numbers, numbers_in}
+use Rattle.flow_control.specs.Queue.{Item, is_takeable}
+use Rattle.lane_core.specs.declared.packet.Fate.{Fate}
+use Rattle.lane_core.specs.declared.packet.Fate.TheVariants.{Good, Failed, Lost}
+use Rattle.lane_core.specs.declared.packet.DllpKind.{DllpKind}
+use Rattle.lane_core.specs.declared.packet.DllpKind.TheVariants as kinds
+use Rattle.lane_core.specs.Steps.{LaneEndsView, new_lane, may_enter}
 use Rattle.lane_core.specs.Calls.{Call, Enter, Deliver, SendDllp, DeliverDllp, Take, after_call, on_the_way, accepted_by}
 
 abbrev pub needs_of : List Item → List Need

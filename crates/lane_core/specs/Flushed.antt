@@ -2,10 +2,10 @@
 use Rattle.std.specs.Prelude.{◌≡◌, ℕ, zero, suc, ◌+◌, ◌<◌, ◌≤◌, List, [], ◌∷◌, length}
 use Rattle.dllp_core.specs.declared.packet.Class.{Class}
 use Rattle.dllp_core.specs.declared.packet.Class.TheVariants.{Posted, NonPosted, Completion}
-use Rattle.fc_credit.specs.Credits.{allowance, grant, allocated}
-use Rattle.lane_ends.specs.declared.packet.Fate.TheVariants.{Good}
-use Rattle.lane_ends.specs.declared.packet.DllpKind.TheVariants as kinds
-use Rattle.lane_ends.specs.Steps.{LaneEndsView}
+use Rattle.flow_control.specs.Credits.{allowance, grant, allocated}
+use Rattle.lane_core.specs.declared.packet.Fate.TheVariants.{Good}
+use Rattle.lane_core.specs.declared.packet.DllpKind.TheVariants as kinds
+use Rattle.lane_core.specs.Steps.{LaneEndsView}
 use Rattle.lane_core.specs.Calls.{Call, Transmit, Deliver, SendDllp, DeliverDllp, Timer, Retrained, after_call, after_calls}
 
 -- nothing is on the wires, nothing is unacknowledged, and the sender knows all credit that the receiver gave

@@ -1,8 +1,8 @@
 -- True numbers: packets counted from 0 in the order in which they were entered. They never wrap, and no part stores
 -- them.
 use Rattle.std.specs.Prelude.{ℕ, ◌+◌, ◌-◌, List, [], ◌∷◌, length}
-use Rattle.fc_credit.specs.declared.limits.LaneCredits.{LaneCredits}
-use Rattle.lane_ends.specs.Steps.{new_lane}
+use Rattle.flow_control.specs.declared.limits.LaneCredits.{LaneCredits}
+use Rattle.lane_core.specs.Steps.{new_lane}
 use Rattle.lane_core.specs.Calls.{Call, Deliver, after_calls, entered_in, accepted_in}
 
 -- the true number of the packet that is entered next

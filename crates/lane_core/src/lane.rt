@@ -2,11 +2,10 @@
 ghost use Rattle.std.specs.Prelude.{◌≡◌, ◌+◌, ◌<◌, ◌≤◌, ◌↔◌, ◌⊎◌, List, [], ◌∷◌, ◌++◌, length, true, false, remove, slice_get, Some, IsTrue, IsOk, IsSome, IsNone, IfSome, OnOk, OnErr, IfOk, IfErr};
 
 use crate::laws::{quiet_is_nothing_left, room_is_known_less_used};
+use crate::{Arrival, DllpKind, DllpSeen, Fate, LaneEnds, LaneRefusal};
 use dllp_core::Dllp;
-use fc_credit::{LaneCredits, Need, limits_let_each_packet_go};
-use lane_ends::{Arrival, DllpKind, DllpSeen, Fate, LaneEnds, LaneRefusal};
-use link_receiver::Reception;
-use replay_sender::AckFault;
+use flow_control::{LaneCredits, Need, limits_let_each_packet_go};
+use link_replay::{AckFault, Reception};
 use seq12::Seq12;
 use std::alloc::Global;
 use std::marker::Model;
@@ -20,7 +19,7 @@ pub struct Lane {
 }
 
 impl Model for Lane {
-    ghost use Rattle.lane_ends.specs.Steps.{LaneEndsView};
+    ghost use Rattle.lane_core.specs.Steps.{LaneEndsView};
     ghost use Rattle.lane_core.specs.Calls.{IsRight};
 
     ghost Value = { LaneEndsView };
@@ -33,15 +32,15 @@ impl Model for Lane {
 impl Lane {
     ghost use Rattle.dllp_core.specs.Layout.{FitsDataFC};
     ghost use Rattle.dllp_core.specs.declared.packet.Dllp.{Dllp};
-    ghost use Rattle.replay_sender.specs.SenderView.{next_number};
+    ghost use Rattle.link_replay.specs.SenderView.{next_number};
     ghost use Rattle.tlp_core.specs.Layout.{Spells, canonical};
-    ghost use Rattle.fc_credit.specs.Limits.{IsInLimits};
-    ghost use Rattle.fc_credit.specs.Needs.{need_of as need};
-    ghost use Rattle.fc_credit.specs.Credits.{gate_covers};
-    ghost use Rattle.vc_queue.specs.Queue.{is_takeable};
-    ghost use Rattle.lane_ends.specs.Refusals.{LacksRoom};
-    ghost use Rattle.lane_ends.specs.Steps.{new_lane, may_enter, transmitted, delivered, dllp_of, dllp_seen};
-    ghost use Rattle.fc_credit.specs.declared.limits.LaneCredits.{LaneCredits};
+    ghost use Rattle.flow_control.specs.Limits.{IsInLimits};
+    ghost use Rattle.flow_control.specs.Needs.{need_of as need};
+    ghost use Rattle.flow_control.specs.Credits.{gate_covers};
+    ghost use Rattle.flow_control.specs.Queue.{is_takeable};
+    ghost use Rattle.lane_core.specs.Refusals.{LacksRoom};
+    ghost use Rattle.lane_core.specs.Steps.{new_lane, may_enter, transmitted, delivered, dllp_of, dllp_seen};
+    ghost use Rattle.flow_control.specs.declared.limits.LaneCredits.{LaneCredits};
     ghost use Rattle.lane_core.specs.Calls.{Call, MakeRoom, Enter, Transmit, Deliver, SendDllp, DeliverDllp, Timer, Retrained, Take, AreCalls, after_calls, after_call, content, AcceptsFirst, IsRight};
     ghost use Rattle.lane_core.specs.Credit.{numbers_of, HasRoom};
 

@@ -3,24 +3,24 @@ ghost use Rattle.std.specs.Prelude.{◌≡◌, ◌↔◌, ℕ, ◌+◌, ◌/◌,
 ghost use Rattle.dllp_core.specs.declared.packet.Class.{Class};
 ghost use Rattle.tlp_core.specs.TlpView.{TlpView, IsPacket};
 ghost use Rattle.tlp_core.specs.Layout.{Spells, canonical};
-ghost use Rattle.link_receiver.specs.declared.receiver.Reception.TheVariants.{Accept};
-ghost use Rattle.fc_credit.specs.declared.needs.Need.{Need};
-ghost use Rattle.fc_credit.specs.declared.limits.LaneCredits.{LaneCredits};
-ghost use Rattle.fc_credit.specs.Limits.{IsInLimits};
-ghost use Rattle.fc_credit.specs.Needs.{need_of};
-ghost use Rattle.fc_credit.specs.Credits.{most, allowance, grant, first_of, gate_covers};
-ghost use Rattle.fc_credit.specs.Account.{demand, IsRight as IsBalanced};
-ghost use Rattle.lane_ends.specs.declared.packet.Fate.{Fate};
-ghost use Rattle.lane_ends.specs.declared.packet.WirePacket.{WirePacket};
-ghost use Rattle.lane_ends.specs.declared.packet.Arrival.TheVariants.{Answered};
-ghost use Rattle.lane_ends.specs.Content.{cargo_of, item_spelled, IsSpelled, wire_bytes};
-ghost use Rattle.lane_ends.specs.Steps.{LaneEndsView, new_lane, may_enter, transmitted, delivered, dllp_seen, IsStill};
+ghost use Rattle.link_replay.specs.declared.receiver.Reception.TheVariants.{Accept};
+ghost use Rattle.flow_control.specs.declared.needs.Need.{Need};
+ghost use Rattle.flow_control.specs.declared.limits.LaneCredits.{LaneCredits};
+ghost use Rattle.flow_control.specs.Limits.{IsInLimits};
+ghost use Rattle.flow_control.specs.Needs.{need_of};
+ghost use Rattle.flow_control.specs.Credits.{most, allowance, grant, first_of, gate_covers};
+ghost use Rattle.flow_control.specs.Account.{demand, IsRight as IsBalanced};
+ghost use Rattle.lane_core.specs.declared.packet.Fate.{Fate};
+ghost use Rattle.lane_core.specs.declared.packet.WirePacket.{WirePacket};
+ghost use Rattle.lane_core.specs.declared.packet.Arrival.TheVariants.{Answered};
+ghost use Rattle.lane_core.specs.Content.{cargo_of, item_spelled, IsSpelled, wire_bytes};
+ghost use Rattle.lane_core.specs.Steps.{LaneEndsView, new_lane, may_enter, transmitted, delivered, dllp_seen, IsStill};
 ghost use Rattle.lane_core.specs.Calls.{Call, Transmit, Deliver, DeliverDllp, Timer, Retrained, IsCall, AreCalls, after_call, entered_by, accepted_by, after_calls, entered_in, accepted_in, taken_in, IsPrefixOf, on_the_way, content, content_after, IsRightWith, IsRight, AcceptsFirst};
 ghost use Rattle.lane_core.specs.Windows.{next_entered, oldest_unacknowledged, next_accepted, deliveries};
 ghost use Rattle.lane_core.specs.Credit.{needs_of, numbers_of, HasRoom};
 ghost use Rattle.lane_core.specs.Flushed.{IsFlushed, IsEnough, turned};
 
-use fc_credit::{
+use flow_control::{
     an_account_is_right, counters_stand_for_whole_numbers, each_event_keeps_the_account,
     limits_let_each_packet_go,
 };

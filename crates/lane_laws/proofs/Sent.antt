@@ -4,16 +4,16 @@ use Rattle.std.specs.Prelude.{if◌then◌else◌}
 use Rattle.std.proofs.lemmas.List.Elements.{All-nil, All-push, All-tail}
 use Rattle.dllp_core.specs.declared.packet.Dllp.{Dllp}
 use Rattle.dllp_core.specs.Layout.{FitsFields}
-use Rattle.link_receiver.specs.declared.receiver.NakScheduled.{NakScheduled}
-use Rattle.link_receiver.specs.declared.receiver.NakScheduled.TheVariants as naks
-use Rattle.link_receiver.specs.ReceiverView.{dllp_by}
+use Rattle.link_replay.specs.declared.receiver.NakScheduled.{NakScheduled}
+use Rattle.link_replay.specs.declared.receiver.NakScheduled.TheVariants as naks
+use Rattle.link_replay.specs.ReceiverView.{dllp_by}
 use Rattle.seq12.specs.Numbers.{previous_of}
-use Rattle.fc_credit.specs.Credits.{ledger_of}
-use Rattle.fc_credit.specs.Needs.{need_of}
-use Rattle.vc_queue.specs.Queue.{is_takeable}
-use Rattle.lane_ends.specs.declared.packet.DllpKind.{DllpKind}
-use Rattle.lane_ends.specs.declared.packet.DllpKind.TheVariants as kinds
-use Rattle.lane_ends.specs.Steps.{LaneEndsView, ReceiverEndView, all_but_first, dllp_of, may_enter, new_lane}
+use Rattle.flow_control.specs.Credits.{ledger_of}
+use Rattle.flow_control.specs.Needs.{need_of}
+use Rattle.flow_control.specs.Queue.{is_takeable}
+use Rattle.lane_core.specs.declared.packet.DllpKind.{DllpKind}
+use Rattle.lane_core.specs.declared.packet.DllpKind.TheVariants as kinds
+use Rattle.lane_core.specs.Steps.{LaneEndsView, ReceiverEndView, all_but_first, dllp_of, may_enter, new_lane}
 use Rattle.lane_core.specs.Calls.{Call, MakeRoom, Release, Enter, Transmit, Deliver, SendDllp, DeliverDllp, Timer, Retrained, Take, after_call, after_calls, IsRight}
 
 -- ---- one DLLP

@@ -5,7 +5,7 @@ ghost use Rattle.std.specs.Prelude.{◌≡◌, All, Ok};
 ghost use Rattle.dllp_core.specs.Faults.{reading};
 ghost use Rattle.dllp_core.specs.Layout.{FitsFields, Spells, canonical};
 ghost use Rattle.lane_core.specs.Calls.{IsRight};
-ghost use Rattle.lane_ends.specs.Steps.{LaneEndsView};
+ghost use Rattle.lane_core.specs.Steps.{LaneEndsView};
 
 use dllp_core::canonical_is_read_back;
 

@@ -2,7 +2,7 @@
 //! on the exact calls would be dear.
 use dllp_core::Dllp;
 use lane_core::{Arrival, DllpKind, DllpSeen, Fate, Lane, LaneCredits, LaneRefusal};
-use link_receiver::Reception;
+use link_replay::Reception;
 use std::alloc::Global;
 use tlp_core::{Tlp, TlpFault};
 

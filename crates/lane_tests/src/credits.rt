@@ -2,7 +2,7 @@
 use crate::calls::{delivers, enter, long_write, one_write, send, sent, take_mark, took, transmit};
 use dllp_core::Class;
 use lane_core::{DllpKind, Fate, Lane, LaneRefusal};
-use link_receiver::Reception;
+use link_replay::Reception;
 use std::alloc::Global;
 use tlp_core::Tlp;
 

@@ -4,9 +4,9 @@ use crate::calls::{
     deliver, delivers, enter, infinite, quiet, send, take_mark, took, transmit, write_of,
 };
 use dllp_core::Class;
-use fc_credit::need_of;
+use flow_control::need_of;
 use lane_core::{DllpKind, Fate, Lane, LaneEnds, LaneRefusal};
-use link_receiver::Reception;
+use link_replay::Reception;
 use seq12::Seq12;
 use std::alloc::Global;
 use std::mem;

@@ -3,8 +3,7 @@ use crate::calls::{ONE_WRITE, deliver, enter, one_write, transmit};
 use dllp_core::Class;
 use lane_core::{Fate, Lane, LaneRefusal, ReceiverEnd, SenderEnd};
 use std::alloc::Global;
-use switch_core::{ForwardRefusal, forward, forward_ends};
-use switch_ports::{Port, RouteFault, route};
+use switch_core::{ForwardRefusal, Port, RouteFault, forward, forward_ends, route};
 use tlp_core::{Tlp, TlpFault, decode};
 
 const WRITE: [u8; 16] = [0x40, 0, 0, 1, 3, 0, 0, 15, 0, 0, 0, 0x40, 1, 2, 3, 4];

@@ -4,7 +4,7 @@ use crate::calls::{
     transmit, usual, write_of,
 };
 use lane_core::{DllpKind, Fate, Lane, LaneRefusal};
-use link_receiver::Reception;
+use link_replay::Reception;
 use std::alloc::Global;
 use tlp_core::{Tlp, TlpFault};
 

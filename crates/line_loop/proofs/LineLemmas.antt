@@ -7,8 +7,8 @@ use Rattle.std.proofs.lemmas.Bool.Decides.{nat_tests}
 use Rattle.std.proofs.lemmas.List.{append-nil, take-append-le, take_all, length-take-le}
 use Rattle.std.proofs.lemmas.List.Sums.{fold-append}
 use Rattle.std.proofs.lemmas.List.Elements.{filter-append, All-nil, All-append}
-use Rattle.text_lines.specs.LineFacts.{NoFeed, no_feed, lines_of-feed, lines_of-last, ends-feed, bare-feed, ends-last}
-use Rattle.text_lines.specs.Lines.{lines_of, ended_lines}
+use Rattle.hex_text.specs.LineFacts.{NoFeed, no_feed, lines_of-feed, lines_of-last, ends-feed, bare-feed, ends-last}
+use Rattle.hex_text.specs.Lines.{lines_of, ended_lines}
 use Rattle.line_loop.specs.Run.{Responses, Run, Answer, answer_to, after_line, after_end, with_answer, new_run, run_of, IsBeginning}
 use Rattle.line_loop.specs.Engine.{Stands, Begins, IsAnswered, run_at, on_ended_line, on_last_line}
 

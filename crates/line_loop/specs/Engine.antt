@@ -1,7 +1,7 @@
 -- How an engine stands in the middle of its input.
 use Rattle.std.specs.Prelude.{◌≡◌, ◌≢◌, ℕ, List, ◌++◌, take, fold, filter, All, nat_lt, length, if◌then◌else◌}
 use Rattle.std.specs.Io.BufRead.{strip_last, ends_with_byte}
-use Rattle.text_lines.specs.Lines.{lines_of}
+use Rattle.hex_text.specs.Lines.{lines_of}
 use Rattle.line_loop.specs.Run.{Responses, Answer, Run, after_line, new_run, run_of, IsBeginning}
 
 -- the run of which all this was written, or waits to be

@@ -1,7 +1,7 @@
 -- What a subcommand makes of its input, line by line.
 use Rattle.std.specs.Prelude.{◌≡◌, ◌⊎◌, ℕ, List, [], ◌++◌, Bool, true, false, nat_lt, if◌then◌else◌, length, fold, Option, IfSome}
 use Rattle.std.specs.Io.KnownBytes.{Appends, Consumes, IsAtEnd}
-use Rattle.text_lines.specs.Lines.{lines_of, ended_lines, bare, said}
+use Rattle.hex_text.specs.Lines.{lines_of, ended_lines, bare, said}
 use Rattle.line_loop.specs.declared.verdict.Verdict.{Verdict}
 use Rattle.line_loop.specs.declared.verdict.Verdict.TheVariants as verdicts
 

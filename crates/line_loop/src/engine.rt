@@ -10,10 +10,10 @@ use crate::output::write_out;
 use crate::responder::Responder;
 use crate::verdict::Verdict;
 use arrayvec::ArrayVec;
+use hex_text::{MAX_LINE, is_too_long, without_return};
 use memchr::memchr;
 use std::alloc::{AllocError, Global};
 use std::io::{Read, Write};
-use text_lines::{MAX_LINE, is_too_long, without_return};
 
 /// What is kept of an unfinished line: one byte more than a line may have.
 const KEPT: usize = MAX_LINE + 1;

@@ -2,7 +2,7 @@
 use Rattle.std.proofs.Common.{◌≡◌, ℕ, Bool, List, [], ◌∷◌, ◌++◌, Option, ap, ap₂, ◌∙◌}
 use Rattle.std.specs.Prelude.{if◌then◌else◌}
 use Rattle.tlp_core.specs.TlpView.{TlpView}
-use Rattle.fc_credit.specs.declared.needs.Need.{Need}
+use Rattle.flow_control.specs.declared.needs.Need.{Need}
 use Rattle.port_core.specs.Incoming.{tlp_in}
 use Rattle.port_core.specs.Port as port
 use Rattle.port_core.specs.Port.{PortView}

@@ -17,14 +17,14 @@ use Rattle.seq_memory.specs.Entries.{Reply}
 use Rattle.seq_memory.specs.Step.{is_in_block, is_inside, refusal, read_back, bytes_at, data_of, answer_by, answer}
 use Rattle.completer_core.specs.Completion.{completion_for, unless_posted}
 use Rattle.completer_core.proofs.Shapes.{served_bytes}
-use Rattle.fc_credit.specs.declared.limits.LaneCredits.{LaneCredits}
-use Rattle.fc_credit.specs.declared.needs.Need.{Need}
-use Rattle.fc_credit.specs.Limits.{least_units}
-use Rattle.fc_credit.specs.Needs.{need_of, units_of}
-use Rattle.endpoint_packets.specs.DescriptorView.{DescriptorView}
-use Rattle.endpoint_packets.specs.Classes.{descriptor_for}
-use Rattle.config_space.specs.SetupView.{SetupView}
-use Rattle.config_space.specs.Registers.{value}
+use Rattle.flow_control.specs.declared.limits.LaneCredits.{LaneCredits}
+use Rattle.flow_control.specs.declared.needs.Need.{Need}
+use Rattle.flow_control.specs.Limits.{least_units}
+use Rattle.flow_control.specs.Needs.{need_of, units_of}
+use Rattle.endpoint_core.specs.DescriptorView.{DescriptorView}
+use Rattle.endpoint_core.specs.Classes.{descriptor_for}
+use Rattle.config_core.specs.SetupView.{SetupView}
+use Rattle.config_core.specs.Registers.{value}
 use Rattle.port_core.specs.declared.fault.EnterRefusal.{EnterRefusal}
 use Rattle.port_core.specs.declared.incoming.Received.{Received}
 use Rattle.port_core.specs.declared.incoming.Received.TheVariants as arrivals

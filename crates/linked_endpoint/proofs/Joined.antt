@@ -6,11 +6,11 @@ use Rattle.std.proofs.lemmas.List.Sums.{fold-append}
 use Rattle.std.proofs.lemmas.List.Elements.{filter_map-append}
 use Rattle.std.proofs.lemmas.Grind.{flat_map-append}
 use Rattle.tlp_core.specs.TlpView.{TlpView}
-use Rattle.fc_credit.specs.declared.needs.Need.{Need}
-use Rattle.fc_credit.specs.declared.limits.LaneCredits.{LaneCredits}
-use Rattle.fc_credit.specs.Needs.{need_of}
-use Rattle.replay_sender.specs.CargoView.{CargoView}
-use Rattle.lane_ends.specs.Content.{cargo_of}
+use Rattle.flow_control.specs.declared.needs.Need.{Need}
+use Rattle.flow_control.specs.declared.limits.LaneCredits.{LaneCredits}
+use Rattle.flow_control.specs.Needs.{need_of}
+use Rattle.link_replay.specs.CargoView.{CargoView}
+use Rattle.lane_core.specs.Content.{cargo_of}
 use Rattle.port_core.specs.declared.fault.EnterRefusal.{EnterRefusal}
 use Rattle.port_core.specs.declared.incoming.Received.{Received}
 use Rattle.port_core.specs.declared.incoming.Received.TheVariants as arrivals
@@ -19,7 +19,7 @@ use Rattle.port_core.specs.Port as port
 use Rattle.port_core.specs.Port.{PortView}
 use Rattle.port_core.specs.Runs as ports
 use Rattle.port_core.specs.Runs.{AreBytes, Story, story_of, story_in}
-use Rattle.config_space.specs.SetupView.{SetupView}
+use Rattle.config_core.specs.SetupView.{SetupView}
 use Rattle.endpoint_core.specs.EndpointView.{EndpointView}
 use Rattle.endpoint_core.specs.Steps as device
 use Rattle.endpoint_core.specs.Runs as devices

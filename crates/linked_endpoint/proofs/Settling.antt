@@ -12,8 +12,8 @@ use Rattle.tlp_core.specs.declared.packet.Body.TheVariants as bodies
 use Rattle.tlp_core.specs.TlpView.{TlpView}
 use Rattle.tlp_core.specs.Operation.{op_at}
 use Rattle.op_pieces.specs.Pieces.{dw_to}
-use Rattle.fc_credit.specs.declared.needs.Need.{Need}
-use Rattle.lane_ends.specs.Steps.{SenderEndView}
+use Rattle.flow_control.specs.declared.needs.Need.{Need}
+use Rattle.lane_core.specs.Steps.{SenderEndView}
 use Rattle.port_core.specs.declared.init.LinkState.{LinkState}
 use Rattle.port_core.specs.declared.init.LinkState.TheVariants as states
 use Rattle.port_core.specs.declared.fault.EnterRefusal.{EnterRefusal}

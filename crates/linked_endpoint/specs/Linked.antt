@@ -1,16 +1,16 @@
 -- What each call does to a device and its end of a link.
 use Rattle.std.specs.Prelude.{ℕ, suc, ◌≡◌, ◌⊎◌, ◌&&◌, Bool, true, false, nat_lt, if◌then◌else◌, List, [], ◌∷◌, ◌++◌, length, drop, sum_by, Option, Some, None, is_some, is_none}
 use Rattle.tlp_core.specs.TlpView.{TlpView}
-use Rattle.fc_credit.specs.declared.needs.Need.{Need}
-use Rattle.fc_credit.specs.declared.limits.LaneCredits.{LaneCredits}
-use Rattle.fc_credit.specs.Needs.{need_of}
+use Rattle.flow_control.specs.declared.needs.Need.{Need}
+use Rattle.flow_control.specs.declared.limits.LaneCredits.{LaneCredits}
+use Rattle.flow_control.specs.Needs.{need_of}
 use Rattle.port_core.specs.declared.fault.EnterRefusal.{EnterRefusal}
 use Rattle.port_core.specs.declared.incoming.Received.{Received}
 use Rattle.port_core.specs.declared.incoming.Received.TheVariants as arrivals
 use Rattle.port_core.specs.Incoming.{tlp_in}
 use Rattle.port_core.specs.Port as port
 use Rattle.port_core.specs.Port.{PortView}
-use Rattle.config_space.specs.SetupView.{SetupView}
+use Rattle.config_core.specs.SetupView.{SetupView}
 use Rattle.endpoint_core.specs.declared.endpoint.Handled.{Handled}
 use Rattle.endpoint_core.specs.declared.endpoint.Handled.TheVariants as handles
 use Rattle.endpoint_core.specs.declared.waiting.Waiting.{Waiting}

@@ -1,7 +1,7 @@
 -- A device and its end of a link, as contracts see them.
 use Rattle.std.specs.Prelude.{List, Option}
 use Rattle.tlp_core.specs.TlpView.{TlpView}
-use Rattle.fc_credit.specs.declared.needs.Need.{Need}
+use Rattle.flow_control.specs.declared.needs.Need.{Need}
 use Rattle.port_core.specs.Port.{PortView}
 use Rattle.endpoint_core.specs.EndpointView.{EndpointView}
 

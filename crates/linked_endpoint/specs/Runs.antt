@@ -1,10 +1,10 @@
 -- Lists of calls of a device behind its end of a link, and what they did since the link came up last.
 use Rattle.std.specs.Prelude.{◌≡◌, ℕ, ◌&&◌, Bool, if◌then◌else◌, List, [], ◌∷◌, ◌++◌, map, filter_map, flat_map, length, Option, Some, None}
 use Rattle.tlp_core.specs.TlpView.{TlpView}
-use Rattle.fc_credit.specs.declared.needs.Need.{Need}
-use Rattle.fc_credit.specs.declared.limits.LaneCredits.{LaneCredits}
-use Rattle.replay_sender.specs.CargoView.{CargoView}
-use Rattle.lane_ends.specs.Content.{cargo_of}
+use Rattle.flow_control.specs.declared.needs.Need.{Need}
+use Rattle.flow_control.specs.declared.limits.LaneCredits.{LaneCredits}
+use Rattle.link_replay.specs.CargoView.{CargoView}
+use Rattle.lane_core.specs.Content.{cargo_of}
 use Rattle.port_core.specs.declared.fault.EnterRefusal.{EnterRefusal}
 use Rattle.port_core.specs.declared.incoming.Received.{Received}
 use Rattle.port_core.specs.declared.incoming.Received.TheVariants as arrivals
@@ -12,7 +12,7 @@ use Rattle.port_core.specs.Incoming.{number_in, tlp_in}
 use Rattle.port_core.specs.Port as port
 use Rattle.port_core.specs.Runs as ports
 use Rattle.port_core.specs.Runs.{AreBytes, Story, story_in}
-use Rattle.config_space.specs.SetupView.{SetupView}
+use Rattle.config_core.specs.SetupView.{SetupView}
 use Rattle.endpoint_core.specs.EndpointView.{EndpointView}
 use Rattle.endpoint_core.specs.Steps as device
 use Rattle.endpoint_core.specs.Runs as devices

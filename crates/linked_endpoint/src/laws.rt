@@ -1,12 +1,12 @@
 //! What holds of a device behind its end of a link whatever calls are made, whatever its peer and the wires do.
 ghost use Rattle.std.specs.Prelude.{◌≡◌, ◌++◌, ◌∷◌, [], true, ℕ, List, length, map};
 ghost use Rattle.dllp_core.specs.declared.packet.Class.{Class};
-ghost use Rattle.fc_credit.specs.declared.limits.LaneCredits.{LaneCredits};
-ghost use Rattle.link_receiver.specs.Runs.{AreConsecutive};
+ghost use Rattle.flow_control.specs.declared.limits.LaneCredits.{LaneCredits};
+ghost use Rattle.link_replay.specs.ReceiverRuns.{AreConsecutive};
 ghost use Rattle.port_core.specs.Port.{outgoing_of, outgoing_bytes};
 ghost use Rattle.port_core.specs.Init.{is_up, fi1};
 ghost use Rattle.port_core.specs.Runs.{IsEntered, CoversHeaders, CoversUnits, advertised_in};
-ghost use Rattle.config_space.specs.SetupView.{SetupView};
+ghost use Rattle.config_core.specs.SetupView.{SetupView};
 ghost use Rattle.endpoint_core.specs.Runs as devices;
 ghost use Rattle.linked_endpoint.specs.Runs.{Call, AreCalls, run_in, story, somes, list_of, tlps_within, taken_in, cargos_of};
 

@@ -1,7 +1,7 @@
 //! A device and its port.
 ghost use Rattle.std.specs.Prelude.{◌≡◌, ◌<◌, ◌++◌, ◌∷◌, [], if◌then◌else◌, true, false, is_some, None, IfOk, IfErr, OnOk, OnErr};
 ghost use Rattle.std.specs.VecDeque.{deque_len, deque_capacity};
-ghost use Rattle.fc_credit.specs.Limits.{IsInLimits};
+ghost use Rattle.flow_control.specs.Limits.{IsInLimits};
 ghost use Rattle.port_core.specs.Outgoing.{Refuses};
 ghost use Rattle.port_core.specs.Port as link;
 ghost use Rattle.port_core.specs.Incoming as packets;
@@ -10,9 +10,9 @@ ghost use Rattle.linked_endpoint.specs.Linked as spec;
 ghost use Rattle.linked_endpoint.specs.Runs.{GoesOn};
 
 use arrayvec::ArrayVec;
-use config_space::Setup;
+use config_core::Setup;
 use endpoint_core::{Endpoint, Handled, Room};
-use fc_credit::{LaneCredits, Need};
+use flow_control::{LaneCredits, Need};
 use port_core::{
     DllpReceived, DllpRefusal, EnterRefusal, LinkPort, Outgoing, PACKET_BYTES, Received,
 };

@@ -1,6 +1,6 @@
 -- What is recorded of a packet whose TLP goes to the device.
 use Rattle.std.proofs.Common.{◌≡◌, ◌∙◌, ℕ, List, Bool, true, cond, sym, ap, ap₂}
-use Rattle.endpoint_packets.specs.Classes.{becomes}
+use Rattle.endpoint_core.specs.Classes.{becomes}
 use Rattle.port_core.specs.Incoming.{tlp_in}
 use Rattle.port_core.specs.Port.{received}
 use Rattle.endpoint_core.specs.EndpointView.{EndpointView}

@@ -6,7 +6,7 @@ use Rattle.hex.specs.declared.error.FromHexError.{FromHexError}
 use Rattle.hex.proofs.HexLemmas.{decode_of-ok}
 use Rattle.tlp_core.specs.Bits.{IsBytes}
 use Rattle.tlp_core.specs.TlpView.{TlpView}
-use Rattle.fc_credit.specs.declared.limits.LaneCredits.{LaneCredits}
+use Rattle.flow_control.specs.declared.limits.LaneCredits.{LaneCredits}
 use Rattle.link_crc.specs.Checks.{lcrc_check_of}
 use Rattle.link_crc.specs.declared.check.LcrcCheck.{LcrcCheck}
 use Rattle.link_crc.specs.declared.check.LcrcCheck.TheVariants as checks
@@ -16,8 +16,8 @@ use Rattle.port_core.specs.declared.incoming.Received.TheVariants as arrivals
 use Rattle.port_core.specs.Incoming.{tlp_in}
 use Rattle.port_core.specs.Port.{PortView}
 use Rattle.port_core.specs.Port as port
-use Rattle.config_space.specs.SetupView.{SetupView}
-use Rattle.endpoint_packets.specs.Classes.{becomes}
+use Rattle.config_core.specs.SetupView.{SetupView}
+use Rattle.endpoint_core.specs.Classes.{becomes}
 use Rattle.endpoint_core.specs.EndpointView.{EndpointView}
 use Rattle.endpoint_core.specs.Steps as device
 use Rattle.endpoint_core.specs.Runs as devices
@@ -28,7 +28,7 @@ use Rattle.linked_endpoint.specs.LinkedView.{LinkedView}
 use Rattle.linked_endpoint.specs.Linked.{is_taken, after_arrival, may_act, turns_left, is_last, given_back, entered_with, refusal_of}
 use Rattle.linked_endpoint.specs.Runs.{Up, Down, ReceiveDllp, entered_unless}
 use Rattle.hex_text.specs.Line.{digits_of}
-use Rattle.text_lines.specs.Lines.{lines_of, bare, said, is_skipped}
+use Rattle.hex_text.specs.Lines.{lines_of, bare, said, is_skipped}
 use Rattle.line_loop.specs.Run.{Answer, Run, after_line, answer_to, new_run}
 use Rattle.trace_text.specs.Texts.{trace_text}
 use Rattle.endpoint_engine.specs.Recorded.{IsRecorded}

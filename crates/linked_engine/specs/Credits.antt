@@ -1,6 +1,6 @@
 -- The credits that a device advertises to the peer on its link.
 use Rattle.std.specs.Prelude.{ℕ, ◌&&◌, Bool, nat_le}
-use Rattle.fc_credit.specs.declared.limits.LaneCredits.{LaneCredits}
+use Rattle.flow_control.specs.declared.limits.LaneCredits.{LaneCredits}
 
 -- completions are infinite
 abbrev pub advertised : ℕ → ℕ → ℕ → ℕ → LaneCredits

@@ -2,12 +2,12 @@
 use Rattle.std.specs.Prelude.{ℕ, zero, suc, Bool, true, false, if◌then◌else◌, List, [], ◌∷◌, ◌++◌, take, drop, codes, bytes_eq, Option, Some, None, option_map, Result, Ok, Err}
 use Rattle.hex.specs.Hex.{decode_of}
 use Rattle.hex.specs.declared.error.FromHexError.{FromHexError}
-use Rattle.fc_credit.specs.declared.limits.LaneCredits.{LaneCredits}
+use Rattle.flow_control.specs.declared.limits.LaneCredits.{LaneCredits}
 use Rattle.link_crc.specs.Checks.{lcrc_check_of}
 use Rattle.link_crc.specs.declared.check.LcrcCheck.{LcrcCheck}
 use Rattle.link_crc.specs.declared.check.LcrcCheck.TheVariants as checks
-use Rattle.config_space.specs.SetupView.{SetupView}
-use Rattle.endpoint_packets.specs.Classes.{becomes}
+use Rattle.config_core.specs.SetupView.{SetupView}
+use Rattle.endpoint_core.specs.Classes.{becomes}
 use Rattle.port_core.specs.Incoming.{tlp_in}
 use Rattle.port_core.specs.Port as port
 use Rattle.linked_endpoint.specs.LinkedView.{LinkedView}
@@ -16,7 +16,7 @@ use Rattle.linked_endpoint.specs.Runs.{Call, Up, Down, Receive, ReceiveDllp, Ent
 use Rattle.endpoint_log.specs.LogView.{LogView}
 use Rattle.endpoint_log.specs.Steps as log
 use Rattle.hex_text.specs.Line.{digits_of}
-use Rattle.text_lines.specs.Lines.{is_skipped}
+use Rattle.hex_text.specs.Lines.{is_skipped}
 use Rattle.trace_text.specs.Texts.{trace_text}
 use Rattle.line_loop.specs.Run.{Answer, Responses, Run, run_of}
 use Rattle.linked_engine.specs.Crcs.{marked, without_last, is_good_dllp}

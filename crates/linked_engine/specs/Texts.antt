@@ -6,8 +6,8 @@ use Rattle.hex.specs.Hex.{encode_upper}
 use Rattle.hex_text.specs.Line.{spaced}
 use Rattle.operation_text.specs.Texts.{sequence_text}
 use Rattle.link_crc.specs.Crc.{lcrc_of, dllp_crc_of}
-use Rattle.replay_sender.specs.SenderView.{next_number}
-use Rattle.lane_ends.specs.Steps.{SenderEndView}
+use Rattle.link_replay.specs.SenderView.{next_number}
+use Rattle.lane_core.specs.Steps.{SenderEndView}
 use Rattle.port_core.specs.declared.init.LinkState.{LinkState}
 use Rattle.port_core.specs.declared.init.LinkState.TheVariants as states
 use Rattle.port_core.specs.declared.fault.DllpRefusal.{DllpRefusal}

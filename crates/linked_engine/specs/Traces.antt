@@ -1,7 +1,7 @@
 -- A traced device behind its end of a link that was asked lines, and what it prints to the line `trace` then.
 use Rattle.std.specs.Prelude.{ℕ, Bool, true, List, codes}
-use Rattle.fc_credit.specs.declared.limits.LaneCredits.{LaneCredits}
-use Rattle.config_space.specs.SetupView.{SetupView}
+use Rattle.flow_control.specs.declared.limits.LaneCredits.{LaneCredits}
+use Rattle.config_core.specs.SetupView.{SetupView}
 use Rattle.linked_engine.specs.Lines.{LinkLines, answer_line, out_linked}
 
 abbrev pub asked : SetupView → LaneCredits → Bool → List ℕ → LinkLines

@@ -10,11 +10,10 @@ use crate::frames::marked;
 use crate::lines::Lines;
 use crate::options::LinkedOptions;
 use endpoint_engine::no_line;
-use hex_text::HexLine;
+use hex_text::{HexLine, is_skipped};
 use line_loop::Verdict;
 use std::alloc::{AllocError, Global};
 use std::marker::Model;
-use text_lines::is_skipped;
 
 /// A device that is asked line by line, with the bytes of the last packet or DLLP.
 #[derive(Drop)]

@@ -1,9 +1,9 @@
 //! The credits that a device advertises.
 ghost use Rattle.std.specs.Prelude.{◌≡◌, true, IfNone, IfSome, false};
-ghost use Rattle.fc_credit.specs.Limits.{IsInLimits};
+ghost use Rattle.flow_control.specs.Limits.{IsInLimits};
 ghost use Rattle.linked_engine.specs.Credits as spec;
 
-use fc_credit::LaneCredits;
+use flow_control::LaneCredits;
 use std::marker::Model;
 
 /// The credits that a device advertises, in header units and in data units of 16 bytes. They are finite, so what waits is
@@ -14,8 +14,8 @@ pub struct FiniteCredits {
 }
 
 impl Model for FiniteCredits {
-    ghost use Rattle.fc_credit.specs.declared.limits.LaneCredits.{LaneCredits};
-    ghost use Rattle.fc_credit.specs.Limits.{IsInLimits};
+    ghost use Rattle.flow_control.specs.declared.limits.LaneCredits.{LaneCredits};
+    ghost use Rattle.flow_control.specs.Limits.{IsInLimits};
 
     ghost Value = { LaneCredits };
 

@@ -1,9 +1,9 @@
 //! What holds of the traces that `trace` prints.
 ghost use Rattle.std.specs.Prelude.{◌≡◌, ℕ, Bool, List, Some, IsSome, true, false, codes};
-ghost use Rattle.fc_credit.specs.declared.limits.LaneCredits.{LaneCredits};
+ghost use Rattle.flow_control.specs.declared.limits.LaneCredits.{LaneCredits};
 ghost use Rattle.history_words.specs.Clocks.{IsClocked};
 ghost use Rattle.history_words.specs.Trace.{Explains};
-ghost use Rattle.config_space.specs.SetupView.{SetupView, is_size};
+ghost use Rattle.config_core.specs.SetupView.{SetupView, is_size};
 ghost use Rattle.endpoint_log.specs.LogView.{LogView};
 ghost use Rattle.trace_text.specs.Tellable.{IsTellable};
 ghost use Rattle.trace_text.specs.Texts.{trace_text};

@@ -38,7 +38,7 @@ pub(crate) struct Lines {
 #[derive(Drop)]
 struct Rooms {
     device: Room,
-    packet: endpoint_packets::Room,
+    packet: endpoint_core::PacketRoom,
     sent: ArrayVec<u8, PACKET_BYTES>,
     text: HexText,
 }
@@ -81,7 +81,7 @@ impl Lines {
             has_crc: options.has_crc,
             rooms: Rooms {
                 device: Room::new(),
-                packet: endpoint_packets::Room::new(),
+                packet: endpoint_core::PacketRoom::new(),
                 sent: ArrayVec::new(),
                 text: HexText::new(),
             },

@@ -12,7 +12,7 @@ fn record_taken(
     linked: &LinkedEndpoint,
     packet: &[u8],
     good: bool,
-    room: &mut endpoint_packets::Room,
+    room: &mut endpoint_core::PacketRoom,
 ) -> Result<(), AllocError>
     ensures { OnOk result (log.new ≡ spec.coming linked.now packet.now good log.old) }
 {
@@ -28,7 +28,7 @@ pub(crate) fn record_coming(
     linked: &LinkedEndpoint,
     packet: &[u8],
     good: bool,
-    room: &mut endpoint_packets::Room,
+    room: &mut endpoint_core::PacketRoom,
 ) -> Result<(), AllocError>
     ensures { OnOk result (log.new ≡ option_map (spec.coming linked.now packet.now good) log.old) }
 {

@@ -1,4 +1,5 @@
-pub mod Heading
 pub mod CountLemmas
-pub mod JoinLemmas
 pub mod EventLemmas
+pub mod Heading
+pub mod JoinLemmas
+pub mod Filling

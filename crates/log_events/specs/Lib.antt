@@ -1,3 +1,5 @@
 pub mod Counts
 pub mod Formed
 pub mod Joined
+pub mod Completing
+pub mod Asked

@@ -1,7 +1,7 @@
 -- The first fault of a text is none of memory.
 use Rattle.std.proofs.Common.{◌≡◌, ◌∙◌, ℕ, Bool, true, false, List, [], ◌∷◌, length, ap, refl, fold, Option, Some, None, Result, Ok, Err}
 use Rattle.std.specs.Prelude.{nat_lt, cond, is_some}
-use Rattle.text_lines.specs.Lines.{lines_of, bare, said, is_skipped}
+use Rattle.hex_text.specs.Lines.{lines_of, bare, said, is_skipped}
 use Rattle.history_words.specs.Claim.{Claim}
 use Rattle.history_words.specs.TraceView.{TraceView}
 use Rattle.record_text.specs.declared.fault.ReadFault.{ReadFault}

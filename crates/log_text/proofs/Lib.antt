@@ -1,3 +1,6 @@
-mod FaultLemmas
-mod SeenLemmas
-mod ToldLemmas
+pub mod FaultLemmas
+pub mod SeenLemmas
+pub mod ToldLemmas
+pub mod Replies
+pub mod Spelled
+pub mod Tellings

@@ -2,7 +2,7 @@
 use Rattle.std.proofs.Common.{◌≡◌, ℕ, Bool, true, false, List, [], ◌∷◌, ◌∙◌, length, refl, subst, fold, arith, Option, Some, None, inl, Result, Ok, Err}
 use Rattle.std.specs.Prelude.{All, nat_lt, cond, codes, bytes_eq, is_some}
 use Rattle.std.proofs.lemmas.List.Elements.{All-nil, All-cons, All-head, All-tail, All-append}
-use Rattle.text_lines.specs.Lines.{lines_of, bare, said, is_skipped}
+use Rattle.hex_text.specs.Lines.{lines_of, bare, said, is_skipped}
 use Rattle.seq_memory.specs.Limits.{IsWithinLimits, Extent}
 use Rattle.history_words.specs.Records.{Record}
 use Rattle.history_words.specs.declared.record.RecordOf.TheVariants as records
@@ -28,7 +28,7 @@ use Rattle.log_text.specs.Forms.{line_of, section_after}
 use Rattle.log_text.specs.Told.{IsToldLog}
 use Rattle.log_text.specs.declared.line.Version.{Version}
 use Rattle.log_text.specs.declared.line.Version.TheVariants as versions
-use Rattle.told_laws.specs.Told.{IsToldSub}
+use Rattle.log_text.specs.ToldSubmissions.{IsToldSub}
 use Rattle.log_text.specs.LogReaderView.{LogFormView, no_log, kept, log_grammar, log_read, log_in, log_of, without_history, is_head, or_trace, seen_of}
 
 -- ---- what the fields of a line are

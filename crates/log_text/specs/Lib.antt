@@ -1,3 +1,4 @@
 pub mod Forms
 pub mod LogReaderView
 pub mod Told
+pub mod ToldSubmissions

@@ -1,7 +1,7 @@
 //! Worked requests, served.
 use arrayvec::ArrayVec;
 use completer_core::{need_to_answer, serve};
-use fc_credit::Need;
+use flow_control::Need;
 use seq_memory::{Extent, Memory};
 use std::alloc::{AllocError, Global};
 use tlp_core::{Tlp, decode, encode};

@@ -1,1 +1,4 @@
 pub mod RunLemmas
+pub mod RequestLemmas
+pub mod Simulation
+pub mod TextLemmas

@@ -19,8 +19,8 @@ use Rattle.packet_text.specs.Texts.{packet_text, decoded_text}
 use Rattle.packet_text.specs.Lines.{BeginsWithLetter}
 use Rattle.packet_text.specs.Forms.{text_reading}
 use Rattle.hex_text.specs.Line.{digits_of}
-use Rattle.text_lines.specs.Lines.{lines_of, bare, said, is_skipped}
-use Rattle.text_lines.specs.LineFacts.{ends-feed, bare-feed}
+use Rattle.hex_text.specs.Lines.{lines_of, bare, said, is_skipped}
+use Rattle.hex_text.specs.LineFacts.{ends-feed, bare-feed}
 use Rattle.line_loop.specs.Run.{Answer, Run, answer_to, after_line, with_answer, new_run}
 use Rattle.packet_engine.specs.Lines.{State, told, nothing, bytes_text, decode_line, decode_bytes, decode_reading, decode_responses, out_decode, encode_line, encode_reading, encode_responses, out_encode}
 use Rattle.packet_engine.specs.Runs.{of_reading, of_bytes, of_said, of_line, packets_in, words_lines, bytes_lines}

@@ -9,7 +9,7 @@ use Rattle.packet_text.specs.Packets.{reading, canonical}
 use Rattle.packet_text.specs.Texts.{packet_text, bytes_fault_text, text_fault_text}
 use Rattle.packet_text.specs.Forms.{text_reading}
 use Rattle.hex_text.specs.Line.{digits_of, spaced}
-use Rattle.text_lines.specs.Lines.{is_skipped}
+use Rattle.hex_text.specs.Lines.{is_skipped}
 use Rattle.line_loop.specs.Run.{Answer, Responses, Run, run_of}
 
 -- nothing is remembered from line to line

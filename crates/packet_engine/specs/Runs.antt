@@ -7,7 +7,7 @@ use Rattle.packet_text.specs.declared.fault.BytesFault.{BytesFault}
 use Rattle.packet_text.specs.Packets.{reading}
 use Rattle.packet_text.specs.Texts.{packet_text}
 use Rattle.hex_text.specs.Line.{digits_of}
-use Rattle.text_lines.specs.Lines.{lines_of, bare, said, is_skipped}
+use Rattle.hex_text.specs.Lines.{lines_of, bare, said, is_skipped}
 use Rattle.packet_engine.specs.Lines.{bytes_text, out_decode}
 
 -- the packet of a line of hexadecimal digits, where it has one

@@ -4,14 +4,13 @@ ghost use Rattle.line_loop.specs.Run.{IsCaughtUp, IsWhole, IsPart};
 ghost use Rattle.packet_engine.specs.Lines.{out_decode, decode_responses};
 
 use crate::telling::{tell, tell_decoded};
+use crate::{PacketLines, Reasoned};
 use arrayvec::ArrayString;
-use hex_text::HexLine;
+use hex_text::{HexLine, is_skipped};
 use line_loop::{EngineFault, Responder, Verdict, run};
-use packet_reasons::{PacketLines, Reasoned};
 use std::alloc::{AllocError, Global};
 use std::io::{Read, Write, sink};
 use std::marker::Model;
-use text_lines::is_skipped;
 
 /// Buffers for the bytes of a line and for its answer, used again and again: what they hold does not
 /// count.

@@ -5,13 +5,13 @@ ghost use Rattle.line_loop.specs.Run.{IsAnswer, IsCaughtUp, IsWhole, IsPart};
 ghost use Rattle.packet_engine.specs.Lines.{out_encode, encode_reading, encode_responses};
 
 use crate::telling::{tell, tell_bytes, tell_text_fault};
+use crate::{PacketLines, Reasoned};
+use hex_text::is_skipped;
 use line_loop::{EngineFault, Responder, Verdict, run};
-use packet_reasons::{PacketLines, Reasoned};
 use packet_text::read_packet;
 use std::alloc::{AllocError, Global};
 use std::io::{Read, Write, sink};
 use std::marker::Model;
-use text_lines::is_skipped;
 
 /// Nothing is remembered from line to line.
 #[derive(Drop)]

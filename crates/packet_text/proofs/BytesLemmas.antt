@@ -11,10 +11,10 @@ use Rattle.tlp_core.specs.TlpView as tlp
 use Rattle.tlp_core.specs.Layout as tlp_layout
 use Rattle.tlp_core.specs.Faults as tlp_faults
 use Rattle.tlp_core.specs.declared.fault.TlpFault.TheVariants as tlp_fault
-use Rattle.config_packets.specs.declared.request.CfgRequest.{CfgRequest}
-use Rattle.config_packets.specs.declared.fault.CfgFault.{CfgFault}
-use Rattle.config_packets.specs.Layout as configuration
-use Rattle.config_packets.specs.Canonical as configuration_bytes
+use Rattle.config_core.specs.declared.request.CfgRequest.{CfgRequest}
+use Rattle.config_core.specs.declared.fault.CfgFault.{CfgFault}
+use Rattle.config_core.specs.Layout as configuration
+use Rattle.config_core.specs.Canonical as configuration_bytes
 use Rattle.dllp_core.specs.declared.packet.Dllp.{Dllp}
 use Rattle.dllp_core.specs.declared.packet.Dllp.TheVariants as dllps
 use Rattle.dllp_core.specs.declared.fault.DllpFault.{DllpFault}

@@ -7,8 +7,8 @@ use Rattle.byteorder.specs.Endian.{little_bytes, little_number}
 use Rattle.byteorder.specs.Numbers.{little_number-reads_back}
 use Rattle.hex.specs.Hex.{encode_upper}
 use Rattle.tlp_core.specs.Bits.{IsBytes}
-use Rattle.config_packets.specs.declared.request.CfgRequest.{CfgRequest}
-use Rattle.config_packets.specs.Canonical.{FitsFields, is_written}
+use Rattle.config_core.specs.declared.request.CfgRequest.{CfgRequest}
+use Rattle.config_core.specs.Canonical.{FitsFields, is_written}
 use Rattle.operation_text.specs.Numbers.{byte_string}
 use Rattle.operation_text.specs.Texts.{hexadecimal, octet_text, sequence_text}
 use Rattle.packet_text.specs.declared.packet.Packet.TheVariants as packets

@@ -24,8 +24,8 @@ use Rattle.dllp_core.specs.declared.packet.Dllp.{Dllp}
 use Rattle.dllp_core.specs.declared.packet.Dllp.TheVariants as dllps
 use Rattle.dllp_core.specs.Layout.{FitsFields}
 use Rattle.byteorder.specs.Endian.{little_bytes}
-use Rattle.config_packets.specs.declared.request.CfgRequest.{CfgRequest}
-use Rattle.config_packets.specs.Canonical as configuration
+use Rattle.config_core.specs.declared.request.CfgRequest.{CfgRequest}
+use Rattle.config_core.specs.Canonical as configuration
 use Rattle.operation_text.specs.Operations.{op_spelled}
 use Rattle.operation_text.specs.Texts.{op_text, op_words, IsPrinted, IsPrintedChar}
 use Rattle.packet_text.specs.declared.packet.Packet.{Packet}

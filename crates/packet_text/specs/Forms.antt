@@ -11,7 +11,7 @@ use Rattle.tlp_core.specs.declared.fault.TlpFault.{TlpFault}
 use Rattle.tlp_core.specs.declared.fault.TlpFault.TheVariants as tlp_faults
 use Rattle.tlp_core.specs.Operation.{op_fault}
 use Rattle.tlp_core.specs.TlpView as tlp
-use Rattle.config_packets.specs.declared.request.CfgRequest.{CfgRequest}
+use Rattle.config_core.specs.declared.request.CfgRequest.{CfgRequest}
 use Rattle.dllp_core.specs.declared.packet.Class.{Class}
 use Rattle.dllp_core.specs.declared.packet.Class.TheVariants as classes
 use Rattle.dllp_core.specs.declared.packet.Dllp.{Dllp}

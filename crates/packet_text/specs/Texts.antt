@@ -15,10 +15,10 @@ use Rattle.tlp_core.specs.declared.fault.TlpFault.TheVariants as tlp_faults
 use Rattle.tlp_core.specs.Fault as tlp_fault
 use Rattle.tlp_core.specs.Operation.{op_of}
 use Rattle.tlp_core.specs.TlpView as tlp
-use Rattle.config_packets.specs.declared.request.CfgRequest.{CfgRequest}
-use Rattle.config_packets.specs.declared.fault.CfgFault.{CfgFault}
-use Rattle.config_packets.specs.declared.fault.CfgFault.TheVariants as configuration_faults
-use Rattle.config_packets.specs.Fault as configuration_fault
+use Rattle.config_core.specs.declared.request.CfgRequest.{CfgRequest}
+use Rattle.config_core.specs.declared.fault.CfgFault.{CfgFault}
+use Rattle.config_core.specs.declared.fault.CfgFault.TheVariants as configuration_faults
+use Rattle.config_core.specs.Fault as configuration_fault
 use Rattle.dllp_core.specs.declared.packet.Class.{Class}
 use Rattle.dllp_core.specs.declared.packet.Class.TheVariants as classes
 use Rattle.dllp_core.specs.declared.packet.Dllp.{Dllp}

@@ -1,12 +1,12 @@
 //! Packets of all kinds and their bytes.
 ghost use Rattle.std.specs.Prelude.{◌≡◌, IfOk};
-ghost use Rattle.config_packets.specs.Layout as configuration;
+ghost use Rattle.config_core.specs.Layout as configuration;
 ghost use Rattle.packet_text.specs.Packets as packets;
 
 use crate::fault::BytesFault;
 use crate::packet::Packet;
 use arrayvec::ArrayVec;
-use config_packets::CfgFault;
+use config_core::CfgFault;
 use tlp_core::{MAX_TLP, TlpFault};
 
 /// The packet that bytes of no kind of TLP spell: a configuration request.
@@ -14,7 +14,7 @@ pub(crate) fn of_other(bytes: &[u8]) -> Result<Packet, BytesFault>
     ensures value { result ≡ packets.of_other (configuration.reading bytes.now) }
     ensures in_range { IfOk result packets.FitsFields }
 {
-    match config_packets::decode(bytes) {
+    match config_core::decode(bytes) {
         Ok(request) => Ok(Packet::Configuration(request)),
         Err(CfgFault::Kind) => Err(BytesFault::Tlp(TlpFault::Kind)),
         Err(fault) => Err(BytesFault::Configuration(fault)),
@@ -51,7 +51,7 @@ pub fn encode(packet: &Packet, out: &mut ArrayVec<u8, MAX_TLP>)
         Packet::Tlp(tlp) => tlp_core::encode(tlp, out),
         Packet::Configuration(request) => {
             let mut bytes = ArrayVec::new();
-            config_packets::encode(request, &mut bytes);
+            config_core::encode(request, &mut bytes);
             out.clear();
             let _ = out.try_extend_from_slice(&bytes);
         }

@@ -1,14 +1,14 @@
 //! The text of configuration requests.
 ghost use Rattle.std.specs.Prelude.{◌≡◌, ◌<◌, ◌≤◌, ◌%◌, IfSome, IfOk, option_map};
 ghost use Rattle.std.specs.Result.{result_ok};
-ghost use Rattle.config_packets.specs.Canonical.{FitsFields, is_written};
+ghost use Rattle.config_core.specs.Canonical.{FitsFields, is_written};
 ghost use Rattle.operation_text.specs.Words.{words_behind, first_field};
 ghost use Rattle.packet_text.specs.Forms as forms;
 
 use crate::fields::{digit, keyword, octet_in, sequence_in};
 use crate::origin::{FROM, id_and_tag};
 use byteorder::{ByteOrder, LittleEndian};
-use config_packets::CfgRequest;
+use config_core::CfgRequest;
 use operation_text::{Expected, Misfit, alone, bytes_in, number, word};
 
 const FUNCTION: Expected = Expected::Of(

@@ -3,7 +3,7 @@ ghost use Rattle.std.specs.Prelude.{◌≡◌};
 ghost use Rattle.packet_text.specs.Texts as texts;
 ghost use Rattle.packet_text.specs.Faults.{fault_of};
 
-use config_packets::CfgFault;
+use config_core::CfgFault;
 use dllp_core::DllpFault;
 use operation_text::Misfit;
 use thiserror::Error;

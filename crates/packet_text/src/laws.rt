@@ -25,6 +25,6 @@ pub fn own_text_spells_packet()
     own_digits_spell_number();
     own_text_spells_operation();
     reading_is_spelling();
-    config_packets::laws::reading_is_spelling();
+    config_core::packet_laws::reading_is_spelling();
     bytes_spell_one_dllp();
 }

@@ -1,6 +1,6 @@
 //! A packet of any kind.
 
-use config_packets::CfgRequest;
+use config_core::CfgRequest;
 use dllp_core::Dllp;
 use tlp_core::Tlp;
 

@@ -1,7 +1,7 @@
 //! The packet that a line spells.
 ghost use Rattle.std.specs.Prelude.{◌≡◌, ◌<◌, take, codes, bytes_eq, option_map, Ok, Err, IfOk, IfErr};
 ghost use Rattle.std.specs.Result.{result_ok};
-ghost use Rattle.config_packets.specs.Canonical.{FitsFields};
+ghost use Rattle.config_core.specs.Canonical.{FitsFields};
 ghost use Rattle.dllp_core.specs.Layout as dllps;
 ghost use Rattle.operation_text.specs.Words.{words, words_behind};
 ghost use Rattle.packet_text.specs.Packets as packets;
@@ -14,7 +14,7 @@ use crate::fault::{TextFault, Unread};
 use crate::fields::{credits, sequence};
 use crate::origin::{FROM, id_and_tag, origin_with};
 use crate::packet::Packet;
-use config_packets::CfgRequest;
+use config_core::CfgRequest;
 use dllp_core::Dllp;
 use operation_text::{Expected, LINE_END, Misfit, OPERATION, alone, number, read_op, split_word};
 use requester_core::{Origin, request_with};

@@ -3,7 +3,7 @@ ghost use Rattle.std.specs.Prelude.{◌≡◌, ◌≤◌, ◌<◌, ◌+◌, ◌*
 ghost use Rattle.arrayvec.specs.ArrayString.{array_string_len};
 ghost use Rattle.operation_text.specs.Texts.{op_text};
 ghost use Rattle.hex.specs.Hex.{encode_upper};
-ghost use Rattle.config_packets.specs.Layout as configuration;
+ghost use Rattle.config_core.specs.Layout as configuration;
 ghost use Rattle.packet_text.specs.Packets as packets;
 ghost use Rattle.packet_text.specs.Texts as texts;
 
@@ -11,7 +11,7 @@ use crate::bytes::of_other;
 use crate::fault::{BytesFault, TextFault, configuration_number};
 use crate::packet::Packet;
 use arrayvec::ArrayString;
-use config_packets::{CfgFault, CfgRequest};
+use config_core::{CfgFault, CfgRequest};
 use dllp_core::{Class, Dllp, DllpFault};
 use operation_text::{
     write_bytes, write_decimal, write_hexadecimal, write_octet, write_op, write_sequence,

@@ -1,8 +1,8 @@
 -- The ranges of what `run` and `generate` are asked for.
 use Rattle.std.specs.Prelude.{◌≤◌, IfSome}
 use Rattle.seq_memory.specs.Limits.{IsBlock}
-use Rattle.switch_ports.specs.declared.routing.TheConstants.{REQUESTERS}
-use Rattle.fault_plan.specs.declared.TheConstants.{MOST}
+use Rattle.switch_core.specs.declared.routing.TheConstants.{REQUESTERS}
+use Rattle.parameters.specs.declared.plan.TheConstants.{MOST}
 use Rattle.parameters.specs.declared.counting.TheConstants.{MOST_ADDITIONS, MOST_TURNS, MOST_WORKERS}
 use Rattle.parameters.specs.declared.counting.Counting.{Counting}
 use Rattle.parameters.specs.declared.storm.TheConstants.{MOST_EVENTS}

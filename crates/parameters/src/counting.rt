@@ -2,7 +2,7 @@
 ghost use Rattle.std.specs.Prelude.{◌↔◌, IsTrue};
 ghost use Rattle.parameters.specs.Ranges.{IsCounting};
 
-use switch_ports::REQUESTERS;
+use switch_core::REQUESTERS;
 
 /// The most additions of each requester.
 pub const MOST_ADDITIONS: u64 = 100_000;
@@ -38,8 +38,8 @@ impl Counting {
         self.requesters >= 1
             && self.requesters <= u64::from(REQUESTERS)
             && self.each <= MOST_ADDITIONS
-            && self.lose <= u64::from(fault_plan::MOST)
-            && self.corrupt <= u64::from(fault_plan::MOST)
+            && self.lose <= u64::from(crate::MOST)
+            && self.corrupt <= u64::from(crate::MOST)
             && self.turns >= 1
             && self.turns <= MOST_TURNS
             && self

@@ -2,7 +2,7 @@
 ghost use Rattle.std.specs.Prelude.{◌↔◌, IsTrue};
 ghost use Rattle.parameters.specs.Ranges.{IsStorm};
 
-use switch_ports::REQUESTERS;
+use switch_core::REQUESTERS;
 
 /// The most events of a storm.
 pub const MOST_EVENTS: u64 = 1_000_000_000;
@@ -32,8 +32,8 @@ impl Storm {
         self.events <= MOST_EVENTS
             && self.requesters >= 1
             && self.requesters <= u64::from(REQUESTERS)
-            && self.lose <= u64::from(fault_plan::MOST)
-            && self.corrupt <= u64::from(fault_plan::MOST)
+            && self.lose <= u64::from(crate::MOST)
+            && self.corrupt <= u64::from(crate::MOST)
             && (self.block == 64 || self.block == 128)
     }
 }

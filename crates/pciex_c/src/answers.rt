@@ -12,16 +12,16 @@ ghost use Rattle.search_engine.specs.Search.{WantsMemory};
 ghost use Rattle.pciex_c.specs.declared.codes.TheConstants.{SMALL_BUFFER, NO_MEMORY, NO_FAULT, WRONG_GRANULARITY};
 ghost use Rattle.c_buffer.specs.declared.outcome.Failure.{Failure};
 ghost use Rattle.c_buffer.specs.Buffer.{filled, cut};
-ghost use Rattle.c_answer.specs.Call.{call};
-ghost use Rattle.c_search.specs.Verdict.{IsSearched, IsSearchedIn, granularity_of};
+ghost use Rattle.c_device.specs.Call.{call};
+ghost use Rattle.c_check.specs.SearchVerdict.{IsSearched, IsSearchedIn, granularity_of};
 ghost use Rattle.c_check.specs.Verdict.{verdict, IsOrdered, IsRight, IsCheckCall};
 ghost use Rattle.c_packets.specs.Fields.{in_fields};
 ghost use Rattle.c_packets.specs.Words.{in_words, in_bytes};
 ghost use Rattle.pciex_c.specs.Codes.{code_of, status_of};
 
 use crate::codes::{code, exit_code, status};
+use c_check::{Question, Sizes};
 use c_packets::TlpFields;
-use c_search::{Question, Sizes};
 use std::alloc::Global;
 
 /// One packet at a device over the caller's bytes, whose first has the address `base`.
@@ -38,7 +38,7 @@ pub extern "C" fn pciex_raw_answer(
     ensures buffer { buffer.new ≡ (call base block bytes.old packet.now buffer.old).buffer }
     ensures unchanged { 1000 ≤ result → (bytes.new ≡ bytes.old) × (buffer.new ≡ buffer.old) }
 {
-    code(c_answer::answer_bytes(base, block, bytes, packet, buffer))
+    code(c_device::answer_bytes(base, block, bytes, packet, buffer))
 }
 
 /// Whether the history of the text explains its trace.
@@ -82,7 +82,7 @@ pub extern "C" fn pciex_raw_search(
     ensures unchanged_size { result ≡ NO_MEMORY → size.new ≡ size.old }
     ensures unchanged { 2000 ≤ result → buffer.new ≡ buffer.old }
 {
-    exit_code(c_search::search_text(alloc, text, limit, buffer, size))
+    exit_code(c_check::search_text(alloc, text, limit, buffer, size))
 }
 
 /// The same for a history of pieces of so many bytes, or of whole requests for 0; and why there is none.
@@ -114,7 +114,7 @@ pub extern "C" fn pciex_raw_search_with_reasons(
         answer: *size,
         reasons: *reasons_size,
     };
-    let outcome = c_search::search_with_reasons(alloc, question, buffer, reasons, &mut sizes);
+    let outcome = c_check::search_with_reasons(alloc, question, buffer, reasons, &mut sizes);
     *size = sizes.answer;
     *reasons_size = sizes.reasons;
     exit_code(outcome)

@@ -5,11 +5,11 @@ use Rattle.std.proofs.lemmas.List.Sums.{sum_by-append}
 use Rattle.std.proofs.lemmas.Bool.Decides.{nat_tests}
 use Rattle.dllp_core.specs.declared.packet.Class.{Class}
 use Rattle.dllp_core.specs.declared.packet.Class.TheVariants.{Posted, NonPosted, Completion}
-use Rattle.fc_credit.specs.declared.needs.Need.{Need}
-use Rattle.fc_credit.specs.declared.limits.LaneCredits.{LaneCredits}
-use Rattle.fc_credit.specs.declared.ledger.CreditLedger.{CreditLedger}
-use Rattle.fc_credit.specs.Limits.{IsInLimits, IsInfiniteOrBetween}
-use Rattle.fc_credit.specs.Credits.{same, ledger_of, first_ledger, after_received, after_freed}
+use Rattle.flow_control.specs.declared.needs.Need.{Need}
+use Rattle.flow_control.specs.declared.limits.LaneCredits.{LaneCredits}
+use Rattle.flow_control.specs.declared.ledger.CreditLedger.{CreditLedger}
+use Rattle.flow_control.specs.Limits.{IsInLimits, IsInfiniteOrBetween}
+use Rattle.flow_control.specs.Credits.{same, ledger_of, first_ledger, after_received, after_freed}
 use Rattle.port_core.specs.declared.init.FirstCredits.{FirstCredits}
 use Rattle.port_core.specs.Init.{first_of}
 use Rattle.port_core.specs.Incoming.{is_over, would_overflow}

@@ -7,8 +7,8 @@ use Rattle.dllp_core.specs.declared.packet.Dllp.TheVariants.{Ack, Nak, Update}
 use Rattle.dllp_core.specs.declared.fault.DllpFault.{DllpFault}
 use Rattle.dllp_core.specs.Layout.{Spells, low_twelve}
 use Rattle.dllp_core.specs.Faults.{reading}
-use Rattle.replay_sender.specs.CargoView.{CargoView}
-use Rattle.replay_sender.specs.Runs as sent
+use Rattle.link_replay.specs.CargoView.{CargoView}
+use Rattle.link_replay.specs.Runs as sent
 use Rattle.port_core.specs.declared.init.LinkState.{LinkState}
 use Rattle.port_core.specs.declared.init.LinkState.TheVariants.{Inactive, Init1, Init2, Active}
 use Rattle.port_core.specs.declared.init.Advertised.{Advertised}

@@ -1,11 +1,11 @@
 -- Lists of calls of a receiver and of a sender that are one call longer.
 use Rattle.std.proofs.Common.{◌≡◌, ℕ, List, [], ◌∷◌, ◌++◌, map, refl, sym, ap, ap₂, ◌∙◌}
 use Rattle.std.proofs.lemmas.List.{append-nil, append_assoc, map-append}
-use Rattle.link_receiver.specs.ReceiverView.{ReceiverView, fresh}
-use Rattle.link_receiver.specs.Runs as received
-use Rattle.replay_sender.specs.CargoView.{CargoView}
-use Rattle.replay_sender.specs.SenderView.{SenderView, fresh as fresh_sender}
-use Rattle.replay_sender.specs.Runs as sent
+use Rattle.link_replay.specs.ReceiverView.{ReceiverView, fresh}
+use Rattle.link_replay.specs.ReceiverRuns as received
+use Rattle.link_replay.specs.CargoView.{CargoView}
+use Rattle.link_replay.specs.SenderView.{SenderView, fresh as fresh_sender}
+use Rattle.link_replay.specs.Runs as sent
 
 -- ---- receivers
 

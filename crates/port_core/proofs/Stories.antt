@@ -4,17 +4,17 @@ use Rattle.std.specs.Prelude.{nat_le, nat_lt, slice_get, if◌then◌else◌}
 use Rattle.std.proofs.lemmas.List.{append-nil}
 use Rattle.std.proofs.lemmas.Bool.Decides.{nat_tests}
 use Rattle.tlp_core.specs.TlpView.{TlpView}
-use Rattle.fc_credit.specs.declared.needs.Need.{Need}
-use Rattle.fc_credit.specs.declared.ledger.CreditLedger.{CreditLedger}
-use Rattle.fc_credit.specs.declared.limits.LaneCredits.{LaneCredits}
-use Rattle.fc_credit.specs.Needs.{need_of}
-use Rattle.fc_credit.specs.Credits.{gate_covers}
-use Rattle.link_receiver.specs.declared.receiver.Reception.{Reception}
-use Rattle.link_receiver.specs.declared.receiver.Reception.TheVariants as receptions
-use Rattle.link_receiver.specs.Runs as received_runs
-use Rattle.replay_sender.specs.SenderView.{SenderView, with_accepted}
-use Rattle.replay_sender.specs.Runs as sent
-use Rattle.lane_ends.specs.Content.{cargo_of}
+use Rattle.flow_control.specs.declared.needs.Need.{Need}
+use Rattle.flow_control.specs.declared.ledger.CreditLedger.{CreditLedger}
+use Rattle.flow_control.specs.declared.limits.LaneCredits.{LaneCredits}
+use Rattle.flow_control.specs.Needs.{need_of}
+use Rattle.flow_control.specs.Credits.{gate_covers}
+use Rattle.link_replay.specs.declared.receiver.Reception.{Reception}
+use Rattle.link_replay.specs.declared.receiver.Reception.TheVariants as receptions
+use Rattle.link_replay.specs.ReceiverRuns as received_runs
+use Rattle.link_replay.specs.SenderView.{SenderView, with_accepted}
+use Rattle.link_replay.specs.Runs as sent
+use Rattle.lane_core.specs.Content.{cargo_of}
 use Rattle.port_core.specs.declared.init.LinkState.{LinkState}
 use Rattle.port_core.specs.declared.init.LinkState.TheVariants.{Inactive, Init1, Init2, Active}
 use Rattle.port_core.specs.declared.dllp.LinkDllp.{LinkDllp}

@@ -1,14 +1,14 @@
 -- The receiving end of a port.
 use Rattle.std.specs.Prelude.{ℕ, ◌+◌, ◌-◌, ◌*◌, ◌/◌, ◌%◌, ◌==◌, ◌&&◌, ◌||◌, Bool, true, false, not, nat_le, nat_lt, if◌then◌else◌, List, length, drop, slice_index, Option, Some, None}
-use Rattle.fc_credit.specs.declared.needs.Need.{Need}
-use Rattle.fc_credit.specs.declared.limits.LaneCredits.{LaneCredits}
-use Rattle.fc_credit.specs.declared.ledger.CreditLedger.{CreditLedger}
-use Rattle.fc_credit.specs.Credits.{first_ledger, after_received, after_freed, ledger_of}
-use Rattle.link_receiver.specs.declared.receiver.NakScheduled.{NakScheduled}
-use Rattle.link_receiver.specs.declared.receiver.NakScheduled.TheVariants as naks
-use Rattle.link_receiver.specs.declared.receiver.Reception.{Reception}
-use Rattle.link_receiver.specs.declared.receiver.Reception.TheVariants as receptions
-use Rattle.link_receiver.specs.ReceiverView.{ReceiverView, fresh, reception_of, after_receive, after_acknowledge}
+use Rattle.flow_control.specs.declared.needs.Need.{Need}
+use Rattle.flow_control.specs.declared.limits.LaneCredits.{LaneCredits}
+use Rattle.flow_control.specs.declared.ledger.CreditLedger.{CreditLedger}
+use Rattle.flow_control.specs.Credits.{first_ledger, after_received, after_freed, ledger_of}
+use Rattle.link_replay.specs.declared.receiver.NakScheduled.{NakScheduled}
+use Rattle.link_replay.specs.declared.receiver.NakScheduled.TheVariants as naks
+use Rattle.link_replay.specs.declared.receiver.Reception.{Reception}
+use Rattle.link_replay.specs.declared.receiver.Reception.TheVariants as receptions
+use Rattle.link_replay.specs.ReceiverView.{ReceiverView, fresh, reception_of, after_receive, after_acknowledge}
 use Rattle.port_core.specs.declared.incoming.Received.{Received}
 use Rattle.port_core.specs.declared.incoming.Received.TheVariants.{Accepted, Duplicate, NakNow, Quiet}
 use Rattle.port_core.specs.Needs.{need_at}

@@ -2,7 +2,7 @@
 use Rattle.std.specs.Prelude.{not, ◌==◌, ◌&&◌, ◌||◌, Bool, true, false, nat_le, Option, Some, None, is_some}
 use Rattle.dllp_core.specs.declared.packet.Class.{Class}
 use Rattle.dllp_core.specs.declared.packet.Class.TheVariants.{Posted, NonPosted, Completion}
-use Rattle.fc_credit.specs.declared.limits.LaneCredits.{LaneCredits}
+use Rattle.flow_control.specs.declared.limits.LaneCredits.{LaneCredits}
 use Rattle.port_core.specs.declared.init.LinkState.{LinkState}
 use Rattle.port_core.specs.declared.init.LinkState.TheVariants.{Inactive, Init1, Init2, Active}
 use Rattle.port_core.specs.declared.init.Advertised.{Advertised}

@@ -3,7 +3,7 @@ use Rattle.std.specs.Prelude.{ℕ, ◌+◌, ◌/◌, ◌%◌, ◌==◌, ◌&&◌
 use Rattle.tlp_core.specs.Layout.{dw_count}
 use Rattle.dllp_core.specs.declared.packet.Class.{Class}
 use Rattle.dllp_core.specs.declared.packet.Class.TheVariants as classes
-use Rattle.fc_credit.specs.declared.needs.Need.{Need}
+use Rattle.flow_control.specs.declared.needs.Need.{Need}
 
 -- Fmt and Type, the high 3 and the low 5 bits of byte 0
 abbrev pub fmt_of : List ℕ → ℕ

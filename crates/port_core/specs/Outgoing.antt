@@ -3,13 +3,13 @@ use Rattle.std.specs.Prelude.{◌≡◌, ℕ, ◌+◌, ◌-◌, ◌%◌, ◌==�
 use Rattle.dllp_core.specs.declared.packet.Class.{Class}
 use Rattle.dllp_core.specs.declared.packet.Dllp.{Dllp}
 use Rattle.dllp_core.specs.declared.packet.Dllp.TheVariants.{Ack, Nak}
-use Rattle.fc_credit.specs.declared.needs.Need.{Need}
-use Rattle.fc_credit.specs.declared.limits.LaneCredits.{LaneCredits}
-use Rattle.fc_credit.specs.Credits.{CreditGateView, gate_of, gate_covers, after_limit, first_gate}
-use Rattle.replay_sender.specs.CargoView.{CargoView}
-use Rattle.replay_sender.specs.SenderView.{fresh, sent_from}
-use Rattle.lane_ends.specs.Content.{wire_bytes}
-use Rattle.lane_ends.specs.Steps.{SenderEndView}
+use Rattle.flow_control.specs.declared.needs.Need.{Need}
+use Rattle.flow_control.specs.declared.limits.LaneCredits.{LaneCredits}
+use Rattle.flow_control.specs.Credits.{CreditGateView, gate_of, gate_covers, after_limit, first_gate}
+use Rattle.link_replay.specs.CargoView.{CargoView}
+use Rattle.link_replay.specs.SenderView.{fresh, sent_from}
+use Rattle.lane_core.specs.Content.{wire_bytes}
+use Rattle.lane_core.specs.Steps.{SenderEndView}
 use Rattle.port_core.specs.declared.fault.EnterRefusal.{EnterRefusal}
 use Rattle.port_core.specs.declared.fault.EnterRefusal.TheVariants.{NoCredits, WindowFull, Memory}
 use Rattle.port_core.specs.Init.{credits_of, nothing_advertised}

@@ -6,13 +6,13 @@ use Rattle.dllp_core.specs.declared.packet.Dllp.{Dllp}
 use Rattle.dllp_core.specs.declared.packet.Dllp.TheVariants.{Ack, Nak, Update}
 use Rattle.dllp_core.specs.declared.fault.DllpFault.{DllpFault}
 use Rattle.tlp_core.specs.TlpView.{TlpView}
-use Rattle.fc_credit.specs.declared.needs.Need.{Need}
-use Rattle.fc_credit.specs.declared.limits.LaneCredits.{LaneCredits}
-use Rattle.fc_credit.specs.Credits.{after_freed, update_of}
-use Rattle.link_receiver.specs.ReceiverView.{acknowledgment_of}
-use Rattle.replay_sender.specs.SenderView.{next_item}
-use Rattle.lane_ends.specs.declared.packet.Fate.TheVariants.{Good}
-use Rattle.lane_ends.specs.Steps.{SenderEndView, entered, after_timer, after_retraining, after_transmission, after_dllp, is_expected}
+use Rattle.flow_control.specs.declared.needs.Need.{Need}
+use Rattle.flow_control.specs.declared.limits.LaneCredits.{LaneCredits}
+use Rattle.flow_control.specs.Credits.{after_freed, update_of}
+use Rattle.link_replay.specs.ReceiverView.{acknowledgment_of}
+use Rattle.link_replay.specs.SenderView.{next_item}
+use Rattle.lane_core.specs.declared.packet.Fate.TheVariants.{Good}
+use Rattle.lane_core.specs.Steps.{SenderEndView, entered, after_timer, after_retraining, after_transmission, after_dllp, is_expected}
 use Rattle.port_core.specs.declared.init.LinkState.{LinkState}
 use Rattle.port_core.specs.declared.init.LinkState.TheVariants.{Inactive, Init1, Init2, Active}
 use Rattle.port_core.specs.declared.init.Advertised.{Advertised}

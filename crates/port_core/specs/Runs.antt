@@ -5,13 +5,13 @@ use Rattle.dllp_core.specs.declared.packet.Dllp.{Dllp}
 use Rattle.dllp_core.specs.declared.packet.Dllp.TheVariants.{Ack, Nak, Update}
 use Rattle.dllp_core.specs.declared.fault.DllpFault.{DllpFault}
 use Rattle.tlp_core.specs.TlpView.{TlpView}
-use Rattle.fc_credit.specs.declared.needs.Need.{Need}
-use Rattle.fc_credit.specs.declared.limits.LaneCredits.{LaneCredits}
-use Rattle.fc_credit.specs.Limits.{least_units}
-use Rattle.fc_credit.specs.Needs.{need_of}
-use Rattle.fc_credit.specs.Credits.{same, gate_of, ledger_of}
-use Rattle.replay_sender.specs.CargoView.{CargoView}
-use Rattle.lane_ends.specs.Content.{cargo_of, wire_bytes}
+use Rattle.flow_control.specs.declared.needs.Need.{Need}
+use Rattle.flow_control.specs.declared.limits.LaneCredits.{LaneCredits}
+use Rattle.flow_control.specs.Limits.{least_units}
+use Rattle.flow_control.specs.Needs.{need_of}
+use Rattle.flow_control.specs.Credits.{same, gate_of, ledger_of}
+use Rattle.link_replay.specs.CargoView.{CargoView}
+use Rattle.lane_core.specs.Content.{cargo_of, wire_bytes}
 use Rattle.port_core.specs.declared.init.Advertised.{Advertised}
 use Rattle.port_core.specs.declared.init.FirstCredits.{FirstCredits}
 use Rattle.port_core.specs.declared.dllp.LinkDllp.{LinkDllp}

@@ -5,7 +5,7 @@ ghost use Rattle.port_core.specs.Dues as spec;
 use crate::incoming::Received;
 use crate::init::FirstCredits;
 use dllp_core::Class;
-use fc_credit::LaneCredits;
+use flow_control::LaneCredits;
 
 /// A flag for each class.
 #[derive(Clone, Copy)]

@@ -4,8 +4,8 @@ ghost use Rattle.port_core.specs.Incoming as spec;
 
 use crate::needs::need_at;
 use dllp_core::{Class, Dllp};
-use fc_credit::{CreditLedger, LaneCredits, Need};
-use link_receiver::{NakScheduled, Receiver, Reception};
+use flow_control::{CreditLedger, LaneCredits, Need};
+use link_replay::{NakScheduled, Receiver, Reception};
 use seq12::Seq12;
 use std::marker::Model;
 
@@ -94,8 +94,8 @@ fn need_in(packet: &[u8]) -> Option<Need>
 
 impl IncomingEnd {
     ghost use Rattle.dllp_core.specs.Layout.{FitsDataFC};
-    ghost use Rattle.fc_credit.specs.Credits.{after_freed, update_of};
-    ghost use Rattle.link_receiver.specs.ReceiverView.{acknowledgment_of};
+    ghost use Rattle.flow_control.specs.Credits.{after_freed, update_of};
+    ghost use Rattle.link_replay.specs.ReceiverView.{acknowledgment_of};
 
     /// Nothing was accepted, and these credits were given.
     pub fn new(credits: LaneCredits) -> IncomingEnd

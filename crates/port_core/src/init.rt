@@ -3,7 +3,7 @@ ghost use Rattle.std.specs.Prelude.{◌≡◌};
 ghost use Rattle.port_core.specs.Init as spec;
 
 use dllp_core::Class;
-use fc_credit::LaneCredits;
+use flow_control::LaneCredits;
 
 /// The state of a port: the standard's DL_Inactive, DL_Init in its two parts, and DL_Active.
 #[derive(Clone, Copy, Debug, PartialEq)]

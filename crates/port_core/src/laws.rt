@@ -1,12 +1,12 @@
 //! What holds of a port whatever calls are made, whatever its peer and the wires do, and of every DLLP.
 ghost use Rattle.std.specs.Prelude.{◌≡◌, ◌≢◌, ◌⊎◌, ◌+◌, ◌%◌, ◌<◌, ◌≤◌, Bool, true, false, ℕ, Ok, Err, List, [], length, map, slice_get};
 ghost use Rattle.dllp_core.specs.declared.packet.Class.{Class};
-ghost use Rattle.fc_credit.specs.declared.limits.LaneCredits.{LaneCredits};
-ghost use Rattle.fc_credit.specs.Limits.{IsInLimits};
-ghost use Rattle.fc_credit.specs.Credits.{ledger_of};
-ghost use Rattle.link_receiver.specs.Runs.{AreConsecutive};
-ghost use Rattle.replay_sender.specs.SenderView.{next_number};
-ghost use Rattle.replay_sender.specs.Runs.{KeepsTheLast};
+ghost use Rattle.flow_control.specs.declared.limits.LaneCredits.{LaneCredits};
+ghost use Rattle.flow_control.specs.Limits.{IsInLimits};
+ghost use Rattle.flow_control.specs.Credits.{ledger_of};
+ghost use Rattle.link_replay.specs.ReceiverRuns.{AreConsecutive};
+ghost use Rattle.link_replay.specs.SenderView.{next_number};
+ghost use Rattle.link_replay.specs.Runs.{KeepsTheLast};
 ghost use Rattle.port_core.specs.declared.init.FirstCredits.{FirstCredits};
 ghost use Rattle.port_core.specs.Init.{is_up, fi1, first_of};
 ghost use Rattle.port_core.specs.Dllps.{link_reading, link_bytes};
@@ -18,9 +18,10 @@ use crate::incoming::Received;
 use crate::init::LinkState;
 use crate::port::{DllpReceived, Outgoing};
 use dllp_core::bytes_spell_one_dllp;
-use fc_credit::limits_let_each_packet_go;
-use link_receiver::hands_up_what_it_advanced_by;
-use replay_sender::{kept_are_the_last_accepted, transmitted_under_its_own_number};
+use flow_control::limits_let_each_packet_go;
+use link_replay::{
+    hands_up_what_it_advanced_by, kept_are_the_last_accepted, transmitted_under_its_own_number,
+};
 
 /// A packet or DLLP that is discarded or refused changes nothing, nor does `next` if there is nothing to send.
 pub fn a_refused_call_changes_nothing()

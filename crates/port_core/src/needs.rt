@@ -1,11 +1,11 @@
 //! What a TLP of any kind takes of the credits.
 ghost use Rattle.std.specs.Prelude.{◌≡◌, ◌≤◌, length};
 ghost use Rattle.tlp_core.specs.Layout.{dw_count};
-ghost use Rattle.fc_credit.specs.Needs as known;
+ghost use Rattle.flow_control.specs.Needs as known;
 ghost use Rattle.port_core.specs.Needs as spec;
 
 use dllp_core::Class;
-use fc_credit::{Need, class_of};
+use flow_control::{Need, class_of};
 use tlp_core::{Kind, TlpRef};
 
 /// Length in DW.

@@ -1,15 +1,15 @@
 //! The sending end: the replay buffer, and the credits that the peer gave.
 ghost use Rattle.std.specs.Prelude.{◌≡◌, ◌<◌, ◌↔◌, ℕ, length, nat_le, true, false, None, Some, is_some, IsOk, IsTrue, OnOk, OnErr, IfOk, IfErr};
 ghost use Rattle.tlp_core.specs.Layout.{Spells, canonical};
-ghost use Rattle.lane_ends.specs.Content as lane;
+ghost use Rattle.lane_core.specs.Content as lane;
 ghost use Rattle.port_core.specs.Outgoing as spec;
 
 use crate::fault::EnterRefusal;
 use crate::needs::need_of_lent;
 use arrayvec::ArrayVec;
 use dllp_core::{Class, Dllp};
-use fc_credit::{CreditGate, LaneCredits, Need};
-use replay_sender::{AckFault, Cargo, SendRefusal, Sender};
+use flow_control::{CreditGate, LaneCredits, Need};
+use link_replay::{AckFault, Cargo, SendRefusal, Sender};
 use seq12::Seq12;
 use std::alloc::Global;
 use std::marker::Model;
@@ -26,7 +26,7 @@ pub struct OutgoingEnd {
 }
 
 impl Model for OutgoingEnd {
-    ghost use Rattle.lane_ends.specs.Steps.{SenderEndView};
+    ghost use Rattle.lane_core.specs.Steps.{SenderEndView};
 
     ghost Value = { SenderEndView };
 
@@ -78,11 +78,11 @@ fn put_packet(number: Seq12, cargo: &Cargo, out: &mut ArrayVec<u8, PACKET_BYTES>
 
 impl OutgoingEnd {
     ghost use Rattle.dllp_core.specs.declared.packet.Dllp.TheVariants.{Update};
-    ghost use Rattle.fc_credit.specs.Needs.{need_of};
-    ghost use Rattle.fc_credit.specs.Credits.{gate_covers};
-    ghost use Rattle.replay_sender.specs.SenderView.{next_number, next_item};
-    ghost use Rattle.lane_ends.specs.Steps.{SenderEndView, entered, after_timer, after_retraining, after_transmission, after_dllp, is_expected};
-    ghost use Rattle.lane_ends.specs.declared.packet.Fate.TheVariants.{Good};
+    ghost use Rattle.flow_control.specs.Needs.{need_of};
+    ghost use Rattle.flow_control.specs.Credits.{gate_covers};
+    ghost use Rattle.link_replay.specs.SenderView.{next_number, next_item};
+    ghost use Rattle.lane_core.specs.Steps.{SenderEndView, entered, after_timer, after_retraining, after_transmission, after_dllp, is_expected};
+    ghost use Rattle.lane_core.specs.declared.packet.Fate.TheVariants.{Good};
 
     /// Nothing was entered, and all credits are infinite. It allocates nothing.
     pub fn new(alloc: Global) -> OutgoingEnd

@@ -13,7 +13,7 @@ use crate::init::{Advertised, FirstCredits, LinkState};
 use crate::outgoing::{OutgoingEnd, PACKET_BYTES};
 use arrayvec::ArrayVec;
 use dllp_core::{Class, Dllp};
-use fc_credit::{LaneCredits, Need};
+use flow_control::{LaneCredits, Need};
 use seq12::Seq12;
 use std::alloc::Global;
 use std::marker::Model;
@@ -63,7 +63,7 @@ pub struct LinkPort {
 }
 
 impl Model for LinkPort {
-    ghost use Rattle.fc_credit.specs.Limits.{IsInLimits};
+    ghost use Rattle.flow_control.specs.Limits.{IsInLimits};
     ghost use Rattle.port_core.specs.Port.{PortView};
 
     ghost Value = { PortView };
@@ -74,9 +74,9 @@ impl Model for LinkPort {
 }
 
 impl LinkPort {
-    ghost use Rattle.fc_credit.specs.Limits.{IsInLimits};
-    ghost use Rattle.fc_credit.specs.Needs.{need_of};
-    ghost use Rattle.replay_sender.specs.SenderView.{next_number};
+    ghost use Rattle.flow_control.specs.Limits.{IsInLimits};
+    ghost use Rattle.flow_control.specs.Needs.{need_of};
+    ghost use Rattle.link_replay.specs.SenderView.{next_number};
 
     /// A port that advertises these credits, in DL_Inactive. It allocates nothing.
     pub fn new(ours: LaneCredits, alloc: Global) -> LinkPort

@@ -1,19 +1,18 @@
 //! The engines without reasons, which the program doesn't call.
 use chart_engine::run_chart;
 use chart_links::ChartWindow;
-use config_space::Setup;
+use config_core::Setup;
 use draw_engine::run_draw;
 use endpoint_engine::{EndpointOptions, run_endpoint};
 use history_picture::Window;
 use line_loop::EngineFault;
 use linked_engine::{FiniteCredits, LinkedOptions, run_linked};
 use log_pieces::Granularity;
-use packet_engine::{run_decode, run_encode};
+use packet_engine::{run_decode, run_encode, run_tlp};
 use search_engine::{SearchOptions, Stages, run_search, run_search_with, run_search_with_reasons};
 use seq_memory::Extent;
 use std::alloc::Global;
 use std::io::sink;
-use tlp_engine::run_tlp;
 use trace_engine::{run_check, run_check_clocked, run_check_with_reasons, run_upgrade};
 
 /// An engine, with options of its own.

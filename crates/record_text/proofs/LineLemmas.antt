@@ -2,9 +2,9 @@
 use Rattle.std.proofs.Common.{◌≡◌, ◌≢◌, ◌<◌, ◌+◌, ℕ, true, List, [], ◌∷◌, ◌++◌, ◌∙◌, ◌==◌, length, take, drop, slice_index, refl, sym, ap, append_assoc, fold, All, inl, inr}
 use Rattle.std.proofs.lemmas.List.Sums.{fold-append}
 use Rattle.std.specs.Prelude.{Option, Some}
-use Rattle.text_lines.specs.Lines.{lines_of}
-use Rattle.text_lines.specs.LineFacts.{no_feed, lines_of-feed, lines_of-last, bare-feed, ends-feed, ends-last}
-use Rattle.text_lines.specs.LineFacts.{cut-at as cut-behind}
+use Rattle.hex_text.specs.Lines.{lines_of}
+use Rattle.hex_text.specs.LineFacts.{no_feed, lines_of-feed, lines_of-last, bare-feed, ends-feed, ends-last}
+use Rattle.hex_text.specs.LineFacts.{cut-at as cut-behind}
 use Rattle.record_text.specs.declared.fault.ReadFault.{ReadFault}
 use Rattle.record_text.specs.declared.fault.ReadFaultKind.TheVariants as faults
 use Rattle.record_text.specs.Grammar.{Grammar}

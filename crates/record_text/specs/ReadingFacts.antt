@@ -1,8 +1,8 @@
 -- Facts of readings, for proofs.
 use Rattle.std.proofs.Common.{◌≡◌, ◌≢◌, ℕ, true, List, [], ◌∷◌, ◌++◌, ◌∙◌, length, refl, ap, fold, All}
 use Rattle.std.specs.Prelude.{Bool, false, cond, nat_lt, Some}
-use Rattle.text_lines.specs.Lines.{lines_of, bare}
-use Rattle.text_lines.specs.LineFacts.{no_feed, lines_of-feed, lines_of-last, bare-feed, ends-feed, ends-last}
+use Rattle.hex_text.specs.Lines.{lines_of, bare}
+use Rattle.hex_text.specs.LineFacts.{no_feed, lines_of-feed, lines_of-last, bare-feed, ends-feed, ends-last}
 use Rattle.record_text.specs.declared.fault.ReadFault.{ReadFault}
 use Rattle.record_text.specs.Grammar.{Grammar}
 use Rattle.record_text.specs.RecordReaderView.{RecordReaderView, take_line}

@@ -1,6 +1,6 @@
 -- What a text of records is read as, line by line.
 use Rattle.std.specs.Prelude.{ℕ, ◌≡◌, ◌+◌, ◌-◌, ◌^◌, ◌⊎◌, ◌&&◌, Bool, true, false, not, min, nat_lt, if◌then◌else◌, List, ◌∷◌, ◌++◌, length, fold, Option, Some, None, is_some, Result, Ok, Err}
-use Rattle.text_lines.specs.Lines.{lines_of, bare, said, is_skipped}
+use Rattle.hex_text.specs.Lines.{lines_of, bare, said, is_skipped}
 use Rattle.record_text.specs.declared.fault.ReadFault.{ReadFault}
 use Rattle.record_text.specs.declared.fault.ReadFaultKind.{ReadFaultKind}
 use Rattle.record_text.specs.declared.fault.ReadFaultKind.TheVariants as faults

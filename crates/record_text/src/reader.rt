@@ -4,10 +4,10 @@ ghost use Rattle.record_text.specs.RecordReaderView as reads;
 
 use crate::fault::{Cause, Misread, ReadFault, ReadFaultKind};
 use crate::form::{Form, Scratch, Section, Taken};
+use hex_text::is_skipped;
 use operation_text::{Expected, Misfit, split_word};
 use std::alloc::AllocError;
 use std::marker::Model;
-use text_lines::is_skipped;
 use tlp_core::MAX_PAYLOAD;
 
 /// A text of records, as far as it was read.

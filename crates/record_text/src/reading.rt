@@ -6,9 +6,9 @@ ghost use Rattle.record_text.specs.Endings.{on_said, on_ended_line, on_last_line
 use crate::fault::Misread;
 use crate::form::Form;
 use crate::reader::RecordReader;
+use hex_text::{is_too_long, without_return};
 use memchr::memchr;
 use std::alloc::AllocError;
-use text_lines::{is_too_long, without_return};
 
 /// Takes a line, of which this is said if it isn't too long.
 fn take<F: Form>(reader: &mut RecordReader<F>, line: &[u8], said: &[u8]) -> Result<(), AllocError>

@@ -10,7 +10,7 @@ use Rattle.history_words.specs.declared.record.RecordOf.TheVariants as records
 use Rattle.history_words.specs.TraceView.{TraceView}
 use Rattle.history_words.specs.Claim.{claim_of}
 use Rattle.history_words.specs.Trace.{Explains}
-use Rattle.fabric_laws.specs.Fabric.{Fabric}
+use Rattle.fabric_steps.specs.Fabric.{Fabric}
 use Rattle.hall_laws.specs.Rule.{HasConfig}
 use Rattle.worker_report.specs.declared.halt.RunHalt.{RunHalt}
 use Rattle.worker_report.specs.declared.halt.RunHalt.TheVariants as halts

@@ -5,9 +5,8 @@ ghost use Rattle.tlp_core.specs.Ops.{Op};
 ghost use Rattle.run_engine.specs.Counting.{addition, script_of, scripts_of, config_of, IsPlanOf};
 
 use fabric_core::Config;
-use fault_plan::Plan;
-use fc_credit::LaneCredits;
-use parameters::{Counting, MOST_WORKERS};
+use flow_control::LaneCredits;
+use parameters::{Counting, MOST_WORKERS, Plan};
 use std::alloc::{AllocError, Global};
 use std::thread;
 use std::thread::Threads;

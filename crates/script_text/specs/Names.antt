@@ -5,10 +5,10 @@ use Rattle.dllp_core.specs.declared.packet.Class.{Class}
 use Rattle.dllp_core.specs.declared.packet.Class.TheVariants as classes
 use Rattle.requester_core.specs.declared.fault.SubmitRefusal.{SubmitRefusal}
 use Rattle.requester_core.specs.declared.fault.SubmitRefusal.TheVariants as submits
-use Rattle.lane_ends.specs.declared.packet.LaneRefusal.{LaneRefusal}
-use Rattle.lane_ends.specs.declared.packet.LaneRefusal.TheVariants as lane_refusals
-use Rattle.fabric_events.specs.declared.fault.Refusal.{Refusal}
-use Rattle.fabric_events.specs.declared.fault.Refusal.TheVariants as refusals
+use Rattle.lane_core.specs.declared.packet.LaneRefusal.{LaneRefusal}
+use Rattle.lane_core.specs.declared.packet.LaneRefusal.TheVariants as lane_refusals
+use Rattle.fabric_steps.specs.declared.fault.Refusal.{Refusal}
+use Rattle.fabric_steps.specs.declared.fault.Refusal.TheVariants as refusals
 
 -- a class of credits, in the standard's letters
 abbrev pub class_name : Class → List ℕ

@@ -5,11 +5,11 @@ use Rattle.tlp_core.specs.Ops.{Op}
 use Rattle.tlp_core.specs.declared.operation.OpOf.TheVariants as ops
 use Rattle.tlp_core.specs.declared.operation.Width.{Width}
 use Rattle.tlp_core.specs.Operation.{size_of}
-use Rattle.fabric_events.specs.declared.event.LaneName.{LaneName}
-use Rattle.fabric_events.specs.declared.event.LaneName.TheVariants as lanes
-use Rattle.fabric_events.specs.Events.{Event}
-use Rattle.fabric_events.specs.declared.event.EventOf.TheVariants as events
-use Rattle.text_lines.specs.Lines.{is_skipped}
+use Rattle.fabric_steps.specs.declared.event.LaneName.{LaneName}
+use Rattle.fabric_steps.specs.declared.event.LaneName.TheVariants as lanes
+use Rattle.fabric_steps.specs.Event.{Event}
+use Rattle.fabric_steps.specs.declared.event.EventOf.TheVariants as events
+use Rattle.hex_text.specs.Lines.{is_skipped}
 use Rattle.operation_text.specs.Words.{words}
 use Rattle.operation_text.specs.Texts.{IsPrinted}
 use Rattle.operation_text.specs.Operations.{IsSpelledOp}

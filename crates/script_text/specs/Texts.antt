@@ -6,17 +6,17 @@ use Rattle.hex.specs.Hex.{encode_upper}
 use Rattle.dllp_core.specs.declared.packet.Dllp.{Dllp}
 use Rattle.dllp_core.specs.declared.packet.Dllp.TheVariants as dllps
 use Rattle.dllp_core.specs.Layout.{canonical}
-use Rattle.link_receiver.specs.declared.receiver.Reception.{Reception}
-use Rattle.link_receiver.specs.declared.receiver.Reception.TheVariants as receptions
-use Rattle.lane_ends.specs.declared.packet.Arrival.{Arrival}
-use Rattle.lane_ends.specs.declared.packet.Arrival.TheVariants as arrivals
-use Rattle.lane_ends.specs.declared.packet.DllpSeen.{DllpSeen}
-use Rattle.lane_ends.specs.declared.packet.DllpSeen.TheVariants as dllps_seen
+use Rattle.link_replay.specs.declared.receiver.Reception.{Reception}
+use Rattle.link_replay.specs.declared.receiver.Reception.TheVariants as receptions
+use Rattle.lane_core.specs.declared.packet.Arrival.{Arrival}
+use Rattle.lane_core.specs.declared.packet.Arrival.TheVariants as arrivals
+use Rattle.lane_core.specs.declared.packet.DllpSeen.{DllpSeen}
+use Rattle.lane_core.specs.declared.packet.DllpSeen.TheVariants as dllps_seen
 use Rattle.history_words.specs.Records.{Record}
 use Rattle.history_words.specs.declared.record.RecordOf.TheVariants as records
-use Rattle.fabric_events.specs.Events.{Event, Seen}
-use Rattle.fabric_events.specs.declared.event.EventOf.TheVariants as events
-use Rattle.fabric_events.specs.declared.event.SeenOf.TheVariants as seen
+use Rattle.fabric_steps.specs.Event.{Event, Seen}
+use Rattle.fabric_steps.specs.declared.event.EventOf.TheVariants as events
+use Rattle.fabric_steps.specs.declared.event.SeenOf.TheVariants as seen
 use Rattle.operation_text.specs.Texts.{sequence_text, reply_text}
 
 -- words with a space between each two

@@ -7,7 +7,7 @@ ghost use Rattle.script_text.specs.Forms as forms;
 use crate::fields::{count, fate, kind, lane, octet};
 use fabric_core::EventRef;
 use operation_text::{Expected, Misfit, alone, op_behind};
-use switch_ports::REQUESTERS;
+use switch_core::REQUESTERS;
 use tlp_core::MAX_PAYLOAD;
 
 /// A line behind the fabric's, by its first word.

@@ -8,10 +8,10 @@ ghost use Rattle.script_text.specs.declared.line.Line.TheVariants as lines;
 
 use crate::fields::{count, octet, short};
 use fabric_core::Config;
-use fc_credit::{LaneCredits, MAX_DATA, MAX_HEADERS, MIN_ATOMIC_DATA, MIN_DATA};
+use flow_control::{LaneCredits, MAX_DATA, MAX_HEADERS, MIN_ATOMIC_DATA, MIN_DATA};
 use operation_text::{BASE, BLOCK, Expected, Misfit, SIZE, alone, next_word, number, split_word};
 use seq_memory::{is_base, is_block, is_size};
-use switch_ports::REQUESTERS;
+use switch_core::REQUESTERS;
 
 /// The bytes of a block where the line doesn't tell them.
 const DEFAULT_BLOCK: u16 = 64;

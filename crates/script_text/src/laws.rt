@@ -1,7 +1,7 @@
 //! What is written is read back.
 ghost use Rattle.tlp_core.specs.Ops.{Op};
 ghost use Rattle.fabric_core.specs.declared.config.Config.{Config};
-ghost use Rattle.fabric_events.specs.Events.{Event};
+ghost use Rattle.fabric_steps.specs.Event.{Event};
 ghost use Rattle.fabric_core.specs.Config.{IsConfig};
 ghost use Rattle.operation_text.specs.Operations.{IsSpelledOp};
 ghost use Rattle.script_text.specs.declared.line.Line.TheVariants as lines;

@@ -7,7 +7,7 @@ use crate::writing::put_number;
 use arrayvec::ArrayString;
 use dllp_core::Class;
 use fabric_core::{Config, EventRef, LaneName};
-use fc_credit::LaneCredits;
+use flow_control::LaneCredits;
 use lane_core::{DllpKind, Fate};
 use operation_text::{write_hexadecimal, write_op};
 

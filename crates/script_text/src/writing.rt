@@ -9,7 +9,7 @@ use dllp_core::{Dllp, encode};
 use fabric_core::{EventRef, SeenRef};
 use history_words::Record;
 use lane_core::{Arrival, DllpSeen};
-use link_receiver::Reception;
+use link_replay::Reception;
 use operation_text::{write_bytes, write_decimal, write_reply, write_sequence};
 
 /// The DLLP with data credits below 4096.

@@ -4,7 +4,7 @@ use Rattle.tlp_core.specs.Ops.{Op}
 use Rattle.tlp_core.specs.declared.operation.OpOf.TheVariants as ops
 use Rattle.tlp_core.specs.Operation.{count_of}
 use Rattle.history_words.specs.Records.{Record}
-use Rattle.log_requests.specs.Asked.{IsSubmitted}
+use Rattle.log_events.specs.Asked.{IsSubmitted}
 
 -- a read or a write of several DW
 abbrev pub IsWide : Op → Type 0

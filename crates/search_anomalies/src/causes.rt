@@ -3,7 +3,7 @@ use crate::doubles::{LOOKS, taken_twice};
 use crate::sums::{Sum, wrong_sum};
 use crate::tallies::Question;
 use crate::words::Word;
-use log_requests::{Prefix, Requests};
+use log_events::{Prefix, Requests};
 use seq_memory::ReplyRef;
 use std::alloc::{AllocError, Global};
 

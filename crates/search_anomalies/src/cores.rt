@@ -2,7 +2,7 @@
 //!
 //! Requests are left out that change nothing which an answer shows: reads that aren't answered there, and what is on other
 //! DW. What an AtomicOp leaves depends on all that it reads, so its DW count, too. Nothing rests on this choice.
-use log_requests::{Prefix, Request, Requests};
+use log_events::{Prefix, Request, Requests};
 use std::alloc::{AllocError, Global};
 use tlp_core::OpRef;
 

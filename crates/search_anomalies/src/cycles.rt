@@ -6,7 +6,7 @@ use crate::doubles::LOOKS;
 use crate::effects::{Effect, effect_by, shows};
 use crate::links::Edge;
 use crate::words::{Sight, Word};
-use log_requests::{Request, Requests};
+use log_events::{Request, Requests};
 use search_effects::{is_needed, left};
 use seq_memory::ReplyRef;
 use std::alloc::{AllocError, Global};

@@ -2,7 +2,7 @@
 use crate::causes::WordCause;
 use crate::tallies::Question;
 use crate::words::Word;
-use log_requests::{Request, Requests};
+use log_events::{Request, Requests};
 use seq_memory::ReplyRef;
 use std::alloc::{AllocError, Global};
 use tlp_core::OpRef;

@@ -23,7 +23,7 @@ mod words;
 pub use causes::{WordCause, words_cause};
 pub use cores::{Kept, core_of};
 pub use links::{Edge, Link, cycle_through};
-pub use log_requests::Prefix;
+pub use log_events::Prefix;
 pub use sums::{Bound, Sum};
 pub use wide::wide_request;
 pub use words::Word;

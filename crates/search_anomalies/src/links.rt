@@ -1,7 +1,7 @@
 //! A cycle of requests, by the places of their records.
 use crate::cycles::cycle_by;
 use crate::words::Word;
-use log_requests::{Prefix, Requests};
+use log_events::{Prefix, Requests};
 use std::alloc::{AllocError, Global};
 
 /// Why a request acts before the next one.

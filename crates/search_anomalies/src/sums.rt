@@ -1,6 +1,6 @@
 //! What additions make of the zeros at the start.
 use crate::tallies::Question;
-use log_requests::Request;
+use log_events::Request;
 use search_effects::{are_apart, is_needed, is_quiet};
 use seq_memory::{ReplyRef, refusal_lent};
 use tlp_core::{OpRef, Width};

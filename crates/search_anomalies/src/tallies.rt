@@ -1,7 +1,7 @@
 //! What a log has to say of a word that an answer shows.
 use crate::effects::{Effect, effect_by, shows};
 use crate::words::{Sight, Word};
-use log_requests::{Request, Requests};
+use log_events::{Request, Requests};
 use seq_memory::ReplyRef;
 use tlp_core::OpRef;
 

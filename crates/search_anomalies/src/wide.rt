@@ -2,7 +2,7 @@
 ghost use Rattle.std.specs.Prelude.{◌≡◌, true, IfOk, IfSome};
 ghost use Rattle.search_anomalies.specs.Wide.{IsWide, IsWideAt};
 
-use log_requests::{Prefix, Requests};
+use log_events::{Prefix, Requests};
 use search_effects::are_apart;
 use std::alloc::{AllocError, Global};
 use tlp_core::OpRef;

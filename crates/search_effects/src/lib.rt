@@ -11,6 +11,9 @@
 //! can't be answered as it was before another has changed the bytes, [`breaks`] that it can't be while
 //! the bytes are as another left them, and [`covers`] that a write puts all bytes of another. [`spans`]
 //! says that it has all addresses of another.
+//!
+//! [`act`] does an operation on bytes so that it can be taken back: [`reply`] is what the memory would
+//! answer, and [`put_back`] makes the bytes what they were before. None of these takes memory.
 #![tactic(auto)]
 
 mod covering;
@@ -19,6 +22,7 @@ mod pairs;
 mod puts;
 mod ranges;
 mod seeing;
+mod undoing;
 mod waiting;
 
 pub use covering::{covers, spans};
@@ -26,4 +30,5 @@ pub use pairs::{breaks, clashes, never_brings, yields};
 pub use puts::{is_quiet, left, never_puts};
 pub use ranges::{are_apart, is_needed, is_put, lie_apart};
 pub use seeing::{never_gives, sees_none};
+pub use undoing::{act, overwrite, put_back, reply};
 pub use waiting::waits;

@@ -8,9 +8,9 @@ ghost use Rattle.seq_memory.specs.Step.{refusal, after, answer};
 ghost use Rattle.search_effects.specs.Effects as effects;
 ghost use Rattle.search_effects.specs.Effects.{Agrees, told_of};
 
+use crate::act;
 use crate::laws::what_is_not_put_stays;
 use crate::ranges::is_put;
-use search_undo::act;
 use seq_memory::ReplyRef;
 use seq_memory::laws::{only_the_place_changes, refused_and_read_change_nothing};
 use tlp_core::{OpRef, Payload, PayloadRef, Width, payload_of};

@@ -11,7 +11,7 @@ use Rattle.history_words.specs.Trace.{Explains}
 use Rattle.seq_memory.specs.History.{extent_of}
 use Rattle.operation_text.specs.Operations.{IsSpelledOp}
 use Rattle.trace_text.specs.Tellable.{IsRequest, IsTellable}
-use Rattle.told_laws.specs.Told.{IsToldSub}
+use Rattle.log_text.specs.ToldSubmissions.{IsToldSub}
 use Rattle.log_runs.specs.Explainable.{IsSeenAs, AreSeenAs}
 use Rattle.log_text.specs.Told.{IsToldLog}
 use Rattle.search_engine.specs.Search.{IsFoundIn}

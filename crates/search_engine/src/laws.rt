@@ -7,8 +7,7 @@ ghost use Rattle.search_run.specs.declared.exploring.Bounds.{Bounds};
 ghost use Rattle.trace_engine.specs.Check.{out_check, out_check_clocked};
 ghost use Rattle.search_engine.specs.Search.{IsFoundIn, OutSearchFor};
 
-use log_text::what_is_seen_can_be_told;
-use told_laws::what_is_explained_can_be_told;
+use log_text::{what_is_explained_can_be_told, what_is_seen_can_be_told};
 use trace_engine::laws::{a_clocked_trace_is_ok, an_explained_trace_is_ok};
 use trace_text::told_trace_is_read_back;
 

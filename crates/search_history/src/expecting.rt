@@ -11,8 +11,7 @@ ghost use Rattle.trace_store.specs.Changes.{with_reply};
 
 use crate::judging::{Beginning, is_explainable};
 use history_words::{RecordHeader, RecordRef};
-use log_events::form_of;
-use log_replies::perform;
+use log_events::{form_of, perform};
 use log_runs::Step;
 use search_run::Bounds;
 use seq_memory::{EntryRef, Extent, Reply, ReplyData, ReplyRef};

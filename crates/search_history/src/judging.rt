@@ -16,9 +16,9 @@ use log_runs::laws::{
     a_run_is_a_history, explainable_has_a_run, explainable_is_well_formed, prefix_is_explainable,
 };
 use log_runs::{Log, Step};
-use search_counts::first_overdrawn;
 use search_rules::first_unanswerable;
 use search_run::{Bound, Bounds, Outcome, Unwatched, Watch, Way, explore_watched};
+use search_words::first_overdrawn;
 use std::alloc::{AllocError, Global};
 use trace_store::RecordStore;
 

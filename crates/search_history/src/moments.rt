@@ -7,7 +7,7 @@ ghost use Rattle.log_runs.specs.Histories.{history_of, timed_from};
 ghost use Rattle.search_history.specs.Runs.{IsRunOf};
 ghost use Rattle.trace_store.specs.Changes.{seen_by};
 
-use log_replies::complete;
+use log_events::complete;
 use log_runs::Step;
 use log_runs::laws::a_run_is_a_history;
 use std::alloc::{AllocError, Global};

@@ -1,7 +1,7 @@
 -- Steps that are taken back.
 use Rattle.std.specs.Prelude.{ℕ, ◌≡◌, ◌≤◌, List, [], ◌∷◌, Option, Some, None, slice_get}
 use Rattle.seq_memory.specs.Limits.{Extent}
-use Rattle.search_undo.specs.Saved.{saved_at}
+use Rattle.search_effects.specs.Saved.{saved_at}
 use Rattle.log_runs.specs.EventView.{EventView}
 use Rattle.log_runs.specs.EventView as events
 use Rattle.log_runs.specs.declared.Step.{Step}

@@ -4,7 +4,7 @@ ghost use Rattle.log_runs.specs.Runs.{reply_of, bytes_after, acted_on};
 ghost use Rattle.search_places.specs.Undo.{old_at};
 
 use log_runs::{Event, Log};
-use search_undo::{overwrite, put_back, reply};
+use search_effects::{overwrite, put_back, reply};
 use seq_memory::{ReplyData, ReplyRef};
 use std::alloc::{AllocError, Global};
 use tlp_core::{OpRef, Payload};

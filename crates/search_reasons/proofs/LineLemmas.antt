@@ -2,8 +2,8 @@
 use Rattle.std.proofs.Common.{◌≡◌, ◌≢◌, ◌<◌, ◌-◌, ◌+◌, ◌≤◌, ℕ, Bool, true, false, List, [], ◌∷◌, ◌++◌, ◌∙◌, ◌==◌, length, take, drop, slice_index, All, map, refl, ap, sym, append_assoc, arith}
 use Rattle.std.specs.Prelude.{filter}
 use Rattle.std.specs.Io.BufRead.{ends_with_byte, strip_last}
-use Rattle.text_lines.specs.Lines.{lines_of, said, bare}
-use Rattle.text_lines.specs.LineFacts.{no_feed, lines_of-feed, lines_of-last, cut-at, ends-feed, ends-last, bare-feed}
+use Rattle.hex_text.specs.Lines.{lines_of, said, bare}
+use Rattle.hex_text.specs.LineFacts.{no_feed, lines_of-feed, lines_of-last, cut-at, ends-feed, ends-last, bare-feed}
 use Rattle.search_reasons.specs.Lines.{said_lines}
 
 kept : {X : Type 0} (p : X → Bool) (x : X) (xs : List X) → p x ≡ true → filter p (x ∷ xs) ≡ x ∷ filter p xs

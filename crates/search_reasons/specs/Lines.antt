@@ -2,7 +2,7 @@
 use Rattle.std.specs.Prelude.{ℕ, ◌≡◌, ◌≤◌, ◌<◌, List, ◌++◌, length, map, codes, slice_index}
 use Rattle.hex.specs.Hex.{encode_upper}
 use Rattle.operation_text.specs.Texts.{hexadecimal}
-use Rattle.text_lines.specs.Lines.{ended_lines, said}
+use Rattle.hex_text.specs.Lines.{ended_lines, said}
 use Rattle.trace_diagnostics.specs.Told.{TraceLinesView, nothing_numbered, numbered_all}
 
 -- what the lines of a text say that a line feed ends

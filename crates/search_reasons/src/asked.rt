@@ -4,8 +4,7 @@ ghost use Rattle.history_words.specs.declared.record.RecordOf.TheVariants as kin
 ghost use Rattle.search_reasons.specs.Reasons.{IsAsked};
 
 use history_words::RecordRef;
-use log_events::Partners;
-use log_requests::reply_at;
+use log_events::{Partners, reply_at};
 use seq_memory::ReplyRef;
 use tlp_core::OpRef;
 use trace_store::Records;

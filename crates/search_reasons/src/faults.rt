@@ -3,11 +3,11 @@ ghost use Rattle.std.specs.Prelude.{◌≡◌, IfErr, OnErr, OnOk};
 ghost use Rattle.diagnostics.specs.Told.{IsReasonToldAt, IsReasonBegunAt};
 ghost use Rattle.line_loop.specs.declared.fault.EngineFault.{EngineFault};
 
+use hex_text::without_return;
 use line_loop::EngineFault;
 use memchr::memchr;
 use record_text::Misread;
 use std::io::Write;
-use text_lines::without_return;
 use trace_diagnostics::tell_misread;
 
 /// The line that the text begins with, without what ends it, and the rest.

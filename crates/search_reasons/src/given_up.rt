@@ -8,13 +8,13 @@ use crate::cases::Case;
 use crate::telling::lines_of;
 use crate::wording::put_line;
 use arrayvec::ArrayString;
+use hex_text::is_skipped;
 use line_loop::{EngineFault, write_out};
 use operation_text::{split_word, write_hexadecimal};
 use search_anomalies::Prefix;
 use search_history::{Spot, is_explained};
 use std::alloc::{AllocError, Global};
 use std::io::Write;
-use text_lines::is_skipped;
 use trace_diagnostics::TraceLines;
 
 /// How many prefixes are searched for a history, at most.

@@ -10,6 +10,7 @@ use crate::cycles::put_cycle;
 use crate::finding::{Reasons, Why, reasons_of, records_with};
 use crate::wording::{put_cause, put_line};
 use arrayvec::ArrayString;
+use hex_text::without_return;
 use history_words::{RecordHeader, RecordRef};
 use line_loop::{EngineFault, write_out};
 use memchr::memchr;
@@ -17,7 +18,6 @@ use operation_text::write_reply;
 use search_anomalies::{Bound, Prefix, Sum, WordCause, wide_request};
 use std::alloc::{AllocError, Global};
 use std::io::Write;
-use text_lines::without_return;
 use trace_diagnostics::TraceLines;
 use trace_store::{RecordStore, Records};
 

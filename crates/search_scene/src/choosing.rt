@@ -1,7 +1,7 @@
 //! Which requests are shown.
 ghost use Rattle.std.specs.Prelude.{◌≤◌, IfOk, length};
 
-use log_requests::{Request, Requests};
+use log_events::{Request, Requests};
 use search_picture::Role;
 use search_reasons::{Bound, Case, Cause, Edge, Link, Reasons, Why, WordCause};
 use std::alloc::{AllocError, Global};

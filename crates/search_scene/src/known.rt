@@ -4,7 +4,7 @@ ghost use Rattle.log_runs.specs.Explainable.{prefix as first};
 ghost use Rattle.search_history.specs.Expected.{IsExpected};
 ghost use Rattle.search_scene.specs.Scenes.{IsHistoryOf};
 
-use log_requests::Prefix;
+use log_events::Prefix;
 use search_history::{Before, Sought, explained_before, search};
 use search_reasons::Case;
 use seq_memory::Extent;

@@ -12,7 +12,7 @@ use crate::known::known_of;
 use crate::notes::notes_of;
 use crate::page::Page;
 use arrayvec::ArrayString;
-use log_requests::Requests;
+use log_events::Requests;
 use operation_text::write_decimal;
 use search_picture::Scene;
 use search_reasons::{Case, Link, Reasons, Why, lines_of, reason_lines, reasons_of};

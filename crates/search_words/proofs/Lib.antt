@@ -1,4 +1,7 @@
 pub mod EventLemmas
 pub mod ListLemmas
-pub mod WordLemmas
 pub mod NearLemmas
+pub mod WordLemmas
+pub mod RoleLemmas
+pub mod Running
+pub mod TallyLemmas

@@ -1,4 +1,5 @@
-pub mod ListsView
 pub mod Lists
-pub mod WordsView
+pub mod ListsView
 pub mod Words
+pub mod WordsView
+pub mod Counts

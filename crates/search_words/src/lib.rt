@@ -13,12 +13,22 @@
 //! has at a word stands in the table itself: most are such, and a list takes three times as much. A
 //! request of more than 128 bytes, or of none, stands in a list that is always looked at: a short line
 //! can name 1,024 words, and no memory serves such a request.
+//!
+//! What an AtomicOp is answered was there, and is gone if it leaves something else. So it can be found and taken
+//! away only as often as it was put there, and once more if it was there at the start. If the log has more requests
+//! that took it, no run leads through the log: [`first_overdrawn`]. What a request puts is judged by `search_rules`,
+//! as ever: what isn't known may be put there.
 #![tactic(auto)]
 
+mod counting;
+pub mod laws;
 mod lists;
 mod near;
+mod roles;
+mod taken;
 mod words;
 
+pub use counting::first_overdrawn;
 pub use near::{
     Near, Stretch, near_junk, near_left, near_named, near_needed, near_there, near_value, span_of,
 };

@@ -1,6 +1,6 @@
-pub mod Places
-pub mod Merges
-pub mod Histories
-pub mod Steps
-pub mod Counts
 pub mod Beside
+pub mod Counts
+pub mod Histories
+pub mod Merges
+pub mod Places
+pub mod Steps

@@ -1,4 +1,5 @@
 pub mod Entries
+pub mod History
 pub mod Limits
 pub mod Step
-pub mod History
+pub mod NewValue

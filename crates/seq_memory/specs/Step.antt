@@ -6,9 +6,9 @@ use Rattle.tlp_core.specs.declared.operation.OpOf.TheVariants as ops
 use Rattle.tlp_core.specs.declared.operation.Width.{Width}
 use Rattle.tlp_core.specs.Enables.{enables}
 use Rattle.tlp_core.specs.Operation.{size_of, address_of, count_of, op_fault}
-use Rattle.atomic_op.specs.declared.AtomicOp.{AtomicOp}
-use Rattle.atomic_op.specs.declared.AtomicOp.TheVariants as atomics
-use Rattle.atomic_op.specs.NewValue.{new_value}
+use Rattle.seq_memory.specs.declared.atomics.AtomicOp.{AtomicOp}
+use Rattle.seq_memory.specs.declared.atomics.AtomicOp.TheVariants as atomics
+use Rattle.seq_memory.specs.NewValue.{new_value}
 use Rattle.seq_memory.specs.declared.Refusal.{Refusal}
 use Rattle.seq_memory.specs.declared.Refusal.TheVariants as refusals
 use Rattle.seq_memory.specs.Entries.{Reply}

@@ -6,13 +6,15 @@
 //! after the other; what it answers to an entry depends on the entries before it alone.
 //!
 //! [`perform`] is one step over bytes that the caller keeps, without a history, and [`perform_lent`]
-//! the same for an operation that lends its bytes.
+//! the same for an operation that lends its bytes. [`apply`] is what an AtomicOp makes of its operand.
 //!
 //! An access is served if its place, the bytes of all DW or of the operand that it names, lies in
 //! one naturally aligned block of 64 or 128 bytes and inside the memory. A DW is 4 bytes. Numbers
 //! are little-endian.
 #![tactic(auto)]
 
+pub mod atomic_laws;
+mod atomics;
 mod data;
 mod entry;
 mod extent;
@@ -23,6 +25,7 @@ mod place;
 mod reply;
 mod step;
 
+pub use atomics::{AtomicOp, apply};
 pub use data::ReplyData;
 pub use entry::{Entry, EntryOf, EntryRef};
 pub use extent::Extent;

@@ -4,14 +4,13 @@ ghost use Rattle.byteorder.specs.Endian.{little_number, little_bytes};
 ghost use Rattle.arrayvec.specs.ArrayVec.{array_vec_len};
 ghost use Rattle.tlp_core.specs.Operation.{size_of, count_of, op_fault};
 ghost use Rattle.tlp_core.specs.Enables.{enables, dw_enables};
-ghost use Rattle.atomic_op.specs.NewValue.{FitsWidth};
+ghost use Rattle.seq_memory.specs.NewValue.{FitsWidth};
 ghost use Rattle.seq_memory.specs.Limits.{IsBlock};
 ghost use Rattle.seq_memory.specs.Step.{merged, changed, place_after, read_back, read_over, after, answer, data_of, IsSizedFor};
 
 use crate::data::ReplyData;
 use crate::place::refusal_at;
-use crate::{Refusal, Reply, ReplyRef};
-use atomic_op::{AtomicOp, apply};
+use crate::{AtomicOp, Refusal, Reply, ReplyRef, apply};
 use byteorder::{ByteOrder, LittleEndian};
 use tlp_core::{MAX_PAYLOAD, Op, OpRef, Payload, Width, payload_of};
 

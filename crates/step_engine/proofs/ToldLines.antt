@@ -2,7 +2,7 @@
 use Rattle.std.proofs.Common.{◌≡◌, ◌∙◌, ◌++◌, ◌+◌, ◌∷◌, ◌<◌, ◌≤◌, Bool, false, List, ℕ, [], zero, suc, Option, Some, Result, Ok, Err, IfOk, OnOk, if◌then◌else◌, refl, ap, sym, subst, drop, length, get_or, append_assoc, drop-cons, arith}
 use Rattle.std.proofs.lemmas.List.{append-nil}
 use Rattle.history_words.specs.Records.{Record}
-use Rattle.fabric_laws.specs.Fabric.{Fabric}
+use Rattle.fabric_steps.specs.Fabric.{Fabric}
 use Rattle.script_text.specs.Texts.{told_text, settled_text}
 use Rattle.fabric_settle.specs.Rounds.{settlement}
 use Rattle.line_loop.specs.declared.verdict.Verdict.{Verdict}

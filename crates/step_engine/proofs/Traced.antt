@@ -5,15 +5,15 @@ use Rattle.std.proofs.lemmas.List.{append-nil, append_assoc}
 use Rattle.history_words.specs.Records.{Record}
 use Rattle.history_words.specs.Clocks.{IsClocked}
 use Rattle.history_words.specs.Trace.{Explains}
-use Rattle.fabric_laws.specs.Fabric.{Fabric, whole_of}
-use Rattle.fabric_laws.specs.Whole.{Whole, memory_of}
-use Rattle.fabric_laws.specs.Sound.{Sound}
-use Rattle.fabric_laws.specs.Steps.{Step, Run, stays, goes}
-use Rattle.fabric_laws.specs.Trace.{Belongs}
+use Rattle.fabric_steps.specs.Fabric.{Fabric, whole_of}
+use Rattle.fabric_steps.specs.Whole.{Whole, memory_of}
+use Rattle.fabric_steps.specs.Sound.{Sound}
+use Rattle.fabric_steps.specs.Steps.{Step, Run, stays, goes}
+use Rattle.fabric_steps.specs.Trace.{Belongs}
 use Rattle.fabric_core.specs.declared.config.Config.{Config}
 use Rattle.fabric_core.specs.declared.config.ConfigFault.{ConfigFault}
-use Rattle.fabric_events.specs.Events.{Event, Seen}
-use Rattle.fabric_events.specs.declared.fault.Refusal.{Refusal}
+use Rattle.fabric_steps.specs.Event.{Event, Seen}
+use Rattle.fabric_steps.specs.declared.fault.Refusal.{Refusal}
 use Rattle.fabric_core.specs.Config.{IsNewWith}
 use Rattle.fabric_core.specs.Kept.{IsSoundFabric, records_of}
 use Rattle.fabric_core.specs.Steps.{Happens, Refused}
@@ -21,7 +21,7 @@ use Rattle.fabric_core.specs.Runs.{Runs}
 use Rattle.fabric_core.specs.Answers.{answer}
 use Rattle.fabric_settle.specs.Happenings.{Happening, Leads}
 use Rattle.fabric_settle.specs.Keeping.{with_record}
-use Rattle.fabric_events.specs.Faults.{IsTold}
+use Rattle.fabric_steps.specs.Faults.{IsTold}
 use Rattle.fabric_core.specs.New.{new_fabric, config_fault}
 use Rattle.operation_text.specs.Words.{words}
 use Rattle.trace_text.specs.Texts.{trace_text}
@@ -29,7 +29,7 @@ use Rattle.script_text.specs.declared.line.Line.{Line}
 use Rattle.script_text.specs.declared.line.Line.TheVariants as lines
 use Rattle.script_text.specs.Forms.{line_of}
 use Rattle.script_text.specs.Names.{refusal_text}
-use Rattle.text_lines.specs.Lines.{lines_of, bare, said, is_skipped}
+use Rattle.hex_text.specs.Lines.{lines_of, bare, said, is_skipped}
 use Rattle.line_loop.specs.Run.{Answer, Run as Output, with_answer, after_line, after_end, new_run}
 use Rattle.step_engine.specs.Script.{script_of, event_line, IsScript, Progress, progress, LineDoes, LinesDo, RunsThrough}
 use Rattle.step_engine.specs.Options.{traced}

@@ -1,14 +1,14 @@
 -- What the lines of a script say, and what they do to its fabric.
 use Rattle.std.specs.Prelude.{ℕ, ◌≡◌, ◌⊎◌, nat_lt, if◌then◌else◌, Bool, true, List, [], ◌∷◌, fold, length, map, Option, Some, None}
 use Rattle.history_words.specs.Records.{Record}
-use Rattle.fabric_laws.specs.Fabric.{Fabric}
+use Rattle.fabric_steps.specs.Fabric.{Fabric}
 use Rattle.fabric_core.specs.declared.config.Config.{Config}
-use Rattle.fabric_events.specs.Events.{Event}
-use Rattle.fabric_events.specs.declared.fault.Refusal.{Refusal}
+use Rattle.fabric_steps.specs.Event.{Event}
+use Rattle.fabric_steps.specs.declared.fault.Refusal.{Refusal}
 use Rattle.fabric_core.specs.Config.{IsNewWith}
 use Rattle.fabric_core.specs.Steps.{Refused}
 use Rattle.fabric_core.specs.Runs.{Recorded}
-use Rattle.fabric_events.specs.Faults.{IsTold}
+use Rattle.fabric_steps.specs.Faults.{IsTold}
 use Rattle.operation_text.specs.Words.{words}
 use Rattle.script_text.specs.declared.line.Line.{Line}
 use Rattle.script_text.specs.declared.line.Line.TheVariants as lines
@@ -16,7 +16,7 @@ use Rattle.script_text.specs.Forms.{line_of}
 use Rattle.fabric_settle.specs.Keeping.{IsLossless, Never, with_record}
 use Rattle.fabric_settle.specs.Reached.{Reached}
 use Rattle.fabric_settle.specs.Rounds.{settlement}
-use Rattle.text_lines.specs.Lines.{lines_of, bare, said, is_skipped}
+use Rattle.hex_text.specs.Lines.{lines_of, bare, said, is_skipped}
 
 -- what a line says, before what the others say: nothing where it is skipped, and none of a script where it is too long
 abbrev pub put_before : List ℕ → List (Option Line) → List (Option Line)

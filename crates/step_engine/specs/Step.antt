@@ -3,15 +3,15 @@ use Rattle.std.specs.Prelude.{ℕ, ◌≡◌, ◌+◌, ◌-◌, ◌^◌, ◌&&�
 use Rattle.std.specs.Fmt.{decimal}
 use Rattle.history_words.specs.Records.{Record}
 use Rattle.history_words.specs.Claim.{Claim}
-use Rattle.fabric_laws.specs.Fabric.{Fabric}
+use Rattle.fabric_steps.specs.Fabric.{Fabric}
 use Rattle.fabric_core.specs.declared.config.Config.{Config}
 use Rattle.fabric_core.specs.declared.config.ConfigFault.{ConfigFault}
-use Rattle.fabric_events.specs.Events.{Event, Seen}
-use Rattle.fabric_events.specs.declared.fault.Refusal.{Refusal}
+use Rattle.fabric_steps.specs.Event.{Event, Seen}
+use Rattle.fabric_steps.specs.declared.fault.Refusal.{Refusal}
 use Rattle.fabric_core.specs.Kept.{records_of}
 use Rattle.fabric_core.specs.Answers.{answer}
 use Rattle.fabric_core.specs.New.{new_fabric, config_fault}
-use Rattle.text_lines.specs.Lines.{is_skipped}
+use Rattle.hex_text.specs.Lines.{is_skipped}
 use Rattle.operation_text.specs.Words.{words}
 use Rattle.trace_text.specs.Texts.{trace_text}
 use Rattle.script_text.specs.declared.line.Line.{Line}

@@ -3,9 +3,9 @@ ghost use Rattle.std.specs.Prelude.{◌≡◌, Bool, true, ℕ, List, codes};
 ghost use Rattle.history_words.specs.Records.{Record};
 ghost use Rattle.history_words.specs.Clocks.{IsClocked};
 ghost use Rattle.history_words.specs.Trace.{Explains};
-ghost use Rattle.fabric_laws.specs.Fabric.{Fabric};
+ghost use Rattle.fabric_steps.specs.Fabric.{Fabric};
 ghost use Rattle.fabric_core.specs.declared.config.Config.{Config};
-ghost use Rattle.fabric_events.specs.Events.{Event};
+ghost use Rattle.fabric_steps.specs.Event.{Event};
 ghost use Rattle.fabric_core.specs.Config.{IsNewWith};
 ghost use Rattle.fabric_core.specs.Runs.{Runs};
 ghost use Rattle.trace_engine.specs.Check.{out_check, out_check_clocked};
@@ -19,7 +19,7 @@ use fabric_core::laws::{
     a_configuration_has_one_answer, a_new_fabric_is_sound, each_event_has_one_answer,
     each_event_keeps_it_sound,
 };
-use fabric_laws::laws::the_trace_belongs;
+use fabric_steps::laws::the_trace_belongs;
 use trace_engine::laws::{a_clocked_trace_is_ok, an_explained_trace_is_ok};
 use trace_text::told_trace_is_read_back;
 

@@ -2,7 +2,7 @@
 ghost use Rattle.std.specs.Prelude.{◌≡◌, ◌≤◌, ◌+◌, ◌++◌, ◌∷◌, [], length, is_some, Ok, Err, IfOk, IfErr, OnOk, OnErr};
 ghost use Rattle.arrayvec.specs.ArrayString.{array_string_len};
 ghost use Rattle.fabric_core.specs.Answers.{answer};
-ghost use Rattle.fabric_events.specs.Faults.{IsTold};
+ghost use Rattle.fabric_steps.specs.Faults.{IsTold};
 ghost use Rattle.fabric_core.specs.Config.{fault_name};
 ghost use Rattle.script_text.specs.Names.{refusal_text};
 ghost use Rattle.script_text.specs.Texts.{seen_text, settled_text};
@@ -16,6 +16,7 @@ use crate::options::StepOptions;
 use arrayvec::ArrayString;
 use fabric_core::{ANSWER_ROOM, Config, ConfigFault, EventRef, Fabric, Refusal, SeenRef};
 use fabric_settle::{happen, settle};
+use hex_text::is_skipped;
 use history_words::{Claim, Record};
 use line_loop::{EngineFault, Verdict};
 use requester_core::Answer;
@@ -26,7 +27,6 @@ use std::alloc::{AllocError, Global};
 use std::io::{Read, Write, sink};
 use std::marker::Model;
 use std::mem;
-use text_lines::is_skipped;
 use tlp_core::MAX_PAYLOAD;
 use trace_engine::tell_trace;
 

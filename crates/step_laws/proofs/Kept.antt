@@ -6,31 +6,31 @@ use Rattle.std.proofs.lemmas.List.Elements.{All-nil, All-cons, All-append}
 use Rattle.std.proofs.lemmas.Option.{same_Some, slice_get_within}
 use Rattle.history_words.specs.Records.{Record}
 use Rattle.history_words.specs.declared.record.RecordOf.TheVariants as records
-use Rattle.fabric_laws.specs.Fabric.{Fabric, whole_of}
-use Rattle.fabric_laws.specs.Lists.{Each}
-use Rattle.fabric_laws.specs.Steps.{Step}
-use Rattle.fabric_laws.specs.Trace.{submitted_by, submission_count}
+use Rattle.fabric_steps.specs.Fabric.{Fabric, whole_of}
+use Rattle.fabric_steps.specs.Lists.{Each}
+use Rattle.fabric_steps.specs.Steps.{Step}
+use Rattle.fabric_steps.specs.Trace.{submitted_by, submission_count}
 use Rattle.requester_core.specs.RequesterView.{RequesterView, IsSound}
-use Rattle.fabric_events.specs.Events.{Event, Seen}
-use Rattle.fabric_events.specs.declared.event.EventOf.TheVariants as events
-use Rattle.fabric_events.specs.declared.event.SeenOf.TheVariants as seen
+use Rattle.fabric_steps.specs.Event.{Event, Seen}
+use Rattle.fabric_steps.specs.declared.event.EventOf.TheVariants as events
+use Rattle.fabric_steps.specs.declared.event.SeenOf.TheVariants as seen
 use Rattle.fabric_core.specs.declared.config.Config.{Config}
-use Rattle.fabric_events.specs.declared.fault.Refusal.{Refusal}
-use Rattle.fabric_events.specs.declared.fault.Refusal.TheVariants as refusals
+use Rattle.fabric_steps.specs.declared.fault.Refusal.{Refusal}
+use Rattle.fabric_steps.specs.declared.fault.Refusal.TheVariants as refusals
 use Rattle.fabric_core.specs.Answers.{answer, part_at, some_or, Happens}
 use Rattle.fabric_core.specs.ByParts.{HappensByParts}
 use Rattle.fabric_core.specs.Config.{IsNewWith}
 use Rattle.fabric_core.specs.Kept.{IsSoundFabric, IsNoSubmission, records_of}
 use Rattle.fabric_core.specs.Quiet.{IsQuiet}
-use Rattle.fabric_rounds.specs.Happenings.{Happening, Leads}
-use Rattle.fabric_rounds.specs.Rounds.{settlement}
+use Rattle.fabric_settle.specs.Happenings.{Happening, Leads}
+use Rattle.fabric_settle.specs.Rounds.{settlement}
 use Rattle.fabric_settle.specs.Keeping.{with_record}
 use Rattle.trace_text.specs.Tellable.{IsRequest}
 use Rattle.step_laws.proofs.Spelled.{Range, short-op}
 use Rattle.step_laws.proofs.Requests.{IsSpellable, next-is, submit-fits}
 use Rattle.step_laws.proofs.Load.{IsBalanced, balanced-step, balanced-new}
 use Rattle.step_laws.proofs.Requesters.{AreCalled, AreSound, called-after, called-new, called-sound}
-use Rattle.told_laws.specs.Told.{IsToldSub}
+use Rattle.log_text.specs.ToldSubmissions.{IsToldSub}
 use Rattle.step_laws.proofs.Lines.{IsSaid}
 
 pub record Laws : Type 0 where

@@ -2,8 +2,8 @@
 use Rattle.std.proofs.Common.{◌≡◌, ℕ, Bool, true, false, if◌then◌else◌, List, [], ◌∷◌, Option, Some, None, refl, subst}
 use Rattle.std.specs.Prelude.{IfSome, option_map, bytes_eq, codes}
 use Rattle.tlp_core.specs.Ops.{Op}
-use Rattle.fabric_events.specs.Events.{Event}
-use Rattle.fabric_events.specs.declared.event.EventOf.TheVariants as events
+use Rattle.fabric_steps.specs.Event.{Event}
+use Rattle.fabric_steps.specs.declared.event.EventOf.TheVariants as events
 use Rattle.operation_text.specs.Words.{then_with}
 use Rattle.operation_text.specs.Operations.{address, op_spelled, IsSpelledOp}
 use Rattle.script_text.specs.declared.line.Line.{Line}

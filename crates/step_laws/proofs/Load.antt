@@ -4,13 +4,13 @@ use Rattle.std.specs.Prelude.{map, slice_set, slice_get, Some, suc, zero}
 use Rattle.std.specs.List.{sum_by}
 use Rattle.std.proofs.lemmas.List.Sums.{sum_by-cons, sum_by-set}
 use Rattle.history_words.specs.Records.{Record}
-use Rattle.lane_ends.specs.Steps.{LaneEndsView}
+use Rattle.lane_core.specs.Steps.{LaneEndsView}
 use Rattle.tlp_core.specs.TlpView.{TlpView}
-use Rattle.fabric_laws.specs.Fabric.{Fabric, items, whole_of}
-use Rattle.fabric_laws.specs.Packets.{marked_packet}
-use Rattle.fabric_laws.specs.Whole.{MarkedPacket, RequesterView, Whole, up_of, requester_of, unused, entry_of, marked_request}
-use Rattle.fabric_laws.specs.Steps.{IsTaken, Step, submits, forwards, serves, returns, collects, links}
-use Rattle.fabric_laws.specs.Trace.{Belongs, submitted_by, submission_count}
+use Rattle.fabric_steps.specs.Fabric.{Fabric, items, whole_of}
+use Rattle.fabric_steps.specs.Packets.{marked_packet}
+use Rattle.fabric_steps.specs.Whole.{MarkedPacket, RequesterView, Whole, up_of, requester_of, unused, entry_of, marked_request}
+use Rattle.fabric_steps.specs.Steps.{IsTaken, Step, submits, forwards, serves, returns, collects, links}
+use Rattle.fabric_steps.specs.Trace.{Belongs, submitted_by, submission_count}
 use Rattle.fabric_core.specs.Quiet.{IsQuiet}
 
 abbrev on_the_way : Whole → ℕ

@@ -4,10 +4,10 @@ use Rattle.std.specs.Prelude.{not, ◌&&◌, ◌||◌, ◌==◌, nat_le, slice_g
 use Rattle.std.proofs.lemmas.Bool.Decides.{nat_tests}
 use Rattle.std.proofs.lemmas.List.{length-replicate}
 use Rattle.std.proofs.lemmas.Option.{same_Some}
-use Rattle.fc_credit.specs.declared.limits.LaneCredits.{LaneCredits}
+use Rattle.flow_control.specs.declared.limits.LaneCredits.{LaneCredits}
 use Rattle.seq_memory.specs.Limits.{IsSize, IsBase, IsBlock}
 use Rattle.requester_core.specs.RequesterView.{RequesterView, fresh}
-use Rattle.lane_ends.specs.Steps.{LaneEndsView, new_lane}
+use Rattle.lane_core.specs.Steps.{LaneEndsView, new_lane}
 use Rattle.fabric_core.specs.declared.config.Config.{Config}
 use Rattle.fabric_core.specs.declared.config.ConfigFault.{ConfigFault}
 use Rattle.fabric_core.specs.declared.config.ConfigFault.TheVariants as faults

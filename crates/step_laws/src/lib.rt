@@ -2,7 +2,7 @@
 #![tactic(auto)]
 
 ghost use Rattle.std.specs.Prelude.{◌≡◌, ◌≢◌, Bool, List, ℕ, [], codes};
-ghost use Rattle.text_lines.specs.Lines.{lines_of};
+ghost use Rattle.hex_text.specs.Lines.{lines_of};
 ghost use Rattle.trace_engine.specs.Check.{out_check, out_check_clocked};
 ghost use Rattle.trace_text.specs.Tellable.{IsTellable};
 ghost use Rattle.step_engine.specs.Options.{traced};
@@ -13,13 +13,13 @@ use fabric_core::laws::{
     a_new_fabric_is_sound, each_event_happens_by_its_parts, each_event_keeps_it_sound,
     what_is_answered_happens,
 };
-use fabric_laws::laws::the_trace_belongs;
 use fabric_settle_laws::what_settles_happens;
+use fabric_steps::laws::the_trace_belongs;
+use log_text::what_is_explained_can_be_told;
 use operation_text::own_digits_spell_number;
 use requester_core::laws::each_number_is_answered_once;
 use step_engine::laws::{what_a_script_does_is_explained, what_a_script_does_is_ok};
 use tlp_core::laws::canonical_bytes_spell_their_packet;
-use told_laws::what_is_explained_can_be_told;
 use trace_engine::laws::a_clocked_trace_is_ok;
 use trace_text::told_trace_is_read_back;
 

@@ -2,7 +2,7 @@
 use Rattle.std.specs.Prelude.{ℕ, List, codes}
 use Rattle.switch_core.specs.declared.fault.ForwardRefusal.{ForwardRefusal}
 use Rattle.switch_core.specs.declared.fault.ForwardRefusal.TheVariants as refusals
-use Rattle.lane_ends.specs.Refusals.{name_of}
+use Rattle.lane_core.specs.Refusals.{name_of}
 
 -- the place of a refusal in the order of the tests, from 1
 abbrev pub refusal_number : ForwardRefusal → ℕ

@@ -2,9 +2,9 @@
 use Rattle.std.specs.Prelude.{◌≡◌, ℕ, true, Some, slice_get}
 use Rattle.tlp_core.specs.TlpView.{TlpView}
 use Rattle.tlp_core.specs.Layout.{Spells, canonical}
-use Rattle.fc_credit.specs.Needs.{need_of}
-use Rattle.vc_queue.specs.Queue.{is_takeable}
-use Rattle.lane_ends.specs.Steps.{ReceiverEndView, SenderEndView, may_enter, entered, after_take}
+use Rattle.flow_control.specs.Needs.{need_of}
+use Rattle.flow_control.specs.Queue.{is_takeable}
+use Rattle.lane_core.specs.Steps.{ReceiverEndView, SenderEndView, may_enter, entered, after_take}
 
 -- the packet of the place, which may pass each earlier one, was taken from the first end and entered into the second
 -- unchanged, with its mark, where there was room for it

@@ -1,2 +1,4 @@
-pub mod Forwarding
 pub mod Faults
+pub mod Forwarding
+pub mod RouteFaults
+pub mod Routing

@@ -1,12 +1,12 @@
 //! From one lane into another.
 ghost use Rattle.std.specs.Prelude.{◌≡◌, ◌≤◌, ◌<◌, ◌++◌, ◌∷◌, [], ◌↔◌, false, IsTrue, OnOk, OnErr, Some, slice_get, remove, length};
 ghost use Rattle.dllp_core.specs.declared.packet.Class.{Class};
-ghost use Rattle.fc_credit.specs.Needs.{need_of};
-ghost use Rattle.fc_credit.specs.Credits.{gate_covers};
-ghost use Rattle.vc_queue.specs.Queue.{Item, is_takeable};
+ghost use Rattle.flow_control.specs.Needs.{need_of};
+ghost use Rattle.flow_control.specs.Credits.{gate_covers};
+ghost use Rattle.flow_control.specs.Queue.{Item, is_takeable};
 ghost use Rattle.lane_core.specs.Calls.{content};
-ghost use Rattle.lane_ends.specs.Refusals.{LacksRoom};
-ghost use Rattle.lane_ends.specs.declared.packet.LaneRefusal.{LaneRefusal};
+ghost use Rattle.lane_core.specs.Refusals.{LacksRoom};
+ghost use Rattle.lane_core.specs.declared.packet.LaneRefusal.{LaneRefusal};
 ghost use Rattle.switch_core.specs.Forwarding.{Forwards};
 
 use crate::fault::ForwardRefusal;

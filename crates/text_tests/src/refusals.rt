@@ -3,11 +3,11 @@ use crate::rows::{Row, all_right};
 use dllp_core::Class;
 use fabric_core::{ConfigFault, Refusal};
 use lane_core::LaneRefusal;
-use replay_sender::AckFault;
+use link_replay::AckFault;
 use requester_core::{CompletionFault, SubmitRefusal};
 use std::alloc::Global;
 use std::fmt::Display;
-use switch_ports::RouteFault;
+use switch_core::RouteFault;
 use tlp_core::TlpFault;
 
 /// Whether the value is told so.

@@ -4,14 +4,13 @@ use arrayvec::{ArrayString, ArrayVec};
 use dllp_core::{Class, Dllp};
 use fabric_core::{ConfigFault, Event, Refusal, Seen};
 use lane_core::{Arrival, DllpSeen, LaneRefusal};
-use link_receiver::Reception;
-use replay_sender::AckFault;
+use link_replay::{AckFault, Reception};
 use requester_core::{Answer, CompletionFault, SubmitRefusal};
 use script_text::{Line, read_line, write_config_fault, write_refusal, write_seen};
 use seq_memory::Reply;
 use seq12::Seq12;
 use std::alloc::Global;
-use switch_ports::RouteFault;
+use switch_core::RouteFault;
 use tlp_core::{MAX_PAYLOAD, TlpFault};
 
 /// The event that the line tells.

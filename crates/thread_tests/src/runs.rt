@@ -2,10 +2,9 @@
 ghost use Rattle.std.specs.Prelude.{◌≡◌};
 
 use fabric_core::{Config, Refusal};
-use fault_plan::Plan;
-use fc_credit::LaneCredits;
+use flow_control::LaneCredits;
 use history_words::Record;
-use parameters::Counting;
+use parameters::{Counting, Plan};
 use requester_core::SubmitRefusal;
 use run_engine::{Progress, run_counting};
 use seq_memory::Reply;

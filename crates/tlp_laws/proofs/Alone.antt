@@ -18,27 +18,27 @@ use Rattle.seq_memory.specs.Entries.{Reply}
 use Rattle.seq_memory.specs.Limits.{Extent}
 use Rattle.seq_memory.specs.Step.{answer}
 use Rattle.seq_memory.specs.History.{MemoryView, extent_of, contents, bytes_of, reply_at}
-use Rattle.lane_ends.specs.Steps.{LaneEndsView}
+use Rattle.lane_core.specs.Steps.{LaneEndsView}
 use Rattle.lane_core.specs.Calls.{content}
 use Rattle.history_words.specs.Records.{Record}
 use Rattle.history_words.specs.declared.record.RecordOf.TheVariants.{Sub, Ans}
 use Rattle.history_words.specs.Trace.{submission, submissions, answers_to, is_request, stands, IsLawful, IsExplained, Explains}
-use Rattle.fabric_laws.specs.Fabric.{Fabric, items, whole_of}
-use Rattle.fabric_laws.specs.Lists.{one_if, count}
-use Rattle.fabric_laws.specs.ListFacts.{count_nil, get_before, get_seam, get_push}
-use Rattle.fabric_laws.specs.Packets.{marked_packet}
-use Rattle.fabric_laws.specs.Whole.{Whole, MarkedPacket, memory, view, path, up_of, requester_of, entry_of}
-use Rattle.fabric_laws.specs.Sound.{Sound, times}
-use Rattle.fabric_laws.specs.Trace.{Belongs, submission_count, submitted_by}
-use Rattle.fabric_events.specs.Events.{Event}
-use Rattle.fabric_events.specs.declared.event.EventOf.TheVariants.{Submit}
-use Rattle.fabric_events.specs.Events.{Seen}
+use Rattle.fabric_steps.specs.Fabric.{Fabric, items, whole_of}
+use Rattle.fabric_steps.specs.Lists.{one_if, count}
+use Rattle.fabric_steps.specs.ListFacts.{count_nil, get_before, get_seam, get_push}
+use Rattle.fabric_steps.specs.Packets.{marked_packet}
+use Rattle.fabric_steps.specs.Whole.{Whole, MarkedPacket, memory, view, path, up_of, requester_of, entry_of}
+use Rattle.fabric_steps.specs.Sound.{Sound, times}
+use Rattle.fabric_steps.specs.Trace.{Belongs, submission_count, submitted_by}
+use Rattle.fabric_steps.specs.Event.{Event}
+use Rattle.fabric_steps.specs.declared.event.EventOf.TheVariants.{Submit}
+use Rattle.fabric_steps.specs.Event.{Seen}
 use Rattle.fabric_core.specs.Answers.{Happens}
 use Rattle.fabric_core.specs.ByParts.{HappensByParts, SubmitsAt}
 use Rattle.fabric_core.specs.Kept.{IsSoundFabric, records_of}
 use Rattle.fabric_core.specs.Quiet.{IsQuiet}
 use Rattle.fabric_core.specs.Runs.{Runs}
-use Rattle.tlp_engine.specs.Tlp.{requests_of}
+use Rattle.packet_engine.specs.Tlp.{requests_of}
 use Rattle.tlp_laws.specs.Alone.{IsAlone, IsAnswered}
 use Rattle.tlp_laws.proofs.Counting.{own_count}
 use Rattle.tlp_laws.proofs.Growing.{Grows, EachEvent, run_grows, SubmitsNothing, submits_nothing, counted_more}

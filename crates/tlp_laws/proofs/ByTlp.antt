@@ -13,7 +13,7 @@ use Rattle.seq_memory.specs.History.{MemoryView}
 use Rattle.completer_core.specs.Serving.{with_entry}
 use Rattle.history_words.specs.Records.{Record}
 use Rattle.line_loop.specs.Run.{Answer}
-use Rattle.tlp_engine.specs.Tlp.{requests_of, answer_packet, answer_request, with_history}
+use Rattle.packet_engine.specs.Tlp.{requests_of, answer_packet, answer_request, with_history}
 use Rattle.tlp_laws.specs.Alone.{IsAnswered, by_tlp}
 
 asks_for_none : (k : Kind) (b : Body) (dw : ℕ) (bytes : List ℕ) (op : Op) → op_at k b dw bytes ≡ Some op → is_completion k ≡ false

@@ -6,10 +6,10 @@ use Rattle.std.proofs.lemmas.Bool.Decides.{nat_tests}
 use Rattle.std.proofs.lemmas.Option.{none-some, same_Some}
 use Rattle.seq_memory.specs.Entries.{Entry}
 use Rattle.history_words.specs.Trace.{is_request}
-use Rattle.fabric_laws.specs.Lists.{Each, one_if, count}
-use Rattle.fabric_laws.specs.ListFacts.{each_at, count_nil}
-use Rattle.fabric_laws.specs.Sound.{times}
-use Rattle.tlp_engine.specs.Tlp.{requests_of}
+use Rattle.fabric_steps.specs.Lists.{Each, one_if, count}
+use Rattle.fabric_steps.specs.ListFacts.{each_at, count_nil}
+use Rattle.fabric_steps.specs.Sound.{times}
+use Rattle.packet_engine.specs.Tlp.{requests_of}
 
 count_more : (p : Entry → Bool) (e : Entry) (h : List Entry) → count p (e ∷ h) ≡ one_if (p e) + count p h
 unfolding count

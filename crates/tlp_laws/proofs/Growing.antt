@@ -7,15 +7,15 @@ use Rattle.seq_memory.specs.Entries.{Entry}
 use Rattle.history_words.specs.Records.{Record}
 use Rattle.history_words.specs.declared.record.RecordOf.TheVariants.{Sub, Ans}
 use Rattle.history_words.specs.Trace.{submissions}
-use Rattle.fabric_laws.specs.Whole.{Whole, entry_of}
-use Rattle.fabric_laws.specs.Fabric.{Fabric, whole_of}
-use Rattle.fabric_laws.specs.Lists.{Each}
-use Rattle.fabric_laws.specs.Steps.{Step, submits, forwards, serves, returns, collects, links}
-use Rattle.fabric_laws.specs.Trace.{submission_count}
-use Rattle.fabric_events.specs.Events.{Event}
-use Rattle.fabric_events.specs.declared.event.EventOf.TheVariants as events
-use Rattle.fabric_events.specs.Events.{Seen}
-use Rattle.fabric_events.specs.declared.event.SeenOf.TheVariants as seen
+use Rattle.fabric_steps.specs.Whole.{Whole, entry_of}
+use Rattle.fabric_steps.specs.Fabric.{Fabric, whole_of}
+use Rattle.fabric_steps.specs.Lists.{Each}
+use Rattle.fabric_steps.specs.Steps.{Step, submits, forwards, serves, returns, collects, links}
+use Rattle.fabric_steps.specs.Trace.{submission_count}
+use Rattle.fabric_steps.specs.Event.{Event}
+use Rattle.fabric_steps.specs.declared.event.EventOf.TheVariants as events
+use Rattle.fabric_steps.specs.Event.{Seen}
+use Rattle.fabric_steps.specs.declared.event.SeenOf.TheVariants as seen
 use Rattle.fabric_core.specs.Kept.{IsSoundFabric, IsNoSubmission, records_of}
 use Rattle.fabric_core.specs.Steps.{Happens}
 use Rattle.fabric_core.specs.Runs.{Runs}

@@ -1,14 +1,14 @@
 -- A settlement is a run that submits nothing.
 use Rattle.std.proofs.Common.{◌≡◌, ℕ, List, [], ◌∷◌, ◌++◌, length, refl, subst}
 use Rattle.history_words.specs.Records.{Record}
-use Rattle.fabric_laws.specs.Fabric.{Fabric}
-use Rattle.fabric_laws.specs.Lists.{Each}
-use Rattle.fabric_events.specs.Events.{Event}
+use Rattle.fabric_steps.specs.Fabric.{Fabric}
+use Rattle.fabric_steps.specs.Lists.{Each}
+use Rattle.fabric_steps.specs.Event.{Event}
 use Rattle.fabric_core.specs.Answers.{Happens}
 use Rattle.fabric_core.specs.Kept.{IsSoundFabric, IsNoSubmission, records_of}
 use Rattle.fabric_core.specs.Runs.{Runs}
-use Rattle.fabric_rounds.specs.Happenings.{Happening, Leads}
-use Rattle.fabric_rounds.specs.Rounds.{settlement}
+use Rattle.fabric_settle.specs.Happenings.{Happening, Leads}
+use Rattle.fabric_settle.specs.Rounds.{settlement}
 
 -- what a settlement lists happens, and submits nothing
 pub record Settlements : Type 0 where

@@ -9,16 +9,16 @@ use Rattle.seq_memory.specs.Step.{answer}
 use Rattle.seq_memory.specs.History.{MemoryView, bytes_of}
 use Rattle.completer_core.specs.Serving.{with_entry}
 use Rattle.completer_core.specs.Completion.{completion_of}
-use Rattle.tlp_engine.specs.Tlp.{requests_of, answer_packet, with_history, completion_text}
+use Rattle.packet_engine.specs.Tlp.{requests_of, answer_packet, with_history, completion_text}
 use Rattle.line_loop.specs.Run.{Answer}
 use Rattle.history_words.specs.Records.{Record}
 use Rattle.history_words.specs.declared.record.RecordOf.TheVariants.{Ans}
 use Rattle.history_words.specs.Trace.{answers_to}
-use Rattle.fabric_laws.specs.Fabric.{Fabric, whole_of}
-use Rattle.fabric_laws.specs.Lists.{Each}
-use Rattle.fabric_laws.specs.Trace.{Belongs}
-use Rattle.fabric_events.specs.Events.{Event}
-use Rattle.fabric_events.specs.declared.event.EventOf.TheVariants.{Submit}
+use Rattle.fabric_steps.specs.Fabric.{Fabric, whole_of}
+use Rattle.fabric_steps.specs.Lists.{Each}
+use Rattle.fabric_steps.specs.Trace.{Belongs}
+use Rattle.fabric_steps.specs.Event.{Event}
+use Rattle.fabric_steps.specs.declared.event.EventOf.TheVariants.{Submit}
 use Rattle.fabric_core.specs.Kept.{IsSoundFabric, IsNoSubmission}
 use Rattle.fabric_core.specs.Quiet.{IsQuiet}
 use Rattle.fabric_core.specs.Runs.{Runs}

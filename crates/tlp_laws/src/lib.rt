@@ -6,24 +6,24 @@ ghost use Rattle.tlp_core.specs.Ops.{Op};
 ghost use Rattle.tlp_core.specs.Operation.{op_of};
 ghost use Rattle.tlp_core.specs.TlpView.{TlpView};
 ghost use Rattle.history_words.specs.Records.{Record};
-ghost use Rattle.fabric_laws.specs.Fabric.{Fabric, whole_of};
-ghost use Rattle.fabric_laws.specs.Trace.{Belongs};
-ghost use Rattle.fabric_events.specs.declared.event.EventOf.TheVariants.{Submit};
-ghost use Rattle.fabric_events.specs.Events.{Seen};
+ghost use Rattle.fabric_steps.specs.Fabric.{Fabric, whole_of};
+ghost use Rattle.fabric_steps.specs.Trace.{Belongs};
+ghost use Rattle.fabric_steps.specs.declared.event.EventOf.TheVariants.{Submit};
+ghost use Rattle.fabric_steps.specs.Event.{Seen};
 ghost use Rattle.fabric_core.specs.Answers.{Happens};
 ghost use Rattle.fabric_core.specs.Kept.{IsSoundFabric};
 ghost use Rattle.fabric_core.specs.Quiet.{IsQuiet, AreShort, HaveTags};
-ghost use Rattle.fabric_rounds.specs.Rounds.{settlement};
-ghost use Rattle.tlp_engine.specs.Tlp.{answer_packet, with_history};
+ghost use Rattle.fabric_settle.specs.Rounds.{settlement};
+ghost use Rattle.packet_engine.specs.Tlp.{answer_packet, with_history};
 ghost use Rattle.tlp_laws.specs.Alone.{IsAlone, IsAnswered, by_tlp};
 
 use fabric_core::laws::{
     a_quiet_fabric_has_every_submission, a_run_keeps_its_trace, each_event_happens_by_its_parts,
     each_event_keeps_it_sound, each_request_is_answered_at_rest,
 };
-use fabric_laws::laws::{quiet_is_all_acted, the_trace_belongs};
-use fabric_rest::laws::every_fabric_comes_to_rest;
+use fabric_settle::rest_laws::every_fabric_comes_to_rest;
 use fabric_settle_laws::what_settles_happens;
+use fabric_steps::laws::{quiet_is_all_acted, the_trace_belongs};
 use seq_memory::laws::replies_stay;
 
 /// A fabric answers one request after another as one memory does, whatever its links lose: if a fabric at rest is given a

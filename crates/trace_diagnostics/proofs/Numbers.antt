@@ -4,7 +4,7 @@ use Rattle.std.specs.Prelude.{nat_le, min, slice_get, if◌then◌else◌}
 use Rattle.std.proofs.lemmas.Bool.{le-leb, lt-leb}
 use Rattle.std.proofs.lemmas.Option.{slice_get_within}
 use Rattle.std.proofs.Math.Nat.{min-eq_left}
-use Rattle.text_lines.specs.Lines.{is_skipped}
+use Rattle.hex_text.specs.Lines.{is_skipped}
 use Rattle.trace_diagnostics.specs.Told.{TraceLinesView, numbered, numbered_all, plus, further, unskipped, LinesHaveTheirNumbers}
 
 small : (a b : ℕ) → a + b < 2 ^ 64 → plus a b ≡ a + b

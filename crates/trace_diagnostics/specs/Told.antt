@@ -1,6 +1,6 @@
 -- Of which line of a trace's text a reason is told, and when.
 use Rattle.std.specs.Prelude.{ℕ, ◌≡◌, ◌+◌, ◌-◌, ◌^◌, ◌<◌, nat_le, min, if◌then◌else◌, List, [], ◌∷◌, ◌++◌, length, Option, Some, None, slice_get}
-use Rattle.text_lines.specs.Lines.{is_skipped}
+use Rattle.hex_text.specs.Lines.{is_skipped}
 use Rattle.history_words.specs.declared.flaws.FlawKind.{FlawKind}
 use Rattle.flaw_places.specs.Places.{is_of_entry}
 use Rattle.diagnostics.specs.declared.telling.Part.{Part}

@@ -4,10 +4,10 @@ ghost use Rattle.trace_diagnostics.specs.Told as spec;
 ghost use Rattle.trace_diagnostics.specs.Told.{number_at, record_line, entry_line, line_of_flaw, nothing_numbered, numbered};
 
 use flaw_places::is_of_entry;
+use hex_text::is_skipped;
 use history_words::Flaw;
 use std::alloc::{AllocError, Global};
 use std::marker::Model;
-use text_lines::is_skipped;
 
 /// On which lines of its text the records and entries of a trace stand.
 #[derive(Drop)]

@@ -7,7 +7,7 @@ use Rattle.history_words.specs.Claim.{Claim}
 use Rattle.history_words.specs.Clocks.{IsClocked, KeepsRealTimeOrder}
 use Rattle.history_words.specs.Flaws.{first_flaw, first_clock_flaw, first_flaw_clocked}
 use Rattle.history_words.specs.Trace.{Explains}
-use Rattle.text_lines.specs.Lines.{lines_of, bare, said}
+use Rattle.hex_text.specs.Lines.{lines_of, bare, said}
 use Rattle.line_loop.specs.Run.{Run, with_answer, after_line as run_on, after_end, new_run}
 use Rattle.record_text.specs.declared.fault.ReadFault.{ReadFault}
 use Rattle.trace_text.specs.TraceReaderView.{TraceReaderView, nothing_read, after_line, after_long_line, take_line, read_of}

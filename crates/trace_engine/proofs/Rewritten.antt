@@ -3,7 +3,7 @@ use Rattle.std.proofs.Common.{◌≡◌, ◌∙◌, ℕ, Bool, true, false, List
 use Rattle.std.specs.Prelude.{nat_lt, IfSome, OnErr}
 use Rattle.std.specs.Io.KnownBytes.{Appends}
 use Rattle.history_words.specs.Claim.{Claim}
-use Rattle.text_lines.specs.Lines.{lines_of, bare, said}
+use Rattle.hex_text.specs.Lines.{lines_of, bare, said}
 use Rattle.line_loop.specs.Run.{Run, with_answer, new_run, run_of, IsBeginning, IsWhole, IsPart}
 use Rattle.line_loop.specs.Run.{after_line as run_on}
 use Rattle.record_text.specs.declared.fault.ReadFault.{ReadFault}

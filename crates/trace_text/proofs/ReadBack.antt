@@ -7,7 +7,7 @@ use Rattle.std.proofs.lemmas.Bool.{and_parts, ne_eqb}
 use Rattle.std.proofs.lemmas.Bool.Decides.{nat_tests}
 use Rattle.std.proofs.lemmas.List.{append-nil}
 use Rattle.std.proofs.lemmas.List.Elements.{All-nil, All-cons, All-append, All-head, All-tail, All-drop, All-get_or}
-use Rattle.text_lines.specs.Lines.{lines_of, is_skipped}
+use Rattle.hex_text.specs.Lines.{lines_of, is_skipped}
 use Rattle.tlp_core.specs.Ops.{Op}
 use Rattle.seq_memory.specs.Entries.{Entry}
 use Rattle.seq_memory.specs.Entries.{Reply}

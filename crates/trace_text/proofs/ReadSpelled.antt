@@ -1,7 +1,7 @@
 -- What is read of a trace is spelled.
 use Rattle.std.proofs.Common.{◌≡◌, ℕ, Bool, true, false, List, [], ◌∷◌, ◌++◌, length, refl, subst, fold, Option, Some, None, inl, Ok}
 use Rattle.std.specs.Prelude.{nat_lt, cond, codes, is_some}
-use Rattle.text_lines.specs.Lines.{bare, said, is_skipped}
+use Rattle.hex_text.specs.Lines.{bare, said, is_skipped}
 use Rattle.seq_memory.specs.Entries.{Entry}
 use Rattle.seq_memory.specs.Limits.{IsBlock, Extent, is_within_limits}
 use Rattle.seq_memory.specs.History.{extent_of}

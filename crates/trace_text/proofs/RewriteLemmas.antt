@@ -6,7 +6,7 @@ use Rattle.seq_memory.specs.Limits.{Extent}
 use Rattle.seq_memory.specs.Entries.{Entry}
 use Rattle.history_words.specs.Records.{Record}
 use Rattle.history_words.specs.Claim.{Claim}
-use Rattle.text_lines.specs.Lines.{bare, said, is_skipped}
+use Rattle.hex_text.specs.Lines.{bare, said, is_skipped}
 use Rattle.operation_text.specs.Words.{words}
 use Rattle.record_text.specs.declared.fault.ReadFault.{ReadFault}
 use Rattle.record_text.specs.declared.form.Section.{Section}

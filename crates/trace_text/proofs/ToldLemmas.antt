@@ -9,7 +9,7 @@ use Rattle.seq_memory.specs.History.{extent_of}
 use Rattle.history_words.specs.Records.{Record}
 use Rattle.history_words.specs.declared.record.RecordOf.TheVariants as records
 use Rattle.history_words.specs.Claim.{Claim}
-use Rattle.text_lines.specs.Lines.{lines_of}
+use Rattle.hex_text.specs.Lines.{lines_of}
 use Rattle.operation_text.specs.Numbers.{numeral}
 use Rattle.record_text.specs.Forms as fields
 use Rattle.record_text.specs.ReadingFacts as readings

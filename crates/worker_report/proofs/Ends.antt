@@ -4,8 +4,8 @@ use Rattle.std.specs.Prelude.{Option, None}
 use Rattle.history_words.specs.Records.{Record}
 use Rattle.history_words.specs.TraceView.{TraceView}
 use Rattle.history_words.specs.declared.flaws.FlawKind.{FlawKind}
-use Rattle.fabric_laws.specs.Fabric.{Fabric}
-use Rattle.fabric_laws.specs.Lists.{Each}
+use Rattle.fabric_steps.specs.Fabric.{Fabric}
+use Rattle.fabric_steps.specs.Lists.{Each}
 use Rattle.hall_core.specs.Opens.{Leaves}
 use Rattle.hall_laws.specs.Rule.{HasConfig}
 use Rattle.hall_core.specs.Views.{SeatView, HallView, AreSeatsOf, RanBy}

@@ -6,10 +6,10 @@ use Rattle.history_words.specs.TraceView.{TraceView}
 use Rattle.history_words.specs.Claim.{claim_of}
 use Rattle.history_words.specs.Lookup.{requester_of}
 use Rattle.history_words.specs.Trace.{Explains}
-use Rattle.fabric_laws.specs.Whole.{Whole, memory_of}
-use Rattle.fabric_laws.specs.Sound.{Sound}
-use Rattle.fabric_laws.specs.Fabric.{Fabric, whole_of}
-use Rattle.fabric_laws.specs.Trace.{Belongs}
+use Rattle.fabric_steps.specs.Whole.{Whole, memory_of}
+use Rattle.fabric_steps.specs.Sound.{Sound}
+use Rattle.fabric_steps.specs.Fabric.{Fabric, whole_of}
+use Rattle.fabric_steps.specs.Trace.{Belongs}
 use Rattle.fabric_core.specs.declared.config.Config.{Config}
 use Rattle.hall_laws.specs.Rule.{HasConfig}
 use Rattle.worker_report.specs.Halts.{IsOfMemory}

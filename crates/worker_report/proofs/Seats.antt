@@ -9,10 +9,10 @@ use Rattle.history_words.specs.Records.{Record}
 use Rattle.history_words.specs.declared.record.RecordOf.TheVariants as records
 use Rattle.history_words.specs.Lookup.{requester_of}
 use Rattle.history_words.specs.Trace.{submissions}
-use Rattle.fabric_laws.specs.Fabric.{Fabric, whole_of}
-use Rattle.fabric_laws.specs.Whole.{RequesterView, unused}
-use Rattle.fabric_laws.specs.Trace.{Belongs}
-use Rattle.fabric_laws.specs.Lists.{Each}
+use Rattle.fabric_steps.specs.Fabric.{Fabric, whole_of}
+use Rattle.fabric_steps.specs.Whole.{RequesterView, unused}
+use Rattle.fabric_steps.specs.Trace.{Belongs}
+use Rattle.fabric_steps.specs.Lists.{Each}
 use Rattle.hall_laws.specs.Waiting.{records_by}
 use Rattle.hall_laws.specs.Rule.{HasConfig}
 use Rattle.hall_core.specs.Views.{SeatView, HallView, RanBy}

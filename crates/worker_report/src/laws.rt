@@ -5,14 +5,14 @@ ghost use Rattle.history_words.specs.TraceView.{TraceView};
 ghost use Rattle.history_words.specs.Claim.{claim_of};
 ghost use Rattle.history_words.specs.Flaws.{first_flaw};
 ghost use Rattle.history_words.specs.Trace.{Explains};
-ghost use Rattle.fabric_laws.specs.Fabric.{Fabric};
+ghost use Rattle.fabric_steps.specs.Fabric.{Fabric};
 ghost use Rattle.fabric_core.specs.declared.config.Config.{Config};
 ghost use Rattle.hall_laws.specs.Rule.{HasConfig};
 ghost use Rattle.hall_core.specs.Views.{SeatView, HallView, RanBy};
 ghost use Rattle.worker_report.specs.Halts.{IsOfMemory};
 ghost use Rattle.worker_report.specs.OneRun.{IsOfOneRun, AreOfSeats};
 
-use fabric_laws::laws::the_trace_belongs;
+use fabric_steps::laws::the_trace_belongs;
 use history_check::laws::explained_is_without_flaw;
 
 /// If all seats of a hall close it, and the records of each requester are those of its seat's calls, these are the records

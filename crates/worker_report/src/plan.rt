@@ -6,7 +6,7 @@ ghost use Rattle.worker_report.specs.Halts.{IsPlan, IsCause};
 
 use crate::halt::RunHalt;
 use fabric_core::{Config, ConfigFault, Fabric};
-use fault_plan::Plan;
+use parameters::Plan;
 use std::alloc::Global;
 use tlp_core::Op;
 

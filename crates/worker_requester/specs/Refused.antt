@@ -1,8 +1,8 @@
 -- Which refusals of a call end the run.
 use Rattle.std.specs.Prelude.{Option, Some, None}
 use Rattle.requester_core.specs.declared.fault.SubmitRefusal.TheVariants.{TagsUsed}
-use Rattle.lane_ends.specs.declared.packet.LaneRefusal.TheVariants as lanes
-use Rattle.fabric_events.specs.declared.fault.Refusal.TheVariants as refusals
+use Rattle.lane_core.specs.declared.packet.LaneRefusal.TheVariants as lanes
+use Rattle.fabric_steps.specs.declared.fault.Refusal.TheVariants as refusals
 use Rattle.hall_events.specs.declared.refusal.HallRefusal.{HallRefusal}
 use Rattle.hall_events.specs.declared.refusal.HallRefusal.TheVariants.{Busy, Core}
 use Rattle.worker_turns.specs.declared.stop.Stop.{Stop}

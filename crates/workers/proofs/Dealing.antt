@@ -5,7 +5,7 @@ use Rattle.std.specs.List.{AllByRecursion as All, flat_map}
 use Rattle.std.proofs.lemmas.List.{length-append}
 use Rattle.std.proofs.lemmas.Grind.{flat_map-append}
 use Rattle.std.proofs.Math.Nat.{suc-mul, mul-suc, mul-le-mul_right, mul_comm, lt_of_not-le}
-use Rattle.fabric_events.specs.declared.event.LaneName.TheVariants as lanes
+use Rattle.fabric_steps.specs.declared.event.LaneName.TheVariants as lanes
 use Rattle.workers.specs.declared.jobs.Job.{Job}
 use Rattle.workers.specs.Jobs.{lane_jobs, port_jobs, middle_jobs, jobs_of, AreShares, AreSingle}
 

@@ -19,7 +19,7 @@ use Rattle.recorder.specs.Rule.{records_by, unbegun, IsWhole}
 use Rattle.worker_requester.specs.declared.requester.Ended.{Ended}
 use Rattle.workers.specs.declared.threads.Keeps.{Keeps}
 use Rattle.worker_requester.specs.Following.{IsUnusedSeat, Finishes}
-use Rattle.fabric_events.specs.declared.event.LaneName.TheVariants as lanes
+use Rattle.fabric_steps.specs.declared.event.LaneName.TheVariants as lanes
 use Rattle.workers.specs.declared.jobs.Job.TheVariants as jobs
 use Rattle.workers.specs.Jobs.{lane_jobs, port_jobs, jobs_of}
 use Rattle.worker_report.specs.OneRun.{AreBelow, AreOfSeats}

@@ -5,10 +5,10 @@ ghost use Rattle.hall_core.specs.Views.{IsSeatOf};
 
 use dllp_core::Class;
 use fabric_core::{LaneName, Refusal, Seen};
-use fault_plan::Plan;
 use hall_core::{Hall, HallRefusal, WorkEvent, WorkSeat};
 use lane_core::{Arrival, DllpKind};
-use link_receiver::Reception;
+use link_replay::Reception;
+use parameters::Plan;
 use worker_turns::{
     COMPLETER, DOWN_LANES, Gate, INWARD_LANE, OUTWARD_LANE, RECEIVERS, SWITCH, Stop, Turns,
     UP_LANES,

@@ -1,7 +1,7 @@
 //! Which jobs share a thread: those of a port's two lanes stay together, and so do those of no port; neighbours on
 //! different threads take turns at each step of a packet.
 ghost use Rattle.std.specs.Prelude.{◌≡◌, ◌<◌, ◌++◌, IfOk, OnOk, map};
-ghost use Rattle.fabric_events.specs.declared.event.LaneName.TheVariants.{Up, Down};
+ghost use Rattle.fabric_steps.specs.declared.event.LaneName.TheVariants.{Up, Down};
 ghost use Rattle.workers.specs.Jobs.{lane_jobs, middle_jobs, jobs_of, AreShares, AreSingle};
 
 use crate::jobs::Job;

@@ -1,8 +1,8 @@
 //! A device beside the digits of its link.
 use arrayvec::ArrayVec;
-use config_space::Setup;
+use config_core::Setup;
 use endpoint_core::Room;
-use fc_credit::LaneCredits;
+use flow_control::LaneCredits;
 use hex_text::HexLine;
 use linked_endpoint::{Arrived, LinkedEndpoint};
 use port_core::DllpReceived;

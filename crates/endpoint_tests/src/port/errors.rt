@@ -1,7 +1,7 @@
 //! A peer that breaks rules.
 use crate::port::session::{enters, refusal, sends, takes};
 use dllp_core::{Class, DllpFault};
-use fc_credit::LaneCredits;
+use flow_control::LaneCredits;
 use port_core::{DllpReceived, DllpRefusal, EnterRefusal, LinkPort, LinkState, Received};
 
 /// Little credit.

@@ -1,7 +1,7 @@
 //! Worked rows of a port that advertises 16, 64, 16, 16 and infinite completions.
 use crate::port::session::{CREDITS, enters, hands_up, initialize, refusal, sends, takes};
 use dllp_core::Class;
-use fc_credit::Need;
+use flow_control::Need;
 use port_core::{
     DllpReceived, EnterRefusal, InitStage, LinkDllp, LinkPort, LinkState, Received, decode, need_at,
 };

@@ -1,6 +1,6 @@
 //! A port beside the bytes of its link.
 use arrayvec::ArrayVec;
-use fc_credit::LaneCredits;
+use flow_control::LaneCredits;
 use port_core::{DllpReceived, EnterRefusal, LinkPort, Outgoing, Received};
 
 /// The credits of an endpoint: completions are infinite.

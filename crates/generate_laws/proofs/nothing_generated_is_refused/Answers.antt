@@ -1,8 +1,8 @@
 use Rattle.std.proofs.Common.{◌≡◌, ◌≢◌, ◌∙◌, ℕ, false, List, [], sym}
-use Rattle.fabric_laws.specs.Fabric.{Fabric}
+use Rattle.fabric_steps.specs.Fabric.{Fabric}
 use Rattle.fabric_core.specs.declared.config.Config.{Config}
-use Rattle.fabric_events.specs.Events.{Event}
-use Rattle.text_lines.specs.Lines.{lines_of}
+use Rattle.fabric_steps.specs.Event.{Event}
+use Rattle.hex_text.specs.Lines.{lines_of}
 use Rattle.step_engine.specs.Script.{IsScript, script_of}
 use Rattle.generate_laws.proofs.Answering.{ends_well}
 use Rattle.generate_laws.proofs.nothing_generated_is_refused.Goals as goal

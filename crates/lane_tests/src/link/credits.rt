@@ -1,5 +1,5 @@
 //! Worked rows of flow control: needs of packets, a gate and a ledger past a wrap of their counters, limits.
-use fc_credit::LaneCredits;
+use flow_control::LaneCredits;
 
 #[test]
 fn limits(rt: HostRuntime) {

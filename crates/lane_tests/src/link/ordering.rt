@@ -1,9 +1,9 @@
 //! Worked rows of transaction ordering.
 use dllp_core::Class;
+use flow_control::{OrderedQueue, may_pass};
 use std::alloc::Global;
 use std::test::Fail;
 use tlp_core::{Tlp, decode};
-use vc_queue::{OrderedQueue, may_pass};
 
 /// Oldest first: a read and a write of requester 0100h, a read of 0200h, two completions for ID 0100h and tag 0, a
 /// write of 0200h.

@@ -1,6 +1,6 @@
 //! Worked rows of a transmitter: its window, replays, Acks and Naks, names of what it refuses.
 use arrayvec::ArrayVec;
-use replay_sender::{AckFault, Cargo, SendRefusal, Sender};
+use link_replay::{AckFault, Cargo, SendRefusal, Sender};
 use seq12::Seq12;
 use std::alloc::Global;
 use std::test::Fail;

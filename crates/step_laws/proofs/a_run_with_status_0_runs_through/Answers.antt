@@ -4,8 +4,8 @@ use Rattle.seq_memory.specs.History.{extent_of}
 use Rattle.seq_memory.specs.Limits.{IsWithinLimits}
 use Rattle.requester_core.specs.RequesterView.{RequesterView}
 use Rattle.history_words.specs.Records.{Record}
-use Rattle.fabric_laws.specs.Fabric.{Fabric}
-use Rattle.text_lines.specs.Lines.{lines_of}
+use Rattle.fabric_steps.specs.Fabric.{Fabric}
+use Rattle.hex_text.specs.Lines.{lines_of}
 use Rattle.trace_text.specs.Tellable.{IsTellable}
 use Rattle.step_engine.specs.Options.{traced}
 use Rattle.step_engine.specs.Script.{Progress, RunsThrough, script_of}

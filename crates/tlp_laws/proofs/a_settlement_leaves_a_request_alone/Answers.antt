@@ -1,5 +1,5 @@
 use Rattle.std.proofs.Common.{◌∷◌, ◌++◌, length, refl}
-use Rattle.fabric_events.specs.declared.event.EventOf.TheVariants.{Submit}
+use Rattle.fabric_steps.specs.declared.event.EventOf.TheVariants.{Submit}
 use Rattle.fabric_core.specs.Kept.{records_of}
 use Rattle.tlp_laws.proofs.Settling.{settlement_runs}
 use Rattle.tlp_laws.proofs.a_settlement_leaves_a_request_alone.Goals as goal

@@ -1,7 +1,7 @@
 use Rattle.std.proofs.Common.{◌≡◌, true, refl, Err}
-use Rattle.fabric_events.specs.declared.fault.Refusal.{Refusal}
+use Rattle.fabric_steps.specs.declared.fault.Refusal.{Refusal}
 use Rattle.fabric_core.specs.Answers.{answer}
-use Rattle.fabric_events.specs.Faults.{IsTold}
+use Rattle.fabric_steps.specs.Faults.{IsTold}
 use Rattle.fabric_settle.specs.Keeping.{IsRecorded}
 use Rattle.c_fabric.specs.SessionView.{KeptView}
 use Rattle.c_fabric.proofs.EventLemmas.{is_step, stays_session, unchanged, fabric_stays, wanted, first_of}

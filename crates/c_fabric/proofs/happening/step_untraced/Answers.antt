@@ -1,7 +1,7 @@
 use Rattle.std.proofs.Common.{◌≡◌, false, Err}
-use Rattle.fabric_events.specs.declared.fault.Refusal.{Refusal}
+use Rattle.fabric_steps.specs.declared.fault.Refusal.{Refusal}
 use Rattle.fabric_core.specs.Answers.{answer}
-use Rattle.fabric_events.specs.Faults.{IsTold}
+use Rattle.fabric_steps.specs.Faults.{IsTold}
 use Rattle.fabric_settle.specs.Keeping.{Never}
 use Rattle.c_fabric.proofs.EventLemmas.{is_untraced, fabric_stays, wanted, first_of}
 use Rattle.c_fabric.proofs.happening.step_untraced.Goals as goal

@@ -1,6 +1,6 @@
 use Rattle.std.proofs.Common.{◌≡◌, true, subst}
 use Rattle.history_words.specs.Trace.{Explains}
-use Rattle.fabric_laws.specs.Fabric.{whole_of}
+use Rattle.fabric_steps.specs.Fabric.{whole_of}
 use Rattle.c_fabric.specs.SessionView.{SessionView, claim}
 use Rattle.c_fabric.proofs.held.explain.Goals as goal
 

@@ -1,5 +1,5 @@
 use Rattle.std.proofs.Common.{arith}
-use Rattle.text_lines.specs.LineFacts.{none-before, none-at-all}
+use Rattle.hex_text.specs.LineFacts.{none-before, none-at-all}
 use Rattle.c_fabric.proofs.ScriptLemmas.{line-feed, line-last}
 use Rattle.c_fabric.proofs.scripts.first_line.Goals as goal
 

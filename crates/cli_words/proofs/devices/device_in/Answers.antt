@@ -1,6 +1,6 @@
 use Rattle.std.proofs.Common.{sym, subst, codes}
 use Rattle.clap.specs.Words.{found_of, first_of, rows_of}
-use Rattle.config_space.specs.SetupView.{SetupView}
+use Rattle.config_core.specs.SetupView.{SetupView}
 use Rattle.cli_values.specs.Endpoints.{WritesId, WritesSize}
 use Rattle.cli_words.proofs.devices.device_in.Goals as goal
 

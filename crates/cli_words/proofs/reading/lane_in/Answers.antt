@@ -2,7 +2,7 @@ use Rattle.std.proofs.Common.{◌∙◌, ap, subst, codes, Option, IfOk, OnErr, 
 use Rattle.std.proofs.lemmas.Result.{IfErr-weaker}
 use Rattle.clap.specs.Words.{found_of, Text}
 use Rattle.clap.proofs.WalkLemmas.{first_value-rows}
-use Rattle.fabric_events.specs.declared.event.LaneName.{LaneName}
+use Rattle.fabric_steps.specs.declared.event.LaneName.{LaneName}
 use Rattle.cli_options.specs.declared.refused.RefusedValue.{RefusedValue}
 use Rattle.cli_values.specs.Lanes.{WritesLane}
 use Rattle.cli_words.proofs.reading.lane_in.Goals as goal

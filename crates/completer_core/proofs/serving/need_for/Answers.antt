@@ -1,5 +1,5 @@
 use Rattle.std.proofs.Common.{Some, sym, ◌∙◌, ap}
-use Rattle.fc_credit.specs.Needs.{completion_need}
+use Rattle.flow_control.specs.Needs.{completion_need}
 use Rattle.completer_core.proofs.Shapes.{served_need}
 use Rattle.completer_core.proofs.serving.need_for.Goals as goal
 

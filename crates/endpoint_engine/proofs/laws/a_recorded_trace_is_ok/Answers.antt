@@ -1,7 +1,7 @@
 use Rattle.std.proofs.Common.{◌≡◌, Ok, true}
 use Rattle.history_words.specs.Clocks.{IsClocked}
 use Rattle.history_words.specs.Trace.{Explains}
-use Rattle.config_space.specs.SetupView.{SetupView, is_size}
+use Rattle.config_core.specs.SetupView.{SetupView, is_size}
 use Rattle.endpoint_core.specs.EndpointView.{EndpointView}
 use Rattle.endpoint_log.specs.LogView.{LogView}
 use Rattle.trace_text.specs.Tellable.{IsTellable}

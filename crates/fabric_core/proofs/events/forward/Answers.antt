@@ -3,7 +3,7 @@ use Rattle.fabric_core.proofs.Entering.{enters_on, item_is, ok_is}
 use Rattle.fabric_core.specs.Answers.{and_then, map_ok, enter_on}
 use Rattle.tlp_core.specs.TlpView.{TlpView}
 use Rattle.tlp_core.specs.Layout.{Spells, canonical}
-use Rattle.lane_ends.specs.Steps.{ReceiverEndView, after_take}
+use Rattle.lane_core.specs.Steps.{ReceiverEndView, after_take}
 use Rattle.fabric_core.proofs.events.forward.Goals as goal
 
 pub returns-in-Ok-clause-answers : goal.returns-in-Ok-clause-answers

@@ -1,8 +1,8 @@
 use Rattle.std.proofs.Common.{◌≡◌, ◌++◌, ◌∷◌, [], List, length, sym, ap, subst, ◌∙◌, Result, Ok, Err}
 use Rattle.history_words.specs.Records.{Record}
-use Rattle.fabric_laws.specs.Fabric.{Fabric}
-use Rattle.fabric_events.specs.Events.{Event, Seen}
-use Rattle.fabric_events.specs.declared.fault.Refusal.{Refusal}
+use Rattle.fabric_steps.specs.Fabric.{Fabric}
+use Rattle.fabric_steps.specs.Event.{Event, Seen}
+use Rattle.fabric_steps.specs.declared.fault.Refusal.{Refusal}
 use Rattle.fabric_core.specs.Kept.{records_of}
 use Rattle.fabric_core.specs.Runs.{Runs}
 use Rattle.fabric_core.proofs.laws.a_list_of_events_has_one_run.Goals as goal

@@ -1,9 +1,9 @@
 use Rattle.std.proofs.Common.{◌++◌}
 use Rattle.history_words.specs.Records.{Record}
 use Rattle.std.proofs.Common.{List}
-use Rattle.fabric_laws.specs.Fabric.{Fabric, whole_of}
-use Rattle.fabric_laws.specs.Trace.{Belongs}
-use Rattle.fabric_events.specs.Events.{Event}
+use Rattle.fabric_steps.specs.Fabric.{Fabric, whole_of}
+use Rattle.fabric_steps.specs.Trace.{Belongs}
+use Rattle.fabric_steps.specs.Event.{Event}
 use Rattle.fabric_core.specs.Kept.{IsSoundFabric}
 use Rattle.fabric_core.specs.Runs.{Runs}
 use Rattle.fabric_core.proofs.Counted.{runs_sound}

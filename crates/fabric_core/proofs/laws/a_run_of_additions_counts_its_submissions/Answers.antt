@@ -3,9 +3,9 @@ use Rattle.tlp_core.specs.Ops.{Op}
 use Rattle.tlp_core.specs.declared.operation.OpOf.TheVariants as ops
 use Rattle.tlp_core.specs.Operation.{size_of}
 use Rattle.history_words.specs.Trace.{submissions}
-use Rattle.fabric_laws.specs.Fabric.{whole_of}
-use Rattle.fabric_laws.specs.Lists.{Each}
-use Rattle.fabric_laws.specs.Trace.{submitted_by}
+use Rattle.fabric_steps.specs.Fabric.{whole_of}
+use Rattle.fabric_steps.specs.Lists.{Each}
+use Rattle.fabric_steps.specs.Trace.{submitted_by}
 use Rattle.fabric_core.proofs.Counted.{runs_sound, all_one, none_more}
 use Rattle.fabric_core.proofs.Runs.{Each as EachEvent, run_of}
 use Rattle.fabric_core.proofs.laws.a_run_of_additions_counts_its_submissions.Goals as goal

@@ -1,5 +1,5 @@
 use Rattle.std.proofs.Common.{arith}
-use Rattle.lane_ends.specs.Steps.{IsShort}
+use Rattle.lane_core.specs.Steps.{IsShort}
 use Rattle.fabric_core.proofs.Still.{each_more, each_of_all}
 use Rattle.fabric_core.proofs.parts.are_short.Goals as goal
 

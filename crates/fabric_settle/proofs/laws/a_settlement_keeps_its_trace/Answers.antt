@@ -2,8 +2,8 @@ use Rattle.std.proofs.Common.{◌≡◌, ◌∙◌, ◌++◌, List, sym, subst}
 use Rattle.history_words.specs.Records.{Record}
 use Rattle.history_words.specs.Clocks.{KeepsRealTimeOrder}
 use Rattle.history_words.specs.Trace.{Explains}
-use Rattle.fabric_laws.specs.Fabric.{Fabric, whole_of}
-use Rattle.fabric_laws.specs.Trace.{Belongs}
+use Rattle.fabric_steps.specs.Fabric.{Fabric, whole_of}
+use Rattle.fabric_steps.specs.Trace.{Belongs}
 use Rattle.fabric_settle.specs.Keeping.{IsLossless, Never, events_of, with_record}
 use Rattle.fabric_settle.specs.Reached.{Reached}
 use Rattle.fabric_settle.proofs.TraceLemmas.{IsRun, is_run}

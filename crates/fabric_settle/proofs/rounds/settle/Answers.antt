@@ -1,7 +1,7 @@
 use Rattle.std.proofs.Common.{◌≡◌, [], refl, sym, ap, subst}
 use Rattle.fabric_core.specs.Quiet.{IsQuiet}
-use Rattle.fabric_hops.specs.Hops.{AreFlushed}
-use Rattle.fabric_rounds.specs.Rounds.{Settling, settlement}
+use Rattle.fabric_settle.specs.Hops.{AreFlushed}
+use Rattle.fabric_settle.specs.Rounds.{Settling, settlement}
 use Rattle.fabric_settle.proofs.AnsweredLemmas.{none_waits}
 use Rattle.fabric_settle.proofs.rounds.settle.Goals as goal
 

@@ -1,6 +1,6 @@
 use Rattle.std.proofs.Common.{◌≡◌, ◌≤◌, false, refl, arith}
 use Rattle.fabric_settle.specs.Keeping.{IsLossless}
-use Rattle.fabric_rounds.specs.Rounds.{goes}
+use Rattle.fabric_settle.specs.Rounds.{goes}
 use Rattle.fabric_settle.proofs.RoundLemmas.{none_yet, one_more, all_done}
 use Rattle.fabric_settle.proofs.ReachedLemmas.{still, then}
 use Rattle.fabric_settle.proofs.turns.all.Goals as goal

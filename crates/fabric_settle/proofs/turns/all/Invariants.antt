@@ -1,7 +1,7 @@
 use Rattle.fabric_settle.specs.Doing.{Does}
 use Rattle.fabric_settle.specs.Keeping.{IsLossless}
 use Rattle.fabric_settle.specs.Reached.{Reached}
-use Rattle.fabric_rounds.specs.Rounds.{times}
+use Rattle.fabric_settle.specs.Rounds.{times}
 use Rattle.fabric_settle.proofs.turns.all.Given as goal
 
 abbrev pub invariant-loop-count : goal.invariant-loop-count

@@ -1,7 +1,7 @@
 use Rattle.std.proofs.Common.{◌≡◌, ◌∙◌, sym, subst, Err}
-use Rattle.fabric_events.specs.Events.{Event}
+use Rattle.fabric_steps.specs.Event.{Event}
 use Rattle.fabric_core.specs.Answers.{answer}
-use Rattle.fabric_rounds.specs.Rounds.{is_move}
+use Rattle.fabric_settle.specs.Rounds.{is_move}
 use Rattle.fabric_settle.proofs.RoundLemmas.{of_event, does_happen, does_stay, goes_on, refused_goes, moved_before, moved_now}
 use Rattle.fabric_settle.proofs.turns.once.Goals as goal
 

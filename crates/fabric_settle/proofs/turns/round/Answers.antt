@@ -1,9 +1,9 @@
 use Rattle.std.proofs.Common.{◌≡◌, ℕ, ◌<◌, false, length, take, refl, subst, arith}
 use Rattle.std.specs.Prelude.{fold}
 use Rattle.std.proofs.lemmas.Result.{on_ok_weaker}
-use Rattle.fabric_events.specs.declared.event.LaneName.TheVariants as lanes
+use Rattle.fabric_steps.specs.declared.event.LaneName.TheVariants as lanes
 use Rattle.fabric_settle.specs.Doing.{Does}
-use Rattle.fabric_rounds.specs.Rounds.{lane_turn, all_lanes}
+use Rattle.fabric_settle.specs.Rounds.{lane_turn, all_lanes}
 use Rattle.fabric_settle.proofs.RoundLemmas.{next_item, round_done}
 use Rattle.fabric_settle.proofs.ReachedLemmas.{then}
 use Rattle.fabric_settle.proofs.turns.round.Goals as goal

@@ -3,7 +3,7 @@ use Rattle.std.specs.Prelude.{fold}
 use Rattle.fabric_settle.specs.Doing.{Does}
 use Rattle.fabric_settle.specs.Keeping.{IsLossless}
 use Rattle.fabric_settle.specs.Reached.{Reached}
-use Rattle.fabric_rounds.specs.Rounds.{lane_turn, all_lanes}
+use Rattle.fabric_settle.specs.Rounds.{lane_turn, all_lanes}
 use Rattle.fabric_settle.proofs.turns.round.Given as goal
 
 abbrev pub invariant-loop-lane : goal.invariant-loop-lane

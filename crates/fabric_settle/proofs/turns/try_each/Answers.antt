@@ -1,6 +1,6 @@
 use Rattle.std.proofs.Common.{◌≡◌, get_or}
-use Rattle.fabric_rounds.specs.declared.attempts.Attempt.TheVariants as attempts
-use Rattle.fabric_rounds.specs.Rounds.{attempted}
+use Rattle.fabric_settle.specs.declared.attempt.Attempt.TheVariants as attempts
+use Rattle.fabric_settle.specs.Rounds.{attempted}
 use Rattle.fabric_settle.proofs.RoundLemmas.{next_item, again}
 use Rattle.fabric_settle.proofs.ReachedLemmas.{then, at_last}
 use Rattle.std.specs.Prelude.{fold}

@@ -3,7 +3,7 @@ use Rattle.std.specs.Prelude.{fold}
 use Rattle.fabric_settle.specs.Doing.{Does}
 use Rattle.fabric_settle.specs.Keeping.{IsLossless}
 use Rattle.fabric_settle.specs.Reached.{Reached}
-use Rattle.fabric_rounds.specs.Rounds.{attempted}
+use Rattle.fabric_settle.specs.Rounds.{attempted}
 use Rattle.fabric_settle.proofs.turns.try_each.Given as goal
 
 abbrev pub invariant-loop-attempt : goal.invariant-loop-attempt

@@ -1,5 +1,5 @@
 use Rattle.std.proofs.Common.{◌++◌}
-use Rattle.fabric_laws.specs.Fabric.{whole_of}
+use Rattle.fabric_steps.specs.Fabric.{whole_of}
 use Rattle.hall_core.proofs.laws.what_threads_did_is_linearizable.Goals as goal
 
 pub returns : goal.returns

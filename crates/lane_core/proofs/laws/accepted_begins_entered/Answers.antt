@@ -1,4 +1,4 @@
-use Rattle.lane_ends.specs.Steps.{new_lane}
+use Rattle.lane_core.specs.Steps.{new_lane}
 use Rattle.lane_core.specs.Calls.{after_calls, on_the_way}
 use Rattle.lane_core.proofs.Sound.{accepted_rest}
 use Rattle.lane_core.proofs.laws.accepted_begins_entered.Goals as goal

@@ -1,4 +1,4 @@
-use Rattle.lane_ends.specs.Steps.{new_lane}
+use Rattle.lane_core.specs.Steps.{new_lane}
 use Rattle.lane_core.specs.Calls.{after_calls}
 use Rattle.lane_core.proofs.Windows.{within, sent_is_kept}
 use Rattle.lane_core.proofs.Numbered.{sent_under_its_number}

@@ -1,5 +1,5 @@
 use Rattle.std.proofs.Common.{◌≡◌, ℕ, List, ◌++◌, map, sym, subst, ap, ◌∙◌}
-use Rattle.link_receiver.specs.Runs.{AreConsecutive}
+use Rattle.link_replay.specs.ReceiverRuns.{AreConsecutive}
 use Rattle.port_core.specs.declared.port.Outgoing.TheVariants as sends
 use Rattle.port_core.specs.Port.{PortView, outgoing_of, outgoing_bytes}
 use Rattle.port_core.specs.Runs.{IsEntered}

@@ -1,6 +1,6 @@
 use Rattle.std.proofs.Common.{◌%◌, List, length, sym, ap, ◌∙◌}
-use Rattle.replay_sender.specs.CargoView.{CargoView}
-use Rattle.replay_sender.specs.SenderView.{SenderView, next_number}
+use Rattle.link_replay.specs.CargoView.{CargoView}
+use Rattle.link_replay.specs.SenderView.{SenderView, next_number}
 use Rattle.port_core.specs.Port.{new_port, choice_of}
 use Rattle.port_core.specs.Runs.{story_of, story_in}
 use Rattle.port_core.proofs.Stories.{new-story, calls-story}

@@ -1,10 +1,10 @@
 use Rattle.std.proofs.Common.{ℕ, ◌+◌, ◌%◌, List, length, sym, subst, ap, ◌∙◌, arith, zero-add}
 use Rattle.std.proofs.lemmas.List.{length-map}
-use Rattle.link_receiver.specs.ReceiverView.{ReceiverView, fresh}
-use Rattle.link_receiver.specs.Runs.{AreConsecutive}
-use Rattle.replay_sender.specs.CargoView.{CargoView}
-use Rattle.replay_sender.specs.SenderView.{SenderView, fresh as fresh_sender}
-use Rattle.replay_sender.specs.Runs.{KeepsTheLast, after_calls}
+use Rattle.link_replay.specs.ReceiverView.{ReceiverView, fresh}
+use Rattle.link_replay.specs.ReceiverRuns.{AreConsecutive}
+use Rattle.link_replay.specs.CargoView.{CargoView}
+use Rattle.link_replay.specs.SenderView.{SenderView, fresh as fresh_sender}
+use Rattle.link_replay.specs.Runs.{KeepsTheLast, after_calls}
 use Rattle.port_core.specs.Port.{new_port}
 use Rattle.port_core.specs.Runs.{story_of, story_in}
 use Rattle.port_core.proofs.Longer.{numbers_of}

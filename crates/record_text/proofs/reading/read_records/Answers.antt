@@ -2,8 +2,8 @@ use Rattle.std.proofs.Common.{true, false, ◌≡◌, ◌∙◌, ◌++◌, ◌+�
 use Rattle.std.specs.Prelude.{◌==◌, IfOk, IfErr}
 use Rattle.std.proofs.lemmas.Bool.{eqb-true}
 use Rattle.std.proofs.lemmas.Grind.{common_steps}
-use Rattle.text_lines.specs.Lines.{lines_of}
-use Rattle.text_lines.specs.LineFacts.{none-before, none-at-all}
+use Rattle.hex_text.specs.Lines.{lines_of}
+use Rattle.hex_text.specs.LineFacts.{none-before, none-at-all}
 use Rattle.record_text.specs.declared.fault.Misread.{Misread}
 use Rattle.record_text.specs.Grammar.{Grammar}
 use Rattle.record_text.specs.RecordReaderView.{RecordReaderView, reading_of, Tells, at_end}

@@ -1,6 +1,6 @@
 use Rattle.std.proofs.Common.{◌+◌, drop, arith, length-drop}
 use Rattle.std.proofs.lemmas.List.{take_all}
-use Rattle.text_lines.specs.LineFacts.{none-before, none-at-all}
+use Rattle.hex_text.specs.LineFacts.{none-before, none-at-all}
 use Rattle.search_reasons.proofs.LineLemmas.{said-behind, said-none}
 use Rattle.search_reasons.proofs.telling.next_line.Goals as goal
 

@@ -1,5 +1,5 @@
 use Rattle.std.proofs.Common.{◌∙◌, sym}
-use Rattle.endpoint_packets.specs.Classes.{becomes}
+use Rattle.endpoint_core.specs.Classes.{becomes}
 use Rattle.c_recording.proofs.Recordings.{stays}
 use Rattle.c_recording.proofs.recording.Recording.come.Goals as goal
 

@@ -1,6 +1,6 @@
 use Rattle.std.proofs.Common.{◌∙◌, List, ℕ, sym, ap, Some}
 use Rattle.std.specs.Prelude.{option_map}
-use Rattle.fabric_laws.specs.Fabric.{Fabric}
+use Rattle.fabric_steps.specs.Fabric.{Fabric}
 use Rattle.fabric_core.specs.Answers.{answer}
 use Rattle.chart_engine.specs.ChartWitnessView.{ChartWitnessView}
 use Rattle.chart_engine.specs.Chart.{CharterView, session, next_line, left_by}

@@ -1,6 +1,6 @@
 use Rattle.std.proofs.Common.{◌+◌, ◌++◌, subst, sym, arith}
-use Rattle.fabric_laws.specs.Fabric.{Fabric}
-use Rattle.storm_events.specs.Choice.{ChooserView}
+use Rattle.fabric_steps.specs.Fabric.{Fabric}
+use Rattle.generate_engine.specs.Choice.{ChooserView}
 use Rattle.generate_engine.specs.Script.{IsUnderWay, BeginsScript}
 use Rattle.generate_engine.proofs.Scripts.{begins-all, begins-part, on_err, either}
 use Rattle.generate_engine.proofs.generator.Generator.advance.Goals as goal

@@ -1,6 +1,6 @@
 use Rattle.std.proofs.Common.{[], sym, subst}
-use Rattle.storm_events.specs.Arrivals.{IsAfter}
-use Rattle.storm_events.specs.Choice.{ChooserView}
+use Rattle.generate_engine.specs.Arrivals.{IsAfter}
+use Rattle.generate_engine.specs.Choice.{ChooserView}
 use Rattle.generate_engine.proofs.Scripts.{script-new}
 use Rattle.generate_engine.proofs.generator.Generator.new.Goals as goal
 

@@ -1,7 +1,7 @@
 use Rattle.std.proofs.Common.{rules, ◌≡◌, List, ◌++◌, ◌∙◌, subst}
-use Rattle.fabric_laws.specs.Fabric.{Fabric}
+use Rattle.fabric_steps.specs.Fabric.{Fabric}
 use Rattle.hall_laws.specs.declared.token.Token.{Token}
-use Rattle.hall_assembly.specs.Opens.{AllRan}
+use Rattle.hall_core.specs.Opens.{AllRan}
 use Rattle.hall_core.specs.Views.{SeatView}
 use Rattle.hall_core.proofs.Joined.{at_table, first_fits, all_ran, all_leave, each_ok}
 use Rattle.hall_core.proofs.hall.Hall.close_all.Goals as goal

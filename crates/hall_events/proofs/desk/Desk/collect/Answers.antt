@@ -2,10 +2,10 @@ use Rattle.std.proofs.Common.{rules, ◌≡◌, ◌+◌, ℕ, suc, List, [], ◌
 use Rattle.seq_memory.specs.Entries.{Entry}
 use Rattle.seq_memory.specs.History.{MemoryView}
 use Rattle.requester_core.specs.RequesterView.{RequesterView}
-use Rattle.lane_ends.specs.Steps.{ReceiverEndView}
-use Rattle.fabric_events.specs.declared.event.EventOf.TheVariants.{Collect}
-use Rattle.fabric_events.specs.declared.event.LaneName.TheVariants.{Down}
-use Rattle.fabric_events.specs.declared.event.SeenOf.TheVariants.{Collected}
+use Rattle.lane_core.specs.Steps.{ReceiverEndView}
+use Rattle.fabric_steps.specs.declared.event.EventOf.TheVariants.{Collect}
+use Rattle.fabric_steps.specs.declared.event.LaneName.TheVariants.{Down}
+use Rattle.fabric_steps.specs.declared.event.SeenOf.TheVariants.{Collected}
 use Rattle.hall_laws.specs.declared.part.Part.{Part}
 use Rattle.hall_laws.specs.declared.part.Part.TheVariants as parts
 use Rattle.hall_laws.specs.declared.part.PartValue.TheVariants.{Memory, Requester, Receiver}

@@ -1,6 +1,6 @@
 use Rattle.std.proofs.Common.{[], ◌∷◌}
-use Rattle.fabric_events.specs.declared.event.EventOf.TheVariants.{Collect}
-use Rattle.fabric_events.specs.declared.event.SeenOf.TheVariants.{Collected}
+use Rattle.fabric_steps.specs.declared.event.EventOf.TheVariants.{Collect}
+use Rattle.fabric_steps.specs.declared.event.SeenOf.TheVariants.{Collected}
 use Rattle.hall_laws.specs.Standing.{token_of}
 use Rattle.hall_laws.specs.Rule.{after_event, history_in}
 use Rattle.hall_events.specs.Desks.{entry}

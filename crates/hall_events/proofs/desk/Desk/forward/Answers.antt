@@ -1,8 +1,8 @@
 use Rattle.std.proofs.Common.{rules, ◌≡◌, ◌≢◌, ◌+◌, ℕ, List, [], ◌∷◌, inl, refl, sym, subst, ap, ◌∙◌}
-use Rattle.lane_ends.specs.Steps.{ReceiverEndView, SenderEndView}
-use Rattle.fabric_events.specs.declared.event.EventOf.TheVariants.{Forward}
-use Rattle.fabric_events.specs.declared.event.LaneName.{LaneName}
-use Rattle.fabric_events.specs.declared.event.SeenOf.TheVariants.{To}
+use Rattle.lane_core.specs.Steps.{ReceiverEndView, SenderEndView}
+use Rattle.fabric_steps.specs.declared.event.EventOf.TheVariants.{Forward}
+use Rattle.fabric_steps.specs.declared.event.LaneName.{LaneName}
+use Rattle.fabric_steps.specs.declared.event.SeenOf.TheVariants.{To}
 use Rattle.hall_laws.specs.declared.part.Part.{Part}
 use Rattle.hall_laws.specs.declared.part.Part.TheVariants as parts
 use Rattle.hall_laws.specs.declared.part.PartValue.{PartValue}

@@ -1,5 +1,5 @@
-use Rattle.fabric_events.specs.declared.event.EventOf.TheVariants.{Forward}
-use Rattle.fabric_events.specs.declared.event.SeenOf.TheVariants.{To}
+use Rattle.fabric_steps.specs.declared.event.EventOf.TheVariants.{Forward}
+use Rattle.fabric_steps.specs.declared.event.SeenOf.TheVariants.{To}
 use Rattle.hall_laws.specs.Rule.{with_done}
 use Rattle.hall_laws.specs.Standing.{token_of}
 use Rattle.hall_events.proofs.desk.Desk.forward.Given as goal

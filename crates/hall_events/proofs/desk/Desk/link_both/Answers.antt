@@ -1,5 +1,5 @@
 use Rattle.std.proofs.Common.{rules, ◌≡◌, ◌≢◌, ◌+◌, ℕ, List, [], ◌∷◌, inl, refl, sym, subst, ap, ◌∙◌}
-use Rattle.fabric_events.specs.declared.fault.Refusal.TheVariants.{Idle}
+use Rattle.fabric_steps.specs.declared.fault.Refusal.TheVariants.{Idle}
 use Rattle.hall_laws.specs.declared.part.Part.{Part}
 use Rattle.hall_laws.specs.declared.part.PartValue.{PartValue}
 use Rattle.hall_laws.specs.declared.token.Token.{Token}

@@ -1,9 +1,9 @@
 use Rattle.std.proofs.Common.{rules, ◌≡◌, ℕ, List, [], ◌∷◌, inl, refl, sym, subst, ap, ◌∙◌}
-use Rattle.lane_ends.specs.Steps.{ReceiverEndView, SenderEndView}
+use Rattle.lane_core.specs.Steps.{ReceiverEndView, SenderEndView}
 use Rattle.seq_memory.specs.History.{MemoryView}
-use Rattle.fabric_events.specs.declared.event.EventOf.TheVariants.{Serve}
-use Rattle.fabric_events.specs.declared.event.LaneName.TheVariants.{Inward, Outward}
-use Rattle.fabric_events.specs.declared.event.SeenOf.TheVariants.{At}
+use Rattle.fabric_steps.specs.declared.event.EventOf.TheVariants.{Serve}
+use Rattle.fabric_steps.specs.declared.event.LaneName.TheVariants.{Inward, Outward}
+use Rattle.fabric_steps.specs.declared.event.SeenOf.TheVariants.{At}
 use Rattle.hall_laws.specs.declared.part.Part.{Part}
 use Rattle.hall_laws.specs.declared.part.Part.TheVariants as parts
 use Rattle.hall_laws.specs.declared.part.PartValue.TheVariants.{Memory, Sender, Receiver}

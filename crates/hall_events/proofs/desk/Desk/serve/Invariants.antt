@@ -1,6 +1,6 @@
 use Rattle.std.proofs.Common.{[], ◌∷◌}
-use Rattle.fabric_events.specs.declared.event.EventOf.TheVariants.{Serve}
-use Rattle.fabric_events.specs.declared.event.SeenOf.TheVariants.{At}
+use Rattle.fabric_steps.specs.declared.event.EventOf.TheVariants.{Serve}
+use Rattle.fabric_steps.specs.declared.event.SeenOf.TheVariants.{At}
 use Rattle.hall_laws.specs.Rule.{with_done}
 use Rattle.hall_laws.specs.Standing.{token_of}
 use Rattle.hall_laws.specs.Calls.{serving_also}

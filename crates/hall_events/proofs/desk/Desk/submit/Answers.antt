@@ -3,11 +3,11 @@ use Rattle.tlp_core.specs.Ops.{Op}
 use Rattle.seq_memory.specs.Entries.{Entry}
 use Rattle.seq_memory.specs.History.{MemoryView}
 use Rattle.requester_core.specs.RequesterView.{RequesterView}
-use Rattle.lane_ends.specs.Steps.{SenderEndView}
+use Rattle.lane_core.specs.Steps.{SenderEndView}
 use Rattle.fabric_core.specs.Answers.{submit_on, SubmitFits, Refuses, lane_grows}
-use Rattle.fabric_events.specs.declared.event.EventOf.TheVariants.{Submit}
-use Rattle.fabric_events.specs.declared.event.LaneName.TheVariants.{Up}
-use Rattle.fabric_events.specs.declared.event.SeenOf.TheVariants.{Submitted}
+use Rattle.fabric_steps.specs.declared.event.EventOf.TheVariants.{Submit}
+use Rattle.fabric_steps.specs.declared.event.LaneName.TheVariants.{Up}
+use Rattle.fabric_steps.specs.declared.event.SeenOf.TheVariants.{Submitted}
 use Rattle.hall_laws.specs.declared.part.Part.{Part}
 use Rattle.hall_laws.specs.declared.part.Part.TheVariants as parts
 use Rattle.hall_laws.specs.declared.part.PartValue.TheVariants.{Memory, Requester, Sender}

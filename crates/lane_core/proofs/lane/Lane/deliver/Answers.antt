@@ -1,6 +1,6 @@
 use Rattle.std.proofs.Common.{◌≡◌, List, refl}
-use Rattle.lane_ends.specs.declared.packet.WirePacket.{WirePacket}
-use Rattle.lane_ends.specs.Steps.{ReceiverEndView, all_but_first, after_deliver}
+use Rattle.lane_core.specs.declared.packet.WirePacket.{WirePacket}
+use Rattle.lane_core.specs.Steps.{ReceiverEndView, all_but_first, after_deliver}
 use Rattle.lane_core.specs.Calls.{Deliver, IsRight, content}
 use Rattle.lane_core.proofs.Kept.{both_or, right_by, accepts_when, content_delivered}
 use Rattle.lane_core.proofs.lane.Lane.deliver.Goals as goal

@@ -1,6 +1,6 @@
 use Rattle.std.proofs.Common.{◌≤◌, arith}
-use Rattle.fc_credit.specs.Needs.{need_of}
-use Rattle.lane_ends.specs.Steps.{SenderEndView, entered}
+use Rattle.flow_control.specs.Needs.{need_of}
+use Rattle.lane_core.specs.Steps.{SenderEndView, entered}
 use Rattle.lane_core.specs.Calls.{IsRight}
 use Rattle.lane_core.proofs.Kept.{ok_or, of_ok, when_entered, right_entered, enters}
 use Rattle.lane_core.proofs.Whole.{no_room}

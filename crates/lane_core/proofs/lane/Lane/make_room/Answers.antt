@@ -1,4 +1,4 @@
-use Rattle.lane_ends.specs.Steps.{SenderEndView, with_room}
+use Rattle.lane_core.specs.Steps.{SenderEndView, with_room}
 use Rattle.lane_core.specs.Calls.{IsRight}
 use Rattle.lane_core.proofs.Kept.{ok_or, of_ok, right_room, makes_room}
 use Rattle.lane_core.proofs.Whole.{no_room}

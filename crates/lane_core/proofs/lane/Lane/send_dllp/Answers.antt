@@ -1,6 +1,6 @@
 use Rattle.std.proofs.Common.{List}
 use Rattle.dllp_core.specs.declared.packet.Dllp.{Dllp}
-use Rattle.lane_ends.specs.Steps.{ReceiverEndView, after_send, wire_after_send}
+use Rattle.lane_core.specs.Steps.{ReceiverEndView, after_send, wire_after_send}
 use Rattle.lane_core.specs.Calls.{SendDllp, IsRight}
 use Rattle.lane_core.proofs.Kept.{both_or, right_by}
 use Rattle.lane_core.proofs.lane.Lane.send_dllp.Goals as goal

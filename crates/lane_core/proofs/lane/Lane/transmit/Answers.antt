@@ -1,6 +1,6 @@
 use Rattle.std.proofs.Common.{List}
-use Rattle.lane_ends.specs.declared.packet.WirePacket.{WirePacket}
-use Rattle.lane_ends.specs.Steps.{SenderEndView, after_transmission, wire_after_transmit}
+use Rattle.lane_core.specs.declared.packet.WirePacket.{WirePacket}
+use Rattle.lane_core.specs.Steps.{SenderEndView, after_transmission, wire_after_transmit}
 use Rattle.lane_core.specs.Calls.{Transmit, IsRight}
 use Rattle.lane_core.proofs.Kept.{both_or, right_by}
 use Rattle.lane_core.proofs.lane.Lane.transmit.Goals as goal

@@ -2,7 +2,7 @@ use Rattle.std.proofs.Common.{◌≡◌, ◌∙◌, ◌++◌, ◌+◌, ◌-◌, 
 use Rattle.std.proofs.lemmas.Grind.{common_steps}
 use Rattle.line_loop.specs.Run.{IsBeginning, run_of}
 use Rattle.line_loop.specs.Engine.{Stands}
-use Rattle.text_lines.specs.LineFacts.{none-before, none-at-all, cut-at}
+use Rattle.hex_text.specs.LineFacts.{none-before, none-at-all, cut-at}
 use Rattle.line_loop.proofs.LineLemmas.{on_err, stands-begins, stands-feed, stands-keep}
 use Rattle.line_loop.proofs.engine.Engine.feed.Goals as goal
 

@@ -2,7 +2,7 @@ use Rattle.std.proofs.Common.{rules, ◌≡◌, ◌∙◌, List, ℕ, false, ref
 use Rattle.std.specs.Prelude.{is_some}
 use Rattle.std.proofs.lemmas.List.{append-nil}
 use Rattle.fabric_core.specs.New.{new_fabric, config_fault}
-use Rattle.fabric_laws.specs.Fabric.{Fabric}
+use Rattle.fabric_steps.specs.Fabric.{Fabric}
 use Rattle.line_loop.specs.declared.verdict.Verdict.TheVariants as verdicts
 use Rattle.line_loop.specs.Run.{IsAnswer}
 use Rattle.step_engine.specs.Step.{StepperView, next_line, made, made_once}

@@ -1,2 +1,0 @@
-pub mod Call
-pub use Rattle.c_buffer.specs.Buffer

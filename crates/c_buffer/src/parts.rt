@@ -1,0 +1,40 @@
+//! A `Box` by its pointer and its allocator, for handles that stand outside Rattle.
+ghost use Rattle.std.specs.Prelude.{◌≡◌};
+ghost use Rattle.std.specs.Box.Ownership.{box_owns};
+
+use std::alloc::Allocator;
+use std::marker::Model;
+
+/// A box taken apart. It owns what the box owned: the value, and the right to free its block. Where
+/// it is dropped, neither is freed.
+pub struct Parts<T, A: Allocator> {
+    /// Where the value is.
+    pub ptr: *mut T,
+    /// What its block came from.
+    pub alloc: A,
+    pub ghost value: { T },
+}
+
+impl<T, A: Allocator> Model for Parts<T, A> {
+    ghost also_owns = { λ p. box_owns (A.dealloc_token p.alloc) T.row p.ptr p.value };
+}
+
+impl<T, A: Allocator> Parts<T, A> {
+    /// Takes the box apart.
+    pub fn of(b: Box<T, A>) -> Parts<T, A>
+    where
+        T: Drop,
+        ensures { result.value ≡ b.value }
+    {
+        let (ptr, alloc) = Box::into_raw_with_allocator(b);
+        Parts { ptr, alloc }
+    }
+
+    /// The box again.
+    pub fn into_box(self) -> Box<T, A>
+        ensures { result.value ≡ self.value }
+    {
+        let Parts { ptr, alloc } = self;
+        unsafe { Box::from_raw(alloc, ptr) }
+    }
+}

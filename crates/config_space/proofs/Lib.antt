@@ -1,4 +1,0 @@
-pub mod Bits
-pub mod Table
-pub mod Writes
-pub mod Kept

@@ -1,4 +1,0 @@
-pub mod SetupView
-pub mod RegistersView
-pub mod Registers
-pub mod Changes

@@ -1,2 +1,0 @@
-pub mod DescriptorView
-pub mod Classes

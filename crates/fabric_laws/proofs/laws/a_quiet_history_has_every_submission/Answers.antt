@@ -1,5 +1,0 @@
-use Rattle.fabric_laws.proofs.Totals.{quiet_total}
-use Rattle.fabric_laws.proofs.laws.a_quiet_history_has_every_submission.Goals as goal
-
-pub returns : goal.returns
-returns c = quiet_total

@@ -1,6 +1,0 @@
-use Rattle.fabric_laws.proofs.Legal.{legal}
-use Rattle.fabric_laws.proofs.Submitted.{legal_history}
-use Rattle.fabric_laws.proofs.laws.the_history_is_legal.Goals as goal
-
-pub returns : goal.returns
-returns c = record { legal = legal; always = legal_history }

@@ -1,0 +1,14 @@
+pub mod Events
+pub mod Expected
+pub mod Fabric
+pub mod ListFacts
+pub mod Lists
+pub mod New
+pub mod Packets
+pub mod Routed
+pub mod Sound
+pub mod Steps
+pub mod Trace
+pub mod Whole
+pub mod Event
+pub mod Faults

@@ -1,5 +1,0 @@
-use Rattle.fc_credit.proofs.Runs.{credit_right, credit_known}
-use Rattle.fc_credit.proofs.laws.an_account_is_right.Goals as goal
-
-pub returns : goal.returns
-returns c = record { right = credit_right; all_known = credit_known }

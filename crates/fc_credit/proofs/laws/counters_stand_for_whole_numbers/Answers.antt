@@ -1,5 +1,0 @@
-use Rattle.fc_credit.proofs.Runs.{account, whole, room}
-use Rattle.fc_credit.proofs.laws.counters_stand_for_whole_numbers.Goals as goal
-
-pub returns : goal.returns
-returns c = record { account = account; right = whole; room = room }

@@ -1,4 +1,0 @@
-pub mod Needs
-pub mod Limits
-pub mod Credits
-pub mod Account

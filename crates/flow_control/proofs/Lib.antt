@@ -1,0 +1,11 @@
+pub mod Counters
+pub mod Fits
+pub mod Packets
+pub mod Runs
+pub mod Six
+pub mod Within
+pub mod Anew
+pub mod Merged
+pub mod Places
+pub mod Taken
+pub mod Walks

@@ -1,4 +1,0 @@
-pub mod Lists
-pub mod Shelved
-pub mod Opened
-pub mod Emptied

@@ -1,3 +1,0 @@
-pub mod Content
-pub mod Steps
-pub mod Refusals

@@ -1,2 +1,0 @@
-pub mod ReceiverView
-pub mod Runs

@@ -1,7 +1,0 @@
-use Rattle.std.proofs.Common.{◌≡◌, false, take}
-use Rattle.std.specs.List.{list_any}
-use Rattle.log_replies.specs.Completing.{lacks_reply}
-use Rattle.log_replies.proofs.completing.lack_replies.Given as goal
-
-abbrev pub invariant-loop-place : goal.invariant-loop-place
-invariant-loop-place l = list_any lacks_reply (take l.place l.records) ≡ false

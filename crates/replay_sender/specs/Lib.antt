@@ -1,4 +1,0 @@
-pub mod CargoView
-pub mod SenderView
-pub mod Refusals
-pub mod Runs

@@ -1,5 +1,0 @@
-use Rattle.search_counts.proofs.TallyLemmas.{Counted}
-use Rattle.search_counts.proofs.counting.is_overdrawn.Given as goal
-
-abbrev pub invariant-loop-b : goal.invariant-loop-b
-invariant-loop-b l = Counted l.log l.q l.b l.tally

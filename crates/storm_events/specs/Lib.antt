@@ -1,3 +1,0 @@
-pub mod Arrivals
-pub mod Candidates
-pub mod Choice

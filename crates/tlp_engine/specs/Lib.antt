@@ -1,2 +1,0 @@
-pub mod Tlp
-pub mod CompleterView

@@ -1,3 +1,0 @@
-mod Spelled
-mod Replies
-mod Tellings

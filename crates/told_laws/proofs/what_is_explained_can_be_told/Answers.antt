@@ -1,5 +1,0 @@
-use Rattle.told_laws.proofs.Tellings.{tellable}
-use Rattle.told_laws.proofs.what_is_explained_can_be_told.Goals as goal
-
-pub returns : goal.returns
-returns c = tellable c.own_digits_spell_number.ensures.range c.numbers_name_submissions.ensures.named

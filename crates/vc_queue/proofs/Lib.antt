@@ -1,5 +1,0 @@
-pub mod Places
-pub mod Merged
-pub mod Taken
-pub mod Walks
-pub mod Anew

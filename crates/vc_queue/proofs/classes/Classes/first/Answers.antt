@@ -1,5 +1,0 @@
-use Rattle.vc_queue.proofs.Merged.{first_oldest}
-use Rattle.vc_queue.proofs.classes.Classes.first.Goals as goal
-
-pub returns : goal.returns
-returns c all s = rw (c.oldest_of.ensures, c.number_at.ensures, c.number_at-2.ensures, c.number_at-3.ensures) (first_oldest all c.args.self.now s)

@@ -1,8 +1,0 @@
-use Rattle.vc_queue.proofs.Places.{request_passes_completion, request_is_takeable}
-use Rattle.vc_queue.proofs.laws.requests_pass_completions.Goals as goal
-
-pub returns-clause-pair : goal.returns-clause-pair
-returns-clause-pair c = request_passes_completion
-
-pub returns-clause-queue : goal.returns-clause-queue
-returns-clause-queue c = request_is_takeable

@@ -1,8 +1,0 @@
-use Rattle.vc_queue.proofs.Places.{each, all}
-use Rattle.vc_queue.proofs.laws.the_oldest_is_takeable.Goals as goal
-
-pub returns-clause-each : goal.returns-clause-each
-returns-clause-each c = each
-
-pub returns-clause-all : goal.returns-clause-all
-returns-clause-all c = all

@@ -1,5 +1,0 @@
-use Rattle.vc_queue.proofs.Anew.{renumbered_at}
-use Rattle.vc_queue.proofs.numbers.renumber.Goals as goal
-
-pub returns-in-Some : goal.returns-in-Some
-returns-in-Some c = renumbered_at c.args.queue.now.items c.args.place c.args.arrival c.in-Some.arrived.now c.in-Some.ensures.item.3.0 c.in-Some.ensures.item.1

@@ -1,3 +1,0 @@
-pub mod Ordering
-pub mod Queue
-pub mod Arrivals
