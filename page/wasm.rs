@@ -22,8 +22,8 @@ pub unsafe extern "C" fn run(words: *mut u8, words_length: usize, input: *mut u8
     let words: Vec<&str> = words.split('\n').collect();
     let input = Vec::from_raw_parts(input, input_length, input_length);
     let (mut out, mut errors) = (Noted::new(Vec::new()), Vec::new());
-    let host = Host { is_terminal: false, clock: &NoClock };
-    let outcome = on_one_thread(Global, &words, host, &mut input.as_slice(), &mut out, &mut errors);
+    let host = Host { alloc: Global, is_terminal: false, clock: &NoClock };
+    let outcome = on_one_thread(&words, host, &mut input.as_slice(), &mut out, &mut errors);
     PRINTED = (out.stream, errors);
     match outcome {
         Outcome::Ended(status) => u32::from(status),

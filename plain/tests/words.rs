@@ -9,8 +9,8 @@ use kit::Vec;
 /// What becomes of the words, with what is told.
 fn done(words: &[&str]) -> (Outcome, String) {
     let (mut reader, mut out, mut errors) = ("zz\n".as_bytes(), Vec::new(alloc()), Vec::new(alloc()));
-    let host = Host { is_terminal: false, clock: &NoClock };
-    let outcome = on_one_thread(alloc(), words, host, &mut reader, &mut out, &mut errors);
+    let host = Host { alloc: alloc(), is_terminal: false, clock: &NoClock };
+    let outcome = on_one_thread(words, host, &mut reader, &mut out, &mut errors);
     assert!(out.is_empty());
     (outcome, String::from_utf8(errors.as_slice().to_vec()).unwrap())
 }

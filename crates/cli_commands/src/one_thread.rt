@@ -139,17 +139,17 @@ pub enum Outcome {
     Sweep(Sweep),
 }
 
-/// What a command knows of the process: whether its error stream is a terminal, and a clock, by which it is told how far a
-/// search is.
+/// What a command has of the process: its memory, whether its error stream is a terminal, and a clock, by which it is told
+/// how far a search is.
 #[derive(Drop)]
 pub struct Host<'h, C> {
+    pub alloc: Global,
     pub is_terminal: bool,
     pub clock: &'h C,
 }
 
 /// Does what is asked for, but for a run and a sweep, and gives the exit status.
 fn begin<C: Clock, R: Read + Fallible, W: Write + Fallible, E: Write>(
-    alloc: Global,
     request: Request,
     host: Host<'_, C>,
     reader: &mut R,
@@ -160,6 +160,7 @@ fn begin<C: Clock, R: Read + Fallible, W: Write + Fallible, E: Write>(
     ensures begun { IsBegun request (R.remaining reader.old) (R.remaining reader.new) (W.contents writer.old) (W.contents writer.new) result }
     ensures right { IsRight result }
 {
+    let alloc = host.alloc;
     match request {
         Request::Tlp(extent) => {
             let run = run_tlp_with_reasons(alloc, extent, reader, writer, errors);
@@ -282,7 +283,6 @@ fn begin<C: Clock, R: Read + Fallible, W: Write + Fallible, E: Write>(
 /// words ask for nothing; 3 a search was given up. A long search tells how far it is if the error stream is a terminal.
 /// It waits for no thread, so what is said of it needs no return.
 pub fn on_one_thread<C: Clock, S: AsStr, R: Read + Fallible, W: Write + Fallible, E: Write>(
-    alloc: Global,
     words: &[S],
     host: Host<'_, C>,
     reader: &mut R,
@@ -304,8 +304,8 @@ pub fn on_one_thread<C: Clock, S: AsStr, R: Read + Fallible, W: Write + Fallible
     // What is to be run can be.
     ensures right { IsRight result }
 {
-    match options(alloc, words) {
-        Ok(request) => begin(alloc, request, host, reader, writer, errors),
+    match options(host.alloc, words) {
+        Ok(request) => begin(request, host, reader, writer, errors),
         Err(fault) => {
             let status = refused(&fault, writer, errors);
             hint(words, &fault, errors);

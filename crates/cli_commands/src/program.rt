@@ -58,10 +58,11 @@ pub fn command<
         → ((result ≡ 1) ⊎ (result ≡ 2)) × (W.contents writer.new ≡ W.contents writer.old) }
 {
     let host = Host {
+        alloc,
         is_terminal,
         clock: rt,
     };
-    match on_one_thread(alloc, words, host, reader, writer, errors) {
+    match on_one_thread(words, host, reader, writer, errors) {
         Outcome::Ended(status) => status,
         Outcome::Run { counting, is_told } => {
             let progress = progress_of(is_told, is_terminal);
