@@ -5,6 +5,8 @@
 #[cfg(test)]
 mod engines;
 #[cfg(test)]
+mod logs;
+#[cfg(test)]
 mod pictures;
 #[cfg(test)]
 mod ranges;
