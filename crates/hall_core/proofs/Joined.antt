@@ -1,5 +1,5 @@
 -- Seats whose tokens go to one place, and what all seats of a hall did.
-use Rattle.std.proofs.Common.{◌≡◌, ◌≢◌, ℕ, zero, suc, ◌+◌, ◌<◌, ◌≤◌, ◌⊎◌, inl, inr, cond, Bool, true, false, List, [], ◌∷◌, ◌++◌, length, length-append, map, refl, sym, ap, ◌∙◌, subst, arith, Option, Some, Result, Ok, Err, IfOk, append_assoc, eq-eqb, ne_eqb, lt_of_not-le}
+use Rattle.std.proofs.Common.{◌≡◌, ◌≢◌, ℕ, zero, suc, ◌+◌, ◌<◌, ◌≤◌, inl, inr, cond, Bool, true, false, List, [], ◌∷◌, ◌++◌, length, length-append, refl, sym, ap, ◌∙◌, subst, arith, Some, Result, Ok, Err, IfOk, append_assoc, eq-eqb, ne_eqb, lt_of_not-le}
 use Rattle.std.proofs.lemmas.List.{map-append, length-map, append-nil}
 use Rattle.std.specs.Prelude.{remove, slice_index_or, slice_get}
 use mathlib.Core.Logic.{dite}
@@ -10,7 +10,7 @@ use Rattle.fabric_steps.specs.Fabric.{Fabric}
 use Rattle.hall_laws.specs.declared.token.Token.{Token}
 use Rattle.hall_laws.specs.Calls.{knowing}
 use Rattle.hall_laws.specs.Standing.{Sat, token_of, one_if_same, named}
-use Rattle.hall_laws.specs.Story.{Act, Tells, IsStoryOf, done_by}
+use Rattle.hall_laws.specs.Story.{Act, Tells, IsStoryOf}
 use Rattle.hall_core.specs.Opens.{Leaves, AllRan}
 use Rattle.hall_core.specs.Views.{SeatView, HallView, IsSeatOf, AreSeatsOf, HasNumber, RanBy}
 use Rattle.hall_core.specs.Joins.{AreAt, token_at, tokens_of}

@@ -18,7 +18,7 @@ ghost use Rattle.hall_core.specs.Views.{SeatView, AreNewSeats, IsSeatOf, AreSeat
 use crate::closing::{StillHeld, close};
 use crate::fault::HallFault;
 use crate::opening::{Board, Opened, Shelves, open};
-use crate::seats::{ReqSeat, WorkSeat, all_at_once, req_seats, seat, work_seats};
+use crate::seats::{ReqSeat, WorkSeat, all_at_once, req_seats, seat, work_seat, work_seats};
 use crate::told::{Answered, Submitted};
 use fabric_core::{Config, Fabric, Seen};
 use hall_events::desk::Desk;
@@ -206,6 +206,37 @@ impl Hall {
         ) {
             Ok((a, b, n)) => Ok((seat(a, one), seat(b, two), n)),
             Err((refusal, a, b)) => Err((refusal, seat(a, one), seat(b, two))),
+        }
+    }
+
+    /// The same of a requester's seat and a work seat. So a work seat carries what the one has seen to a seat of another
+    /// thread, which it meets later: what is submitted there then acts after all that the first was answered
+    /// ([`what_was_carried_acts_first`](crate::laws::what_was_carried_acts_first)).
+    ///
+    /// `Busy` where another seat has the memory.
+    pub fn meet_work(
+        &self,
+        first: ReqSeat,
+        second: WorkSeat,
+    ) -> Result<(ReqSeat, WorkSeat, u64), (HallRefusal, ReqSeat, WorkSeat)>
+        requires first { IsSeatOf self.now first }
+        requires second { IsSeatOf self.now second }
+        ensures seats { IfOk result (λ r. IsSeatOf self.now r.0 × IsSeatOf self.now r.1) }
+        ensures met { IfOk result (λ r. (h : List Entry) × (r.2 ≡ length h) × Met first.knows h r.0.knows × Met second.knows h r.1.knows) }
+        ensures refused { IfErr result (λ r. IsBusy first.knows Memory r.0 × (r.1 ≡ first) × (r.2 ≡ second)) }
+    {
+        let (number, work) = (first.number, second.number);
+        let steps = &self.board.shared;
+        let requesters = self.config.requesters;
+        match meet_as(
+            steps,
+            first.place,
+            second.place,
+            usize::from(number),
+            requesters,
+        ) {
+            Ok((a, b, n)) => Ok((seat(a, number), work_seat(b, work), n)),
+            Err((refusal, a, b)) => Err((refusal, seat(a, number), work_seat(b, work))),
         }
     }
 

@@ -94,6 +94,14 @@ pub(crate) fn seat(place: Place, number: u8) -> ReqSeat
     ReqSeat { place, number }
 }
 
+/// The work seat at this place.
+pub(crate) fn work_seat(place: Place, number: usize) -> WorkSeat
+    requires { IsIdle place.me × ((token_of place.me.0).knows.number ≡ number) × (number < 2 ^ 32) }
+    ensures { (result.table_id ≡ place.table_id) × (result.knows ≡ (token_of place.me.0).knows) }
+{
+    WorkSeat { place, number }
+}
+
 /// A seat for each requester, in their order. The rest of the tokens stays.
 pub fn req_seats(
     steps: &Steps,

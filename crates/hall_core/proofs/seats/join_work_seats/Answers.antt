@@ -1,4 +1,4 @@
-use Rattle.std.proofs.Common.{◌≡◌, ◌+◌, ◌<◌, List, ◌∷◌, ◌++◌, length, ap, sym, subst, ◌∙◌, arith}
+use Rattle.std.proofs.Common.{◌≡◌, ◌<◌, List, ◌∷◌, length, ap, subst, ◌∙◌, arith}
 use Rattle.hall_core.specs.Views.{SeatView}
 use Rattle.hall_core.specs.Joins.{AreAt}
 use Rattle.hall_core.proofs.Joined.{first_out, one_joined, none_left}

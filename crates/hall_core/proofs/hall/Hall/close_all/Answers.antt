@@ -1,4 +1,4 @@
-use Rattle.std.proofs.Common.{rules, ◌≡◌, List, ◌++◌, ◌∙◌, subst}
+use Rattle.std.proofs.Common.{rules, List, ◌++◌, ◌∙◌, subst}
 use Rattle.fabric_steps.specs.Fabric.{Fabric}
 use Rattle.hall_laws.specs.declared.token.Token.{Token}
 use Rattle.hall_core.specs.Opens.{AllRan}
