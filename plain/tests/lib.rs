@@ -6,6 +6,7 @@
 #![cfg(test)]
 
 mod beside;
+mod carrying;
 mod dllps;
 mod endpoint_packets;
 mod endpoint_registers;

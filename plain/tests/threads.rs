@@ -30,7 +30,7 @@ fn carry(hall: &Hall, seat: &mut WorkSeat, lane: LaneName, class: Class) {
 }
 
 /// What there is in a fabric of so many requesters goes on.
-fn carry_all(hall: &Hall, seat: &mut WorkSeat, requesters: u8) {
+pub fn carry_all(hall: &Hall, seat: &mut WorkSeat, requesters: u8) {
     for port in 1..=requesters {
         carry(hall, seat, LaneName::Up(port), Class::NonPosted);
         let _ = hall.pump(seat, WorkEvent::Forward(LaneName::Up(port), 0));
