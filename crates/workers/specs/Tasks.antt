@@ -4,6 +4,11 @@ use Rattle.std.specs.List.{sum_by, AllByRecursion as Each}
 use Rattle.hall_core.specs.Views.{HallView}
 use Rattle.workers.specs.declared.jobs.Job.{Job}
 
+-- the hall of a worker's seat, and how many turns it has
+pub record ShiftView : Type 0 where
+  pub hall : HallView
+  pub left : ℕ
+
 -- the job of a worker, the hall of its seat, and how many turns it has before it has ended, 0 once it has
 pub record TaskView : Type 0 where
   pub job : Job

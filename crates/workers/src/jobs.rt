@@ -1,18 +1,13 @@
-//! The workers of the lanes, the switch and the completer. Each has one seat, and goes round by round.
-ghost use Rattle.std.specs.Prelude.{◌≡◌, ◌<◌, ◌≤◌, IfSome, false};
+//! The workers of the lanes, the switch and the completer. Each has one seat.
+ghost use Rattle.std.specs.Prelude.{◌≡◌, ◌<◌, false};
 ghost use Rattle.dllp_core.specs.declared.packet.Class.TheVariants.{Posted};
 ghost use Rattle.hall_core.specs.Views.{IsSeatOf};
 
 use dllp_core::Class;
-use fabric_core::{LaneName, Refusal, Seen};
-use hall_core::{Hall, HallRefusal, WorkEvent, WorkSeat};
-use lane_core::{Arrival, DllpKind};
-use link_replay::Reception;
+use fabric_core::LaneName;
+use hall_core::{Hall, WorkSeat};
 use parameters::Plan;
-use worker_turns::{
-    COMPLETER, DOWN_LANES, Gate, INWARD_LANE, OUTWARD_LANE, RECEIVERS, SWITCH, Stop, Turns,
-    UP_LANES,
-};
+use worker_turns::{COMPLETER, DOWN_LANES, INWARD_LANE, OUTWARD_LANE, RECEIVERS, SWITCH, UP_LANES};
 
 /// What a worker does in each round, call by call.
 #[derive(Clone, Copy)]
@@ -53,67 +48,20 @@ impl Job {
     }
 }
 
-/// What became of a call.
-#[derive(Clone, Copy, PartialEq)]
-enum Tried {
-    Done,
-    /// A packet was lost, failed its check or came too early.
-    Missed,
-    Idle,
-    Refused,
-    Busy,
-}
-
-/// What became of a call of which this is seen.
-fn tried_of(seen: &Seen) -> Tried
-    ensures { (¬ (result ≡ Tried.Idle)) × (¬ (result ≡ Tried.Refused)) × (¬ (result ≡ Tried.Busy)) }
-{
-    match seen {
-        Seen::Delivered(Arrival::Gone) => Tried::Missed,
-        Seen::Delivered(Arrival::Answered(Reception::NakNow)) => Tried::Missed,
-        Seen::Delivered(Arrival::Answered(Reception::Quiet)) => Tried::Missed,
-        _ => Tried::Done,
-    }
-}
-
-/// What became of a round.
-#[derive(Clone, Copy, PartialEq)]
-pub(crate) enum Went {
-    /// The worker got on.
-    On,
-    /// A packet was lost, failed its check or came too early. The next round is due at once.
-    Again,
-    Nothing,
-}
-
-/// That of a round in which the worker got on or didn't.
-fn went_of(did: bool) -> Went {
-    if did { Went::On } else { Went::Nothing }
-}
-
-/// Whose update is due after one of this class.
-fn next_class(class: Class) -> Class {
-    match class {
-        Class::Posted => Class::NonPosted,
-        Class::NonPosted => Class::Completion,
-        Class::Completion => Class::Posted,
-    }
-}
-
 /// A worker at one of these jobs. The plan has the fate of what it delivers, packets and DLLPs being counted apart.
 #[derive(Drop)]
 pub struct Worker<'a> {
-    hall: &'a Hall,
-    seat: WorkSeat,
-    plan: Plan,
-    requesters: u8,
+    pub(crate) hall: &'a Hall,
+    pub(crate) seat: WorkSeat,
+    pub(crate) plan: Plan,
+    pub(crate) requesters: u8,
     /// Packets and DLLPs that it delivers are counted from 1.
-    packets: u64,
-    dllps: u64,
+    pub(crate) packets: u64,
+    pub(crate) dllps: u64,
     /// Whose update is due.
-    class: Class,
+    pub(crate) class: Class,
     /// Whether its last DLLP found its parts taken.
-    busy: bool,
+    pub(crate) busy: bool,
 }
 
 impl<'a> Worker<'a> {
@@ -134,165 +82,5 @@ impl<'a> Worker<'a> {
             class: Class::Posted,
             busy: false,
         }
-    }
-
-    /// The seat of the worker.
-    pub(crate) fn into_seat(self) -> WorkSeat
-        ensures { result ≡ self.entry.seat }
-    {
-        self.seat
-    }
-
-    /// One turn. None where the run is over.
-    fn attempt<G: Gate>(&mut self, event: WorkEvent, turns: &mut Turns<'_, G>) -> Option<Tried>
-        requires { IsSeatOf self.old.hall.now self.old.seat }
-        ensures seat { IsSeatOf self.new.hall.now self.new.seat }
-        ensures hall { self.new.hall.now ≡ self.old.hall.now }
-        ensures limit { turns.new.limit ≡ turns.old.limit }
-        ensures turn { IfSome result (λ _. (turns.old.done < turns.new.done) × (turns.new.done ≤ turns.new.limit)) }
-    {
-        if turns.is_over() || turns.call().is_err() {
-            return None;
-        }
-        match self.hall.pump(&mut self.seat, event) {
-            Ok(seen) => Some(tried_of(&seen)),
-            Err(HallRefusal::Busy { .. }) => Some(Tried::Busy),
-            Err(HallRefusal::Core(Refusal::Idle)) => Some(Tried::Idle),
-            Err(HallRefusal::Core(refusal)) if refusal.is_memory() => {
-                turns.stop(Stop::Memory);
-                None
-            }
-            Err(HallRefusal::Core(_)) => Some(Tried::Refused),
-        }
-    }
-
-    /// Delivers a DLLP of the lane.
-    fn deliver_dllp<G: Gate>(&mut self, name: LaneName, turns: &mut Turns<'_, G>) -> Option<()>
-        requires { IsSeatOf self.old.hall.now self.old.seat }
-        ensures seat { IsSeatOf self.new.hall.now self.new.seat }
-        ensures hall { self.new.hall.now ≡ self.old.hall.now }
-        ensures limit { turns.new.limit ≡ turns.old.limit }
-        ensures turn { IfSome result (λ _. (turns.old.done < turns.new.done) × (turns.new.done ≤ turns.new.limit)) }
-    {
-        let fate = self.plan.fate(self.dllps);
-        let seen = self.attempt(WorkEvent::DeliverDllp(name, fate), turns)?;
-        if seen == Tried::Done {
-            self.dllps = self.dllps.wrapping_add(1);
-        }
-        self.busy = seen == Tried::Busy;
-        Some(())
-    }
-
-    /// A round of a lane's first worker: whether it got on.
-    fn send<G: Gate>(&mut self, name: LaneName, turns: &mut Turns<'_, G>) -> Option<bool>
-        requires { IsSeatOf self.old.hall.now self.old.seat }
-        ensures seat { IsSeatOf self.new.hall.now self.new.seat }
-        ensures hall { self.new.hall.now ≡ self.old.hall.now }
-        ensures limit { turns.new.limit ≡ turns.old.limit }
-        ensures turn { IfSome result (λ _. (turns.old.done < turns.new.done) × (turns.new.done ≤ turns.new.limit)) }
-    {
-        let sent = self.attempt(WorkEvent::Transmit(name), turns)?;
-        self.deliver_dllp(name, turns)?;
-        if sent != Tried::Idle {
-            return Some(sent == Tried::Done);
-        }
-        let again = self.attempt(WorkEvent::Retrained(name), turns)?;
-        Some(again == Tried::Done)
-    }
-
-    /// A round of a lane's second worker: what became of it.
-    fn receive<G: Gate>(&mut self, name: LaneName, turns: &mut Turns<'_, G>) -> Option<Went>
-        requires { IsSeatOf self.old.hall.now self.old.seat }
-        ensures seat { IsSeatOf self.new.hall.now self.new.seat }
-        ensures hall { self.new.hall.now ≡ self.old.hall.now }
-        ensures limit { turns.new.limit ≡ turns.old.limit }
-        ensures turn { IfSome result (λ _. (turns.old.done < turns.new.done) × (turns.new.done ≤ turns.new.limit)) }
-    {
-        let fate = self.plan.fate(self.packets);
-        let arrived = self.attempt(WorkEvent::Deliver(name, fate), turns)?;
-        if arrived == Tried::Done || arrived == Tried::Missed {
-            self.packets = self.packets.wrapping_add(1);
-        }
-        if !self.busy {
-            self.attempt(WorkEvent::SendDllp(name, DllpKind::Answer), turns)?;
-        }
-        self.deliver_dllp(name, turns)?;
-        if !self.busy {
-            let class = self.class;
-            self.class = next_class(class);
-            self.attempt(WorkEvent::SendDllp(name, DllpKind::Update(class)), turns)?;
-        }
-        self.deliver_dllp(name, turns)?;
-        if arrived == Tried::Missed {
-            return Some(Went::Again);
-        }
-        if arrived != Tried::Idle {
-            return Some(went_of(arrived == Tried::Done));
-        }
-        let moved = self.attempt(WorkEvent::Timer(name), turns)?;
-        Some(went_of(moved == Tried::Done))
-    }
-
-    /// Forwards from a lane, place 0 or, where the core refused it, place 1.
-    fn forward<G: Gate>(&mut self, name: LaneName, turns: &mut Turns<'_, G>) -> Option<bool>
-        requires { IsSeatOf self.old.hall.now self.old.seat }
-        ensures seat { IsSeatOf self.new.hall.now self.new.seat }
-        ensures hall { self.new.hall.now ≡ self.old.hall.now }
-        ensures limit { turns.new.limit ≡ turns.old.limit }
-        ensures turn { IfSome result (λ _. (turns.old.done < turns.new.done) × (turns.new.done ≤ turns.new.limit)) }
-    {
-        let mut went = self.attempt(WorkEvent::Forward(name, 0), turns)?;
-        if went == Tried::Refused {
-            went = self.attempt(WorkEvent::Forward(name, 1), turns)?;
-        }
-        Some(went == Tried::Done)
-    }
-
-    /// A round of the switch: whether it got on.
-    fn switch<G: Gate>(&mut self, turns: &mut Turns<'_, G>) -> Option<bool>
-        requires { IsSeatOf self.old.hall.now self.old.seat }
-        ensures seat { IsSeatOf self.new.hall.now self.new.seat }
-        ensures hall { self.new.hall.now ≡ self.old.hall.now }
-        ensures limit { turns.new.limit ≡ turns.old.limit }
-        ensures turn { IfSome result (λ _. (turns.old.done < turns.new.done) × (turns.new.done ≤ turns.new.limit)) }
-    {
-        let mut did = self.forward(LaneName::Outward, turns)?;
-        for port in 0..self.requesters {
-            let went = self.forward(LaneName::Up(port.wrapping_add(1)), turns)?;
-            did = did || went;
-        }
-        Some(did)
-    }
-
-    /// A round of the completer: whether it got on.
-    fn complete<G: Gate>(&mut self, turns: &mut Turns<'_, G>) -> Option<bool>
-        requires { IsSeatOf self.old.hall.now self.old.seat }
-        ensures seat { IsSeatOf self.new.hall.now self.new.seat }
-        ensures hall { self.new.hall.now ≡ self.old.hall.now }
-        ensures limit { turns.new.limit ≡ turns.old.limit }
-        ensures turn { IfSome result (λ _. (turns.old.done < turns.new.done) × (turns.new.done ≤ turns.new.limit)) }
-    {
-        let mut served = self.attempt(WorkEvent::Serve(0), turns)?;
-        if served == Tried::Refused {
-            served = self.attempt(WorkEvent::Serve(1), turns)?;
-        }
-        Some(served == Tried::Done)
-    }
-
-    /// A round: what became of it. None if the run is over.
-    pub(crate) fn round<G: Gate>(&mut self, job: Job, turns: &mut Turns<'_, G>) -> Option<Went>
-        requires { IsSeatOf self.old.hall.now self.old.seat }
-        ensures seat { IsSeatOf self.new.hall.now self.new.seat }
-        ensures hall { self.new.hall.now ≡ self.old.hall.now }
-        ensures limit { turns.new.limit ≡ turns.old.limit }
-        ensures turn { IfSome result (λ _. (turns.old.done < turns.new.done) × (turns.new.done ≤ turns.new.limit)) }
-    {
-        let did = match job {
-            Job::Sender(name) => self.send(name, turns)?,
-            Job::Receiver(name) => return self.receive(name, turns),
-            Job::Switch => self.switch(turns)?,
-            Job::Completer => self.complete(turns)?,
-        };
-        Some(went_of(did))
     }
 }

@@ -9,6 +9,7 @@ mod context;
 mod jobs;
 mod running;
 mod shares;
+mod shifts;
 mod tasks;
 mod threads;
 

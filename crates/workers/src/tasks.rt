@@ -3,7 +3,8 @@ ghost use Rattle.std.specs.Prelude.{◌≡◌, ◌<◌, zero, IfSome, IfNone, ma
 ghost use Rattle.hall_core.specs.Views.{IsSeatOf};
 ghost use Rattle.workers.specs.Tasks.{turns_left, kept_of};
 
-use crate::jobs::{Job, Went, Worker};
+use crate::jobs::{Job, Worker};
+use crate::shifts::{Shift, Went};
 use hall_core::WorkSeat;
 use std::marker::Model;
 use std::thread;
@@ -12,23 +13,19 @@ use worker_turns::{Gate, Turns};
 /// A worker at its job, with its own turns.
 #[derive(Drop)]
 pub struct Task<'a, G> {
-    worker: Worker<'a>,
+    shift: Shift<'a, G>,
     job: Job,
-    turns: Turns<'a, G>,
     /// Whether it has ended.
     is_over: bool,
 }
 
 impl<'a, G> Model for Task<'a, G> {
-    ghost use Rattle.std.specs.Prelude.{◌-◌, suc, cond};
-    ghost use Rattle.hall_core.specs.Views.{IsSeatOf};
+    ghost use Rattle.std.specs.Prelude.{suc, cond};
     ghost use Rattle.workers.specs.Tasks.{TaskView};
 
     ghost Value = { TaskView };
 
-    ghost view = { λ t. record { job = t.job; hall = t.worker.hall.now; left = cond t.is_over 0 (suc (t.turns.limit - t.turns.done)) } };
-
-    ghost invariant = { λ t. IsSeatOf t.worker.hall.now t.worker.seat };
+    ghost view = { λ t. record { job = t.job; hall = t.shift.hall; left = cond t.is_over 0 (suc t.shift.left) } };
 }
 
 impl<'a, G: Gate> Task<'a, G> {
@@ -38,9 +35,8 @@ impl<'a, G: Gate> Task<'a, G> {
         ensures { (result.job ≡ job) × (result.hall ≡ worker.entry.hall.now) }
     {
         Task {
-            worker,
+            shift: Shift::new(worker, turns),
             job,
-            turns,
             is_over: false,
         }
     }
@@ -49,7 +45,7 @@ impl<'a, G: Gate> Task<'a, G> {
     pub(crate) fn into_seat(self) -> WorkSeat
         ensures { IsSeatOf self.entry.hall result }
     {
-        self.worker.into_seat()
+        self.shift.into_seat()
     }
 
     /// A round: what became of it. None if it has ended, as it does with the run.
@@ -62,7 +58,7 @@ impl<'a, G: Gate> Task<'a, G> {
         if self.is_over {
             return None;
         }
-        let went = self.worker.round(self.job, &mut self.turns);
+        let went = self.shift.round(self.job);
         self.is_over = went.is_none();
         went
     }
