@@ -1,4 +1,5 @@
 pub mod Running
 pub mod Crews
+pub mod Begun
 pub mod Jobs
 pub mod Tasks

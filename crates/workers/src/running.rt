@@ -7,6 +7,8 @@ ghost use Rattle.worker_report.specs.Halts.{IsPlan, IsOfMemory, IsCause};
 ghost use Rattle.worker_report.specs.OneRun.{IsGathered, IsRunOf};
 ghost use Rattle.workers.specs.Jobs.{jobs_of};
 ghost use Rattle.workers.specs.Running.{AreDone};
+ghost use Rattle.worker_report.specs.declared.plan.RunPlan.{RunPlan};
+ghost use Rattle.workers.specs.Begun.{IsRunBy};
 ghost use Rattle.workers.specs.Crews.{IsCrewOf};
 
 use crate::context::{Crew, RunContext};
@@ -52,19 +54,10 @@ fn workers_of(requesters: u8) -> usize
     4 * usize::from(requesters) + 6
 }
 
-/// Runs the plan, as [`run_workers`] does, and raises the counter by the answers, soon after each was given.
-pub fn run_workers_counting<R: Threads + Wait + Sync, G: Gate + Sync>(
-    rt: &R,
-    alloc: Global,
-    plan: RunPlan,
-    gate: &G,
-    answered: &AtomicU64,
-) -> Result<Report, RunHalt>
-    ensures ran { IfOk result (λ r. IsRunOf plan.config r.trace.records r.fabric) }
-    ensures checked { IfOk result (λ r. Explains (claim_of r.trace r.fabric.memory.entries)) }
-    ensures done { IfOk result (λ r. AreDone r.trace.records 1 (map (λ s. s.items) plan.scripts.items)) }
-    ensures memory { IfOk result (λ r. IsOfMemory plan.config r.trace) }
-    ensures config { IfOk result (λ r. IsPlan plan × HasConfig r.fabric plan.config) }
+/// What a run of the plan begins with.
+fn begun(alloc: Global, plan: RunPlan) -> Result<(RunContext, Crew), RunHalt>
+    ensures begun { IfOk result (λ t. IsRunBy plan t.0) }
+    ensures crew { IfOk result (λ t. IsCrewOf t.0 t.1) }
     ensures halt { IfErr result (λ h. IsCause plan h) }
 {
     let fabric = fabric_of(alloc, &plan)?;
@@ -91,14 +84,65 @@ pub fn run_workers_counting<R: Threads + Wait + Sync, G: Gate + Sync>(
         workers,
         taker,
     };
-    let gathered = run_threads(rt, &run, gate, answered, crew);
+    Ok((run, crew))
+}
+
+/// The report of what was gathered.
+fn reported(alloc: Global, run: RunContext, gathered: Gathered) -> Result<Report, RunHalt>
+    requires gathered { IsGathered run.hall gathered }
+    requires done { AreDone gathered.records.items 1 (map (λ s. s.items) run.plan.scripts.items) }
+    ensures ran { (p : RunPlan) → IsRunBy p run → IfOk result (λ r. IsRunOf p.config r.trace.records r.fabric) }
+    ensures checked { IfOk result (λ r. Explains (claim_of r.trace r.fabric.memory.entries)) }
+    ensures done { (p : RunPlan) → IsRunBy p run → IfOk result (λ r. AreDone r.trace.records 1 (map (λ s. s.items) p.scripts.items)) }
+    ensures memory { (p : RunPlan) → IsRunBy p run → IfOk result (λ r. IsOfMemory p.config r.trace) }
+    ensures config { (p : RunPlan) → IsRunBy p run → IfOk result (λ r. IsPlan p × HasConfig r.fabric p.config) }
+    ensures halt { (p : RunPlan) → IsRunBy p run → IfErr result (λ h. IsCause p h) }
+{
+    report_of(alloc, run.hall, gathered)
+}
+
+/// The report of a run that has ended, or what ended it before all was done.
+fn ended(
+    alloc: Global,
+    run: RunContext,
+    gathered: Result<Gathered, Stop>,
+) -> Result<Report, RunHalt>
+    requires gathered { IfOk gathered (λ g. IsGathered run.hall g) }
+    requires done { IfOk gathered (λ g. AreDone g.records.items 1 (map (λ s. s.items) run.plan.scripts.items)) }
+    ensures ran { (p : RunPlan) → IsRunBy p run → IfOk result (λ r. IsRunOf p.config r.trace.records r.fabric) }
+    ensures checked { IfOk result (λ r. Explains (claim_of r.trace r.fabric.memory.entries)) }
+    ensures done { (p : RunPlan) → IsRunBy p run → IfOk result (λ r. AreDone r.trace.records 1 (map (λ s. s.items) p.scripts.items)) }
+    ensures memory { (p : RunPlan) → IsRunBy p run → IfOk result (λ r. IsOfMemory p.config r.trace) }
+    ensures config { (p : RunPlan) → IsRunBy p run → IfOk result (λ r. IsPlan p × HasConfig r.fabric p.config) }
+    ensures halt { (p : RunPlan) → IsRunBy p run → IfErr result (λ h. IsCause p h) }
+{
     if let Some(stop) = run.shared.stopped() {
         return Err(RunHalt::of(stop));
     }
     match gathered {
-        Ok(gathered) => report_of(alloc, run.hall, gathered),
+        Ok(gathered) => reported(alloc, run, gathered),
         Err(stop) => Err(RunHalt::of(stop)),
     }
+}
+
+/// Runs the plan, as [`run_workers`] does, and raises the counter by the answers, soon after each was given.
+pub fn run_workers_counting<R: Threads + Wait + Sync, G: Gate + Sync>(
+    rt: &R,
+    alloc: Global,
+    plan: RunPlan,
+    gate: &G,
+    answered: &AtomicU64,
+) -> Result<Report, RunHalt>
+    ensures ran { IfOk result (λ r. IsRunOf plan.config r.trace.records r.fabric) }
+    ensures checked { IfOk result (λ r. Explains (claim_of r.trace r.fabric.memory.entries)) }
+    ensures done { IfOk result (λ r. AreDone r.trace.records 1 (map (λ s. s.items) plan.scripts.items)) }
+    ensures memory { IfOk result (λ r. IsOfMemory plan.config r.trace) }
+    ensures config { IfOk result (λ r. IsPlan plan × HasConfig r.fabric plan.config) }
+    ensures halt { IfErr result (λ h. IsCause plan h) }
+{
+    let (run, crew) = begun(alloc, plan)?;
+    let gathered = run_threads(rt, &run, gate, answered, crew);
+    ended(alloc, run, gathered)
 }
 
 /// Runs the plan. A report's records are those of one run of the plan's fabric: one list of calls of the hall leads to the

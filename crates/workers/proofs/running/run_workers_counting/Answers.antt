@@ -1,34 +1,16 @@
-use Rattle.std.proofs.Common.{◌+◌, ◌∙◌, ap, rules, arith}
-use Rattle.workers.proofs.Beginning.{first_seats, work_seats, stopped}
 use Rattle.workers.proofs.running.run_workers_counting.Goals as goal
 
-pub run_threads-gathered-requires-clause-crew : goal.run_threads-gathered-requires-clause-crew
-run_threads-gathered-requires-clause-crew g c κs within =
-    let plan = c.in_ok-fabric.ensures.ok.0 in
-    let new = c.in_ok-fabric.ensures.ok.1 in
-    let has = c.in-Ok-new.ensures.config in
-    let number = c.in-Ok-new.ensures.requesters.number in
-    let count = has.requesters in
-    let made = new.requesters.number in
-    let same = plan.1 in
-    let few = plan.0.requesters.1 in
-    record {
-      count = omega (arith, c.in-Ok-new.seats.ok.0);
-      few = omega arith;
-      requesters = omega arith;
-      some = let least = plan.0.requesters.0 in omega arith;
-      all = c.in-Ok-new.ensures.seats ∙ ap (λ n. c.in-Ok-new.hall.config.requesters + n) c.workers_of.ensures;
-      seats = first_seats c.in-Ok-new.hall c.in-Ok-new.seats.items c.in-Ok-new.ensures.requesters;
-      shares = c.in-Ok.ensures;
-      others = omega (arith, c.in-Ok-new.workers.ok.0, c.in-Ok-new.ensures.work.number, c.workers_of.ensures);
-      workers = work_seats c.in-Ok-new.hall _ _ c.in-Ok-new.workers.items c.in-Ok-new.ensures.work;
-      queue = search rules;
-      known = search rules;
-      records = search rules;
-    }
+pub returns-clause-ran : goal.returns-clause-ran
+returns-clause-ran g c = c.ended.ensures.ran c.args.plan c.in_ok-run.ensures.begun
 
-pub returns-in-Some-clause-halt : goal.returns-in-Some-clause-halt
-returns-in-Some-clause-halt g c = stopped c.args.plan c.in-Some.stop c.of.result c.in_ok-fabric.ensures.ok.0 c.of.ensures
+pub returns-clause-done : goal.returns-clause-done
+returns-clause-done g c = c.ended.ensures.done c.args.plan c.in_ok-run.ensures.begun
 
-pub returns-in-Err-clause-halt : goal.returns-in-Err-clause-halt
-returns-in-Err-clause-halt g c = stopped c.args.plan c.in-Err.stop c.of-in-Err.result c.in_ok-fabric.ensures.ok.0 c.of-in-Err.ensures
+pub returns-clause-memory : goal.returns-clause-memory
+returns-clause-memory g c = c.ended.ensures.memory c.args.plan c.in_ok-run.ensures.begun
+
+pub returns-clause-config : goal.returns-clause-config
+returns-clause-config g c = c.ended.ensures.config c.args.plan c.in_ok-run.ensures.begun
+
+pub returns-clause-halt : goal.returns-clause-halt
+returns-clause-halt g c = c.ended.ensures.halt c.args.plan c.in_ok-run.ensures.begun
