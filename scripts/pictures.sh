@@ -108,9 +108,10 @@ charts "the levels of three requesters with losses" 0 --levels
     failed=1
 }
 charts "the chart of three requesters with losses" 0
-# The lines of the parts stand at 560 and each 240 pixels: no cross is on one.
+# No cross is on the line of a part.
 crosses=$(sed 's/<g>/\n&/g' "$room/picture" | sed -n 's/^<g><title>[^<]*, lost<\/title><line [^>]* x2="\([0-9]*\)".*/\1/p')
-if [ -z "$crosses" ] || ! echo "$crosses" | awk '($1 - 560) % 240 == 0 { exit 1 }'; then
+lines=$(sed 's/<g>/\n&/g' "$room/picture" | sed -n 's/^<g><title>\(requester [0-9]*\|switch\|memory\)<\/title><line x1="\([0-9]*\)".*/\2/p')
+if [ -z "$crosses" ] || [ "$(echo "$lines" | wc -l)" -ne 5 ] || echo "$crosses" | grep -qxF "$lines"; then
     echo "pictures: a cross of what was lost is on a line of three requesters"
     failed=1
 fi

@@ -37,7 +37,7 @@ use Rattle.chart_rows.specs.declared.row.Deed.{Deed}
 use Rattle.chart_rows.specs.declared.row.PacketSent.{PacketSent}
 use Rattle.chart_links.specs.CourseView.{CourseView}
 use Rattle.chart_links.specs.Lanes.{place_of, lane_at, followed}
-use Rattle.chart_links.specs.ChartView.{ChartView}
+use Rattle.chart_links.specs.ChartView.{ChartView, headed}
 use Rattle.chart_laws.specs.Arrows.{Tale, told, row_in, deed_in, sent_on, begun_on, NeverMore}
 use Rattle.chart_laws.specs.Happened.{Happened}
 use Rattle.chart_arrows.proofs.Parts.{Few, part_same, part_other, part_len, place_at, lane_is, few_more, ends_same, ends_other, few_with, in_no_port, leads_away, of_and, of_map, of_some}
@@ -341,7 +341,8 @@ passes k row cs f (events.Collect port) b lt few eq = of_collect k row cs f port
 
 never : (ts : List Tale) (k n : ℕ) (v : ChartView) (f left : Fabric) → k < 16 → Few f → n ≡ flying f (lane_at k) → Happened f ts left → NeverMore k n v ts
 never [] k n v f left lt few is h = tt
-never (t ∷ ts) k n v f left lt few is h =
+never (Tale.Settles line ∷ ts) k n v f left lt few is h = never ts k n (headed v line) f left lt few is h
+never (Tale.Happens t ∷ ts) k n v f left lt few is h =
     let p : Passes k (row_in v t) v.courses f t.event t.what h.0 = passes k (row_in v t) v.courses f t.event (t.what, h.0) lt few h.1 in
     let b = length (begun_on k (deed_in v t)) in
     let s = length (sent_on k (row_in v t) (deed_in v t)) in

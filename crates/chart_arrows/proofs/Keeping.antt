@@ -22,7 +22,7 @@ use Rattle.chart_rows.specs.declared.row.PacketSent.{PacketSent}
 use Rattle.chart_links.specs.CourseView.{CourseView, quiet}
 use Rattle.chart_links.specs.Lanes.{place_of, lane_at}
 use Rattle.chart_links.specs.declared.window.ChartWindow.{ChartWindow}
-use Rattle.chart_links.specs.ChartView.{ChartView, new_chart}
+use Rattle.chart_links.specs.ChartView.{ChartView, new_chart, headed}
 use Rattle.chart_laws.specs.Arrows.{Tale, told, row_in, deed_in, sent_on, begun_on, sendings, beginnings}
 use Rattle.chart_laws.specs.Happened.{told_all}
 use Rattle.chart_arrows.specs.Accounts.{IsAccountOf, AreAccountsOf, Happen}
@@ -92,7 +92,8 @@ StaySound = (f f' : Fabric) (event : Event) (what : Seen) → IsSoundFabric f �
 
 pub all_kept : AreRead → AreAsking → StaySound → (ts : List Tale) (v : ChartView) (f left : Fabric) → IsSoundFabric f → AreAccountsOf f v.courses → Happen f ts left → AreAccountsOf left (told_all v ts).courses
 all_kept read asking stay [] v f left sound all h = subst (λ (g : Fabric). AreAccountsOf g v.courses) h all
-all_kept read asking stay (t ∷ ts) v f left sound all h =
+all_kept read asking stay (Tale.Settles line ∷ ts) v f left sound all h = all_kept read asking stay ts (headed v line) f left sound all h
+all_kept read asking stay (Tale.Happens t ∷ ts) v f left sound all h =
     all_kept read asking stay ts (told v t) h.0 left (stay f h.0 t.event t.what sound h.1) (kept read asking f h.0 t.event t.what (row_in v t) v.courses sound h.1 all).accounts h.2
 
 -- ---- the DLLPs that are sent
@@ -104,18 +105,20 @@ join w s s' b b' w' l now later =
 pub all_sent : AreRead → AreAsking → StaySound → (ts : List Tale) (v : ChartView) (k : ℕ) (f left : Fabric) → IsSoundFabric f → AreAccountsOf f v.courses → Happen f ts left
     → On packets_of k v.courses ++ sendings k v ts ≡ beginnings k v ts ++ On packets_of k (told_all v ts).courses
 all_sent read asking stay [] v k f left sound all h = append-nil (On packets_of k v.courses)
-all_sent read asking stay (t ∷ ts) v k f left sound all h =
+all_sent read asking stay (Tale.Settles line ∷ ts) v k f left sound all h = all_sent read asking stay ts (headed v line) k f left sound all h
+all_sent read asking stay (Tale.Happens t ∷ ts) v k f left sound all h =
     let now : Kept v.courses (row_in v t) t.event (t.what, h.0) = kept read asking f h.0 t.event t.what (row_in v t) v.courses sound h.1 all in
     join (On packets_of k v.courses) (sent_on k (row_in v t) (deed_in v t)) (sendings k (told v t) ts) (begun_on k (deed_in v t)) (beginnings k (told v t) ts) (On packets_of k (told v t).courses)
-    (On packets_of k (told_all v (t ∷ ts)).courses) (now.wires k) (all_sent read asking stay ts (told v t) k h.0 left (stay f h.0 t.event t.what sound h.1) now.accounts h.2)
+    (On packets_of k (told_all v (Tale.Happens t ∷ ts)).courses) (now.wires k) (all_sent read asking stay ts (told v t) k h.0 left (stay f h.0 t.event t.what sound h.1) now.accounts h.2)
 
 pub all_sent_back : AreRead → AreAsking → StaySound → (ts : List Tale) (v : ChartView) (k : ℕ) (f left : Fabric) → IsSoundFabric f → AreAccountsOf f v.courses → Happen f ts left
     → On dllps_of k v.courses ++ dllp_sendings k v ts ≡ dllp_beginnings k v ts ++ On dllps_of k (told_all v ts).courses
 all_sent_back read asking stay [] v k f left sound all h = append-nil (On dllps_of k v.courses)
-all_sent_back read asking stay (t ∷ ts) v k f left sound all h =
+all_sent_back read asking stay (Tale.Settles line ∷ ts) v k f left sound all h = all_sent_back read asking stay ts (headed v line) k f left sound all h
+all_sent_back read asking stay (Tale.Happens t ∷ ts) v k f left sound all h =
     let now : Kept v.courses (row_in v t) t.event (t.what, h.0) = kept read asking f h.0 t.event t.what (row_in v t) v.courses sound h.1 all in
     join (On dllps_of k v.courses) (dllp_sent_on k (row_in v t) (deed_in v t)) (dllp_sendings k (told v t) ts) (dllp_begun_on k (deed_in v t)) (dllp_beginnings k (told v t) ts) (On dllps_of k (told v t).courses)
-    (On dllps_of k (told_all v (t ∷ ts)).courses) (now.backs k) (all_sent_back read asking stay ts (told v t) k h.0 left (stay f h.0 t.event t.what sound h.1) now.accounts h.2)
+    (On dllps_of k (told_all v (Tale.Happens t ∷ ts)).courses) (now.backs k) (all_sent_back read asking stay ts (told v t) k h.0 left (stay f h.0 t.event t.what sound h.1) now.accounts h.2)
 
 pub none_on : {X : Type 0} (wire : CourseView → List X) (n k : ℕ) → wire quiet ≡ [] → On wire k (replicate n quiet) ≡ []
 none_on wire zero k empty = refl

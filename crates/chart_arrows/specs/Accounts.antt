@@ -67,8 +67,9 @@ AreAccountsOf f cs = (lane : LaneName) (e : LaneEndsView) → lane_at f lane ≡
 
 -- ---- tales
 
--- each tale is of an event that happens to the fabric which the earlier ones leave, and of its result; all of them leave
+-- each tale of an event is of one that happens to the fabric which the earlier ones leave, and of its result; all of them leave
 -- the other fabric
 abbrev pub Happen : Fabric → List Tale → Fabric → Type 0
 Happen f [] f' = f ≡ f'
-Happen f (t ∷ ts) f' = (g : Fabric) × Happens f t.event t.what g × Happen g ts f'
+Happen f (Tale.Settles line ∷ ts) f' = Happen f ts f'
+Happen f (Tale.Happens t ∷ ts) f' = (g : Fabric) × Happens f t.event t.what g × Happen g ts f'

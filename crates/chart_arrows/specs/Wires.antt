@@ -6,7 +6,7 @@ use Rattle.chart_rows.specs.declared.row.Deed.{Deed}
 use Rattle.chart_rows.specs.declared.row.Deed.TheVariants as deeds
 use Rattle.chart_links.specs.CourseView.{CourseView}
 use Rattle.chart_links.specs.Lanes.{place_of, asked_found}
-use Rattle.chart_links.specs.ChartView.{ChartView}
+use Rattle.chart_links.specs.ChartView.{ChartView, headed}
 use Rattle.chart_laws.specs.Arrows.{Tale, told, row_in, deed_in}
 
 -- the DLLP that goes onto the wire back of the lane at this place of the list of lanes, in a row that is perhaps shown
@@ -22,11 +22,13 @@ dllp_begun_on k _ = []
 -- of all events, in turn
 abbrev pub dllp_sendings : ℕ → ChartView → List Tale → List (Option DllpSent)
 dllp_sendings k v [] = []
-dllp_sendings k v (t ∷ ts) = dllp_sent_on k (row_in v t) (deed_in v t) ++ dllp_sendings k (told v t) ts
+dllp_sendings k v (Tale.Settles line ∷ ts) = dllp_sendings k (headed v line) ts
+dllp_sendings k v (Tale.Happens t ∷ ts) = dllp_sent_on k (row_in v t) (deed_in v t) ++ dllp_sendings k (told v t) ts
 
 abbrev pub dllp_beginnings : ℕ → ChartView → List Tale → List (Option DllpSent)
 dllp_beginnings k v [] = []
-dllp_beginnings k v (t ∷ ts) = dllp_begun_on k (deed_in v t) ++ dllp_beginnings k (told v t) ts
+dllp_beginnings k v (Tale.Settles line ∷ ts) = dllp_beginnings k (headed v line) ts
+dllp_beginnings k v (Tale.Happens t ∷ ts) = dllp_begun_on k (deed_in v t) ++ dllp_beginnings k (told v t) ts
 
 -- the packets and the DLLPs that are still on the wires of that lane
 abbrev pub packets_left : ℕ → List CourseView → List (Option PacketSent)

@@ -16,16 +16,16 @@ use Rattle.script_text.specs.declared.line.Line.TheVariants as lines
 use Rattle.hex_text.specs.Lines.{lines_of, bare, said}
 use Rattle.line_loop.specs.Run.{Answer, Run, after_line, new_run}
 use Rattle.chart_links.specs.declared.window.ChartWindow.{ChartWindow}
-use Rattle.chart_links.specs.ChartView.{ChartView, new_chart, charted, row_for, rows_with}
+use Rattle.chart_links.specs.ChartView.{ChartView, new_chart, charted, headed, row_for, head_row, rows_with}
 use Rattle.chart_links.specs.Levels.{new_lines}
 use Rattle.chart_levels.specs.StepLineView.{StepLineView}
 use Rattle.chart_levels.specs.Levels.{shown, shown_from}
-use Rattle.chart_laws.specs.Arrows.{Tale, told, row_in}
+use Rattle.chart_laws.specs.Arrows.{EventTale, Tale, told, row_in}
 use Rattle.chart_laws.specs.Happened.{Happened, told_all}
 use Rattle.chart_engine.specs.ChartWitnessView.{ChartWitnessView}
 use Rattle.chart_engine.specs.declared.chart.Session.{Session}
 use Rattle.chart_engine.specs.Chart as spec
-use Rattle.chart_engine.specs.Chart.{CharterView, chart_responses, out_chart, witness, witnessed, row_shown, refused_with}
+use Rattle.chart_engine.specs.Chart.{CharterView, chart_responses, out_chart, witness, witnessed, row_shown, settles_with, refused_with}
 use Rattle.chart_engine.specs.Events.{IsOfEvents, ShowsEvents, ShowsEventsIfAny, left_with, after, if_row, row_fabrics, shown_all, told_witness}
 use Rattle.chart_engine.proofs.Charted.{quiet_before}
 
@@ -39,33 +39,64 @@ record Exact (w : ChartWindow) (f : Fabric) (v : ChartWitnessView) : Type 0 wher
 
 -- ---- one event more
 
-happened_more : (ts : List Tale) (t : Tale) (f g h : Fabric) → Happened f ts g → answer g t.event ≡ Ok (t.what, h) → Happened f (ts ++ t ∷ []) h
+happened_more : (ts : List Tale) (t : EventTale) (f g h : Fabric) → Happened f ts g → answer g t.event ≡ Ok (t.what, h) → Happened f (ts ++ Tale.Happens t ∷ []) h
 happened_more [] t f g h e a = (h, subst (λ (x : Fabric). answer x t.event ≡ Ok (t.what, h)) (sym e) a, refl)
-happened_more (s ∷ ts) t f g h e a = (e.0, e.1, happened_more ts t e.0 g h e.2 a)
+happened_more (Tale.Settles line ∷ ts) t f g h e a = happened_more ts t f g h e a
+happened_more (Tale.Happens s ∷ ts) t f g h e a = (e.0, e.1, happened_more ts t e.0 g h e.2 a)
 
-told_more : (ts : List Tale) (t : Tale) (v : ChartView) → told_all v (ts ++ t ∷ []) ≡ told (told_all v ts) t
+-- a `settle` changes no fabric
+happened_settle : (ts : List Tale) (line : ℕ) (f g : Fabric) → Happened f ts g → Happened f (ts ++ Tale.Settles line ∷ []) g
+happened_settle [] line f g e = e
+happened_settle (Tale.Settles other ∷ ts) line f g e = happened_settle ts line f g e
+happened_settle (Tale.Happens s ∷ ts) line f g e = (e.0, e.1, happened_settle ts line e.0 g e.2)
+
+told_more : (ts : List Tale) (t : EventTale) (v : ChartView) → told_all v (ts ++ Tale.Happens t ∷ []) ≡ told (told_all v ts) t
 told_more [] t v = refl
-told_more (s ∷ ts) t v = told_more ts t (told v s)
+told_more (Tale.Settles line ∷ ts) t v = told_more ts t (headed v line)
+told_more (Tale.Happens s ∷ ts) t v = told_more ts t (told v s)
+
+told_settle : (ts : List Tale) (line : ℕ) (v : ChartView) → told_all v (ts ++ Tale.Settles line ∷ []) ≡ headed (told_all v ts) line
+told_settle [] line v = refl
+told_settle (Tale.Settles other ∷ ts) line v = told_settle ts line (headed v other)
+told_settle (Tale.Happens s ∷ ts) line v = told_settle ts line (told v s)
 
 -- ---- one row more
 
 -- the fabrics of the rows are those before the last event, and perhaps the one after it
-fabrics_more : (ts : List Tale) (t : Tale) (v : ChartView) (f g h : Fabric) → Happened f ts g → answer g t.event ≡ Ok (t.what, h)
-    → row_fabrics f v (ts ++ t ∷ []) ≡ row_fabrics f v ts ++ if_row (row_in (told_all v ts) t) h
+fabrics_more : (ts : List Tale) (t : EventTale) (v : ChartView) (f g h : Fabric) → Happened f ts g → answer g t.event ≡ Ok (t.what, h)
+    → row_fabrics f v (ts ++ Tale.Happens t ∷ []) ≡ row_fabrics f v ts ++ if_row (row_in (told_all v ts) t) h
 fabrics_more [] t v f g h e a =
     append-nil (if_row (row_in v t) (after f t))
     ∙ ap (λ (x : Fabric). if_row (row_in v t) (left_with f (answer x t.event))) e
     ∙ ap (λ (x : Result (Seen × Fabric) Refusal). if_row (row_in v t) (left_with f x)) a
-fabrics_more (s ∷ ts) t v f g h e a =
+fabrics_more (Tale.Settles line ∷ ts) t v f g h e a =
+    ap (λ (rest : List Fabric). if_row (head_row v line) f ++ rest) (fabrics_more ts t (headed v line) f g h e a)
+    ∙ sym (append_assoc (if_row (head_row v line) f) (row_fabrics f (headed v line) ts) (if_row (row_in (told_all (headed v line) ts) t) h))
+fabrics_more (Tale.Happens s ∷ ts) t v f g h e a =
     let next : after f s ≡ e.0 = ap (left_with f) e.1 in
     ap (λ (rest : List Fabric). if_row (row_in v s) (after f s) ++ rest)
     (fabrics_more ts t (told v s) (after f s) g h (subst (λ (x : Fabric). Happened x ts g) (sym next) e.2) a)
     ∙ sym (append_assoc (if_row (row_in v s) (after f s)) (row_fabrics (after f s) (told v s) ts) (if_row (row_in (told_all (told v s) ts) t) h))
 
--- an event that is shown gets the next row, and one that isn't adds none
+-- at a `settle` it is the one before the last
+fabrics_settle : (ts : List Tale) (line : ℕ) (v : ChartView) (f g : Fabric) → Happened f ts g
+    → row_fabrics f v (ts ++ Tale.Settles line ∷ []) ≡ row_fabrics f v ts ++ if_row (head_row (told_all v ts) line) g
+fabrics_settle [] line v f g e = append-nil (if_row (head_row v line) f) ∙ ap (λ (x : Fabric). if_row (head_row v line) x) e
+fabrics_settle (Tale.Settles other ∷ ts) line v f g e =
+    ap (λ (rest : List Fabric). if_row (head_row v other) f ++ rest) (fabrics_settle ts line (headed v other) f g e)
+    ∙ sym (append_assoc (if_row (head_row v other) f) (row_fabrics f (headed v other) ts) (if_row (head_row (told_all (headed v other) ts) line) g))
+fabrics_settle (Tale.Happens s ∷ ts) line v f g e =
+    let next : after f s ≡ e.0 = ap (left_with f) e.1 in
+    ap (λ (rest : List Fabric). if_row (row_in v s) (after f s) ++ rest)
+    (fabrics_settle ts line (told v s) (after f s) g (subst (λ (x : Fabric). Happened x ts g) (sym next) e.2))
+    ∙ sym (append_assoc (if_row (row_in v s) (after f s)) (row_fabrics (after f s) (told v s) ts) (if_row (head_row (told_all (told v s) ts) line) g))
+
+-- an event or a `settle` that is shown gets the next row, and one that isn't adds none
 pub record NextRow : Type 0 where
   pub next : (v : ChartView) (line : ℕ) (event : Event) (what : Seen) (row : ℕ) → row_for v line event what ≡ Some row → row ≡ length v.page.rows
   pub rows : (v : ChartView) (line : ℕ) (event : Event) (what : Seen) → length (charted v line event what).page.rows ≡ rows_with (row_for v line event what) (length v.page.rows)
+  pub head_next : (v : ChartView) (line row : ℕ) → head_row v line ≡ Some row → row ≡ length v.page.rows
+  pub head_rows : (v : ChartView) (line : ℕ) → length (headed v line).page.rows ≡ rows_with (head_row v line) (length v.page.rows)
 
 row_counted : (o : Option ℕ) (n : ℕ) (f : Fabric) → rows_with o n ≡ n + length (if_row o f)
 row_counted None n f = sym (add-zero n)
@@ -74,7 +105,13 @@ row_counted (Some row) n f = refl
 -- there is a fabric for each row
 as_many : NextRow → (ts : List Tale) (v : ChartView) (f : Fabric) → length (told_all v ts).page.rows ≡ length v.page.rows + length (row_fabrics f v ts)
 as_many q [] v f = sym (add-zero (length v.page.rows))
-as_many q (t ∷ ts) v f =
+as_many q (Tale.Settles line ∷ ts) v f =
+    let first : length (headed v line).page.rows ≡ length v.page.rows + length (if_row (head_row v line) f) =
+    q.head_rows v line ∙ row_counted (head_row v line) (length v.page.rows) f in
+    let rest = as_many q ts (headed v line) f in
+    let both = length-append (if_row (head_row v line) f) (row_fabrics f (headed v line) ts) in
+    omega (arith, first, rest, both)
+as_many q (Tale.Happens t ∷ ts) v f =
     let first : length (told v t).page.rows ≡ length v.page.rows + length (if_row (row_in v t) (after f t)) =
     q.rows v t.line t.event t.what ∙ row_counted (row_in v t) (length v.page.rows) (after f t) in
     let rest = as_many q ts (told v t) (after f t) in
@@ -100,8 +137,8 @@ row_more : (o : Option ℕ) (fs : List Fabric) (g : Fabric) (ls : List StepLineV
 row_more (Some row) fs g ls e = each_shown fs g row ls (e row refl)
 row_more None fs g ls e = ap (λ (gs : List Fabric). shown_all gs ls) (sym (append-nil fs))
 
-witness_more : NextRow → (w : ChartWindow) (n : ℕ) (ts : List Tale) (t : Tale) (f g h : Fabric) → Happened f ts g → answer g t.event ≡ Ok (t.what, h)
-    → witnessed (told_witness f w n ts) t.line t.event t.what h ≡ told_witness f w n (ts ++ t ∷ [])
+witness_more : NextRow → (w : ChartWindow) (n : ℕ) (ts : List Tale) (t : EventTale) (f g h : Fabric) → Happened f ts g → answer g t.event ≡ Ok (t.what, h)
+    → witnessed (told_witness f w n ts) t.line t.event t.what h ≡ told_witness f w n (ts ++ Tale.Happens t ∷ [])
 witness_more q w n ts t f g h e a =
     let start : ChartView = new_chart w n in
     let v : ChartView = told_all start ts in
@@ -109,17 +146,39 @@ witness_more q w n ts t f g h e a =
     let lines : List StepLineView = new_lines w n in
     let rows : length v.page.rows ≡ length fs = as_many q ts start f ∙ zero-add (length fs) in
     ap (λ (x : ChartView). witness x (row_shown (row_in v t) h (shown_all fs lines))) (sym (told_more ts t start))
-    ∙ ap (λ (ls : List StepLineView). witness (told_all start (ts ++ t ∷ [])) ls)
+    ∙ ap (λ (ls : List StepLineView). witness (told_all start (ts ++ Tale.Happens t ∷ [])) ls)
     (row_more (row_in v t) fs h lines (λ row is. q.next v t.line t.event t.what row is ∙ rows)
     ∙ ap (λ (gs : List Fabric). shown_all gs lines) (sym (fabrics_more ts t start f g h e a)))
 
+witness_settle : NextRow → (w : ChartWindow) (n : ℕ) (ts : List Tale) (line : ℕ) (f g : Fabric) → Happened f ts g
+    → settles_with (told_witness f w n ts) line g ≡ told_witness f w n (ts ++ Tale.Settles line ∷ [])
+witness_settle q w n ts line f g e =
+    let start : ChartView = new_chart w n in
+    let v : ChartView = told_all start ts in
+    let fs : List Fabric = row_fabrics f start ts in
+    let lines : List StepLineView = new_lines w n in
+    let rows : length v.page.rows ≡ length fs = as_many q ts start f ∙ zero-add (length fs) in
+    ap (λ (x : ChartView). witness x (row_shown (head_row v line) g (shown_all fs lines))) (sym (told_settle ts line start))
+    ∙ ap (λ (ls : List StepLineView). witness (told_all start (ts ++ Tale.Settles line ∷ [])) ls)
+    (row_more (head_row v line) fs g lines (λ row is. q.head_next v line row is ∙ rows)
+    ∙ ap (λ (gs : List Fabric). shown_all gs lines) (sym (fabrics_settle ts line start f g e)))
+
+one_settle : NextRow → (w : ChartWindow) (f : Fabric) (v : ChartWitnessView) (line : ℕ) → Exact w f v → Exact w f (settles_with v line f)
+one_settle q w f v line e = record {
+  config = e.config;
+  faultless = e.faultless;
+  tales = e.tales ++ Tale.Settles line ∷ [];
+  happened = happened_settle e.tales line (new_fabric e.config) f e.happened;
+  chart = ap (λ (x : ChartWitnessView). settles_with x line f) e.chart ∙ witness_settle q w e.config.requesters e.tales line (new_fabric e.config) f e.happened;
+}
+
 one_more : NextRow → (w : ChartWindow) (f g : Fabric) (v : ChartWitnessView) (line : ℕ) (event : Event) (what : Seen) → Exact w f v → answer f event ≡ Ok (what, g) → Exact w g (witnessed v line event what g)
 one_more q w f g v line event what e a =
-    let t : Tale = record { line = line; event = event; what = what } in
+    let t : EventTale = record { line = line; event = event; what = what } in
     record {
       config = e.config;
       faultless = e.faultless;
-      tales = e.tales ++ t ∷ [];
+      tales = e.tales ++ Tale.Happens t ∷ [];
       happened = happened_more e.tales t (new_fabric e.config) f g e.happened a;
       chart = ap (λ (x : ChartWitnessView). witnessed x line event what g) e.chart ∙ witness_more q w e.config.requesters e.tales t (new_fabric e.config) f g e.happened a;
     }
@@ -197,7 +256,7 @@ of_happened q w s (Some p) event h e = of_left q w s p event (answer p.fabric ev
 
 of_settled : NextRow → Settled → (w : ChartWindow) (s : CharterView) (o : Option Session) → Holds w s → ExactIfAny w o → Holds w (spec.settles s o).state
 of_settled q l w s None h e = ends w s s.session _ h.window h.shows
-of_settled q l w s (Some p) h e = goes_on w s _ h.window (of_each q w (spec.next_line s) (settlement p.fabric).happened p.fabric (settlement p.fabric).fabric p.chart (l p.fabric) e)
+of_settled q l w s (Some p) h e = goes_on w s _ h.window (of_each q w (spec.next_line s) (settlement p.fabric).happened p.fabric (settlement p.fabric).fabric (settles_with p.chart (spec.next_line s) p.fabric) (l p.fabric) (one_settle q w p.fabric p.chart (spec.next_line s) e))
 
 of_line : NextRow → Settled → (w : ChartWindow) (s : CharterView) (o : Option Line) → Holds w s → ExactIfAny w s.session → Holds w (spec.by_line s o).state
 of_line q l w s None h e = ends w s s.session _ h.window h.shows

@@ -1,5 +1,5 @@
 -- What `chart` answers to the lines of a script.
-use Rattle.std.specs.Prelude.{ℕ, ◌+◌, ◌-◌, ◌^◌, min, Bool, true, false, if◌then◌else◌, List, [], ◌∷◌, ◌++◌, map, fold, codes, Option, Some, None, Result, Ok, Err}
+use Rattle.std.specs.Prelude.{ℕ, ◌+◌, ◌-◌, ◌^◌, min, Bool, true, false, if◌then◌else◌, List, [], ◌∷◌, ◌++◌, length, map, fold, codes, Option, Some, None, Result, Ok, Err}
 use Rattle.std.specs.Fmt.{decimal}
 use Rattle.std.specs.Io.KnownBytes.{Appends}
 use Rattle.svg_text.specs.Xml.{IsDocument}
@@ -23,7 +23,7 @@ use Rattle.chart_page.specs.Shapes.{title_text}
 use Rattle.chart_levels.specs.StepLineView.{StepLineView}
 use Rattle.chart_levels.specs.Levels.{shown}
 use Rattle.chart_links.specs.declared.window.ChartWindow.{ChartWindow}
-use Rattle.chart_links.specs.ChartView.{ChartView, new_chart, row_for, refused_row, charted, refused, page_of, titled}
+use Rattle.chart_links.specs.ChartView.{ChartView, new_chart, row_for, head_row, refused_row, charted, headed, refused, page_of, titled}
 use Rattle.chart_links.specs.Levels.{new_lines, levelled_text}
 use Rattle.line_loop.specs.Run.{Answer, Responses, Run, run_of}
 use Rattle.chart_engine.specs.ChartWitnessView.{ChartWitnessView}
@@ -51,9 +51,13 @@ witnessed w line event what f = witness (charted w.chart line event what) (row_s
 abbrev pub refused_with : ChartWitnessView → ℕ → Event → Refusal → Fabric → ChartWitnessView
 refused_with w line event r f = witness (refused w.chart line event r) (row_shown (refused_row w.chart line event) f w.lines)
 
--- the chart below a line, with the step lines at its right
+-- that line of the script is a `settle`
+abbrev pub settles_with : ChartWitnessView → ℕ → Fabric → ChartWitnessView
+settles_with w line f = witness (headed w.chart line) (row_shown (head_row w.chart line) f w.lines)
+
+-- the chart below a line, with the step lines behind its results
 abbrev pub witness_text : ChartWitnessView → Bool → List ℕ → List ℕ
-witness_text w red title = levelled_text (page_of w.chart) w.lines red (titled w.chart title)
+witness_text w red title = levelled_text (page_of w.chart (length w.lines)) w.lines red (titled w.chart title)
 
 -- ---- a script
 
@@ -136,10 +140,10 @@ charted_of line chart h = witnessed chart line h.event h.what h.after
 abbrev pub after_rounds : ℕ → ChartWitnessView → Settling → Session
 after_rounds line chart t = session t.fabric (fold (charted_of line) chart t.happened)
 
--- rounds of events until nothing moves
+-- its row, and rounds of events until nothing moves
 abbrev pub settles : CharterView → Option Session → Answer CharterView
 settles s None = no_line s
-settles s (Some p) = goes_on s (after_rounds (next_line s) p.chart (settlement p.fabric))
+settles s (Some p) = goes_on s (after_rounds (next_line s) (settles_with p.chart (next_line s) p.fabric) (settlement p.fabric))
 
 abbrev pub by_line : CharterView → Option Line → Answer CharterView
 by_line s None = no_line s

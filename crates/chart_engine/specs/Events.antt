@@ -8,11 +8,11 @@ use Rattle.fabric_steps.specs.Fabric.{Fabric}
 use Rattle.fabric_core.specs.Answers.{answer}
 use Rattle.fabric_core.specs.New.{new_fabric, config_fault}
 use Rattle.chart_links.specs.declared.window.ChartWindow.{ChartWindow}
-use Rattle.chart_links.specs.ChartView.{ChartView, new_chart}
+use Rattle.chart_links.specs.ChartView.{ChartView, new_chart, headed, head_row}
 use Rattle.chart_links.specs.Levels.{new_lines}
 use Rattle.chart_levels.specs.StepLineView.{StepLineView}
 use Rattle.chart_levels.specs.Levels.{shown_from}
-use Rattle.chart_laws.specs.Arrows.{Tale, told, row_in}
+use Rattle.chart_laws.specs.Arrows.{EventTale, Tale, told, row_in}
 use Rattle.chart_laws.specs.Happened.{Happened, told_all}
 use Rattle.chart_engine.specs.declared.chart.Session.{Session}
 use Rattle.chart_engine.specs.ChartWitnessView.{ChartWitnessView}
@@ -25,17 +25,18 @@ abbrev pub left_with : Fabric → Result (Seen × Fabric) Refusal → Fabric
 left_with f (Ok a) = a.1
 left_with f (Err r) = f
 
-abbrev pub after : Fabric → Tale → Fabric
+abbrev pub after : Fabric → EventTale → Fabric
 after f t = left_with f (answer f t.event)
 
 abbrev pub if_row : Option ℕ → Fabric → List Fabric
 if_row None f = []
 if_row (Some row) f = f ∷ []
 
--- the fabric after the event of each row, in turn
+-- the fabric after the event of each row, in turn; at a `settle` that before its events
 abbrev pub row_fabrics : Fabric → ChartView → List Tale → List Fabric
 row_fabrics f v [] = []
-row_fabrics f v (t ∷ ts) = if_row (row_in v t) (after f t) ++ row_fabrics (after f t) (told v t) ts
+row_fabrics f v (Tale.Settles line ∷ ts) = if_row (head_row v line) f ++ row_fabrics f (headed v line) ts
+row_fabrics f v (Tale.Happens t ∷ ts) = if_row (row_in v t) (after f t) ++ row_fabrics (after f t) (told v t) ts
 
 -- step lines that are shown these fabrics, one for each row: at each row they have the level of its fabric (chart_levels,
 -- `step_lines_have_the_levels_of_their_rows`)

@@ -231,6 +231,7 @@ impl Charter {
         let Some(session) = &mut self.session else {
             return Ok(self.no_line());
         };
+        session.chart.settles(line, &session.fabric)?;
         settle(&mut session.fabric, &mut session.chart, line)?;
         self.count();
         Ok(Verdict::Fine)

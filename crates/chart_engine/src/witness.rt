@@ -62,6 +62,14 @@ impl ChartWitness {
         show_row(row, fabric, &mut self.lines)
     }
 
+    /// That line of the script is a `settle`, and its events follow.
+    pub(crate) fn settles(&mut self, line: u64, fabric: &Fabric) -> Result<(), AllocError>
+        ensures { OnOk result (self.new ≡ spec.settles_with self.old line fabric.now) }
+    {
+        let row = self.chart.settle(line)?;
+        show_row(row, fabric, &mut self.lines)
+    }
+
     /// An event was refused by the fabric.
     pub(crate) fn refused(
         &mut self,

@@ -21,7 +21,7 @@ use Rattle.chart_rows.specs.declared.row.Deed.TheVariants as deeds
 use Rattle.chart_rows.specs.declared.row.PacketSent.{PacketSent}
 use Rattle.chart_links.specs.CourseView.{CourseView, quiet, entered, next_carried, sent, oldest, arrived, without, sent_back, without_back, replayed, told as told_dllp}
 use Rattle.chart_links.specs.Lanes.{Moved, moved, place_of, changed_found, changed, asked_found, submitted, transmitted, delivered, dllp_sent, dllp_delivered, expired, forwarded, served, collected, with_completion, is_accepted, lane_to, followed}
-use Rattle.chart_links.specs.ChartView.{ChartView}
+use Rattle.chart_links.specs.ChartView.{ChartView, headed}
 use Rattle.chart_laws.specs.Arrows.{Tale, told, row_in, deed_in, sent_on, begun_on, sendings, beginnings, NeverMore}
 
 abbrev packets : List PacketSent → List (Option PacketSent)
@@ -293,7 +293,8 @@ left_over w s b w' n is e =
 pub arrows : (ts : List Tale) (k n : ℕ) (v : ChartView) → k < length v.courses → n ≡ length (wire k v.courses) → NeverMore k n v ts
     → beginnings k v ts ≡ take (length (beginnings k v ts)) (wire k v.courses ++ sendings k v ts)
 arrows [] k n v lt is never = refl
-arrows (t ∷ ts) k n v lt is never =
+arrows (Tale.Settles line ∷ ts) k n v lt is never = arrows ts k n (headed v line) lt is never
+arrows (Tale.Happens t ∷ ts) k n v lt is never =
     let row = row_in v t in
     let m : Moved = followed v.courses row t.event t.what in
     let s = sent_on k row m.deed in

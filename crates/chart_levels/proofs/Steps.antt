@@ -4,7 +4,7 @@ use Rattle.std.proofs.Common.{◌≡◌, ◌∙◌, ◌+◌, ◌++◌, ◌<◌, 
 use Rattle.std.proofs.lemmas.Grind.{flat_map-append}
 use Rattle.std.proofs.lemmas.List.{append-nil}
 use Rattle.svg_text.specs.Shapes.{Shape, shape_text, shapes_text, page_text}
-use Rattle.chart_rows.specs.Layout.{width_of, top_of}
+use Rattle.chart_rows.specs.Layout.{width_of, levels_left, top_of}
 use Rattle.chart_rows.specs.PageView.{PageView}
 use Rattle.chart_levels.specs.declared.step_line.Step.{Step}
 use Rattle.chart_levels.specs.declared.drawing.Strip.{Strip}
@@ -68,10 +68,10 @@ pub then-beside : (o p : List ℕ) (ss b : List Shape) → o ≡ shapes_text ss 
 then-beside o p ss b e f = f ∙ ap (λ (t : List ℕ). t ++ shapes_text b) e ∙ sym (text-append ss b)
 
 -- the page, at its own width and height
-pub levelled : (p : PageView) (lines : List StepLineView) (ss : List Shape) (left rows reach top : ℕ) → left ≡ width_of p.parts → rows ≡ length p.rows → reach ≡ reach_of (length lines) → top ≡ top_of rows
-    → page_text (left + reach) (top + 30) (ss ++ beside left rows 0 lines) ≡ levelled_page p lines ss
-levelled p lines ss left rows reach top e f g h =
-    ap (λ (n : ℕ). page_text (left + n) (top + 30) (ss ++ beside left rows 0 lines)) g
-    ∙ ap (λ (n : ℕ). page_text (left + reach_of (length lines)) (n + 30) (ss ++ beside left rows 0 lines)) h
-    ∙ ap (λ (n : ℕ). page_text (n + reach_of (length lines)) (top_of rows + 30) (ss ++ beside n rows 0 lines)) e
-    ∙ ap (λ (n : ℕ). page_text (width_of p.parts + reach_of (length lines)) (top_of n + 30) (ss ++ beside (width_of p.parts) n 0 lines)) f
+pub levelled : (p : PageView) (lines : List StepLineView) (ss : List Shape) (left rows width top : ℕ) → left ≡ levels_left p.letters → rows ≡ length p.rows → width ≡ width_of p.frame → top ≡ top_of rows
+    → page_text width (top + 30) (ss ++ beside left rows 0 lines) ≡ levelled_page p lines ss
+levelled p lines ss left rows width top e f g h =
+    ap (λ (n : ℕ). page_text n (top + 30) (ss ++ beside left rows 0 lines)) g
+    ∙ ap (λ (n : ℕ). page_text (width_of p.frame) (n + 30) (ss ++ beside left rows 0 lines)) h
+    ∙ ap (λ (n : ℕ). page_text (width_of p.frame) (top_of rows + 30) (ss ++ beside n rows 0 lines)) e
+    ∙ ap (λ (n : ℕ). page_text (width_of p.frame) (top_of n + 30) (ss ++ beside (levels_left p.letters) n 0 lines)) f

@@ -10,7 +10,7 @@ use Rattle.svg_text.specs.declared.shapes.Rule.{Rule}
 use Rattle.svg_text.specs.declared.shapes.Label.{Label}
 use Rattle.svg_text.specs.declared.shapes.Block.{Block}
 use Rattle.svg_text.specs.Shapes.{Shape}
-use Rattle.chart_rows.specs.Layout.{top_of}
+use Rattle.chart_rows.specs.Layout.{top_of, text_line}
 use Rattle.chart_rows.specs.Titles.{on_words}
 use Rattle.chart_levels.specs.declared.level.Level.{Level}
 use Rattle.chart_levels.specs.declared.level.Level.TheVariants as levels
@@ -91,7 +91,7 @@ abbrev pub label_at : ℕ → ℕ → Colour → Label
 label_at x y colour = record { x = x; y = y; size = 12; colour = colour; is_centred = false }
 
 abbrev pub step_said : Strip → Step → Shape
-step_said t s = Shape.Written (label_at (t.left + 30) (top_of s.row + 17) colours.Black) (value_words s.value)
+step_said t s = Shape.Written (label_at (t.left + 30) (text_line s.row) colours.Black) (value_words s.value)
 
 abbrev pub step_shapes : Strip → Step → Option Step → List Shape
 step_shapes t s next = step_drawn t s next ∷ step_said t s ∷ []
@@ -113,17 +113,17 @@ abbrev pub level_named : Strip → ℕ → Colour → Shape
 level_named t y colour = Shape.Written (label_at t.left y colour) (level_name t.level)
 
 abbrev pub greatest_said : Strip → Shape
-greatest_said t = Shape.Written (label_at t.left 88 colours.Grey) (codes "max " ++ decimal t.greatest)
+greatest_said t = Shape.Written (label_at t.left 90 colours.Grey) (codes "max " ++ decimal t.greatest)
 
 abbrev pub head : Strip → List Shape
-head t = lane_named t 60 colours.Black ∷ level_named t 74 colours.Black ∷ greatest_said t ∷ axis_drawn t ∷ []
+head t = lane_named t 68 colours.Black ∷ level_named t 79 colours.Black ∷ greatest_said t ∷ axis_drawn t ∷ []
 
 abbrev pub plate : Strip → ℕ → Shape
-plate t y = Shape.Filled (record { left = t.left - 2; top = y - 26; right = t.left + 60; bottom = y; fill = colours.White; edge = colours.White; thickness = 0; is_open = false }) (level_name t.level)
+plate t y = Shape.Filled (record { left = t.left - 2; top = y - 20; right = t.left + 60; bottom = y; fill = colours.White; edge = colours.White; thickness = 0; is_open = false }) (level_name t.level)
 
 -- the names again, on white, in the stripe that ends at y
 abbrev pub names : Strip → ℕ → List Shape
-names t y = plate t y ∷ lane_named t (y - 16) colours.Grey ∷ level_named t (y - 4) colours.Grey ∷ []
+names t y = plate t y ∷ lane_named t (y - 11) colours.Grey ∷ level_named t (y - 1) colours.Grey ∷ []
 
 abbrev pub stripe : Strip → ℕ → List Shape
 stripe t k = names t (top_of (40 * (k + 1)))

@@ -10,7 +10,7 @@ ghost use Rattle.chart_levels.specs.Strips as spec;
 use crate::level::{Level, level_name, level_words};
 use crate::step_line::Step;
 use arrayvec::ArrayString;
-use chart_rows::{put_lane, put_on, top_of};
+use chart_rows::{put_lane, put_on, text_line, top_of};
 use fabric_core::LaneName;
 use operation_text::write_decimal;
 use std::alloc::AllocError;
@@ -172,7 +172,7 @@ fn put_step_value(strip: Strip, step: Step, out: &mut Vec<u8>) -> Result<(), All
 {
     let mut words = ArrayString::new();
     put_value(step.value, &mut words);
-    let label = label_at(strip.left + 30, top_of(step.row) + 17, Colour::Black);
+    let label = label_at(strip.left + 30, text_line(step.row), Colour::Black);
     put_label(&label, words.as_bytes(), out)
 }
 
@@ -236,7 +236,7 @@ fn put_greatest(strip: Strip, out: &mut Vec<u8>) -> Result<(), AllocError>
     let mut words = ArrayString::new();
     words.push_str("max ");
     write_decimal(strip.greatest, &mut words);
-    let label = label_at(strip.left, 88, Colour::Grey);
+    let label = label_at(strip.left, 90, Colour::Grey);
     put_label(&label, words.as_bytes(), out)
 }
 
@@ -254,8 +254,8 @@ fn put_axis(strip: Strip, out: &mut Vec<u8>) -> Result<(), AllocError>
 pub(crate) fn put_head(strip: Strip, out: &mut Vec<u8>) -> Result<(), AllocError>
     ensures { OnOk result (out.new.items ≡ out.old.items ++ shapes_text (spec.head strip)) }
 {
-    put_lane_name(strip, 60, Colour::Black, out)?;
-    put_level_name(strip, 74, Colour::Black, out)?;
+    put_lane_name(strip, 68, Colour::Black, out)?;
+    put_level_name(strip, 79, Colour::Black, out)?;
     put_greatest(strip, out)?;
     put_axis(strip, out)
 }
@@ -268,7 +268,7 @@ fn put_plate(strip: Strip, y: u64, out: &mut Vec<u8>) -> Result<(), AllocError>
 {
     let block = Block {
         left: strip.left.saturating_sub(2),
-        top: y.saturating_sub(26),
+        top: y.saturating_sub(20),
         right: strip.left + 60,
         bottom: y,
         fill: Colour::White,
@@ -287,8 +287,8 @@ fn put_names(strip: Strip, y: u64, out: &mut Vec<u8>) -> Result<(), AllocError>
     ensures { OnOk result (out.new.items ≡ out.old.items ++ shapes_text (spec.names strip y)) }
 {
     put_plate(strip, y, out)?;
-    put_lane_name(strip, y.saturating_sub(16), Colour::Grey, out)?;
-    put_level_name(strip, y.saturating_sub(4), Colour::Grey, out)
+    put_lane_name(strip, y.saturating_sub(11), Colour::Grey, out)?;
+    put_level_name(strip, y.saturating_sub(1), Colour::Grey, out)
 }
 
 /// Adds the names in the stripe of this number, from 0.

@@ -2,7 +2,7 @@
 //!
 //! A [`StepLine`] keeps one [`Level`] of one lane. It is shown the fabric after the event of each row, and keeps a
 //! [`Step`] for each row in which the level has another value than in the row before. [`put_levelled_page`] writes the
-//! page of a chart with step lines at its right.
+//! page of a chart with step lines behind its results.
 #![tactic(auto)]
 
 mod drawing;

@@ -6,16 +6,16 @@ ghost use Rattle.chart_levels.specs.Pages as spec;
 
 use crate::drawing::{Strip, put_head, put_steps, put_stripes};
 use crate::step_line::StepLine;
-use chart_rows::{Page, top_of, width_of};
+use chart_rows::{Page, levels_left, top_of, width_of};
 use std::alloc::{AllocError, Global};
 use svg_text::put_page;
 
 /// How far right so many step lines reach.
 fn reach_of(count: usize) -> u64
     ensures value { result ≡ spec.reach_of count }
-    ensures range { result ≤ 96000 }
+    ensures range { result ≤ 32000 }
 {
-    64 * count.min(1500) as u64
+    64 * count.min(500) as u64
 }
 
 /// Where a step line stands that is drawn beside so many rows.
@@ -56,8 +56,8 @@ fn put_all(lines: &[StepLine], left: u64, rows: u16, out: &mut Vec<u8>) -> Resul
     Ok(())
 }
 
-/// Adds the page of a chart in SVG, given the text of the chart's shapes, with step lines at its right. It has 1,000 rows
-/// at most. After an `Err`, which is out of memory, nothing is added.
+/// Adds the page of a chart in SVG, given the text of the chart's shapes, with step lines behind its results. It has 1,000
+/// rows at most. After an `Err`, which is out of memory, nothing is added.
 pub fn put_levelled_page(
     alloc: Global,
     page: &Page,
@@ -70,9 +70,8 @@ pub fn put_levelled_page(
     ensures err { OnErr result (out.new.items ≡ out.old.items) }
 {
     let rows = page.rows.as_slice().len() as u16;
-    let left = width_of(page.parts);
-    put_all(lines, left, rows, &mut shapes)?;
-    let width = left + reach_of(lines.len());
+    put_all(lines, levels_left(page.letters), rows, &mut shapes)?;
+    let width = width_of(page.frame);
     let height = top_of(rows) + 30;
     put_page(alloc, width, height, shapes, out)
 }

@@ -6,7 +6,8 @@ use Rattle.chart_rows.specs.declared.row.Row.{Row}
 use Rattle.chart_rows.specs.PageView.{PageView}
 use Rattle.chart_links.specs.declared.window.Place.{Place}
 use Rattle.chart_links.specs.declared.window.Place.TheVariants as places
-use Rattle.chart_links.specs.ChartView.{ChartView, row_at, row_of, row_for, rows_with, place_for, counted, drawn, charted}
+use Rattle.chart_links.specs.ChartView.{ChartView, row_at, row_of, head_of, row_for, head_row, rows_with, place_for, counted, drawn, charted, headed}
+use Rattle.chart_links.specs.Window.{place_in}
 use Rattle.chart_links.specs.Lanes.{followed}
 
 counted_rows : (place : Place) (p : PageView) → (counted place p).rows ≡ p.rows
@@ -35,4 +36,14 @@ rows v line event what =
     let place : Place = place_for v line event what in
     let n : ℕ = length v.page.rows in
     drawn_rows (row_at place n) (row_of line event (Ok what) (followed v.courses (row_at place n) event what).deed) (counted place v.page)
+    ∙ ap (λ (rs : List Row). rows_with (row_at place n) (length rs)) (counted_rows place v.page)
+
+pub head_next : (v : ChartView) (line row : ℕ) → head_row v line ≡ Some row → row ≡ length v.page.rows
+head_next v line row e = next_at (place_in v.window (length v.page.rows) line) (length v.page.rows) row e
+
+pub head_rows : (v : ChartView) (line : ℕ) → length (headed v line).page.rows ≡ rows_with (head_row v line) (length v.page.rows)
+head_rows v line =
+    let n : ℕ = length v.page.rows in
+    let place : Place = place_in v.window n line in
+    drawn_rows (row_at place n) (head_of line) (counted place v.page)
     ∙ ap (λ (rs : List Row). rows_with (row_at place n) (length rs)) (counted_rows place v.page)

@@ -1,8 +1,9 @@
 -- What happened on the links of a fabric so far, as a chart.
-use Rattle.std.specs.Prelude.{ℕ, ◌+◌, ◌-◌, ◌^◌, min, List, [], ◌∷◌, ◌++◌, length, replicate, Option, Some, None, Result, Ok, Err}
+use Rattle.std.specs.Prelude.{ℕ, ◌+◌, ◌-◌, ◌^◌, min, max, List, [], ◌∷◌, ◌++◌, length, replicate, Option, Some, None, Result, Ok, Err}
 use Rattle.fabric_steps.specs.Event.{Event, Seen}
 use Rattle.fabric_steps.specs.declared.event.LaneName.{LaneName}
 use Rattle.fabric_steps.specs.declared.fault.Refusal.{Refusal}
+use Rattle.chart_rows.specs.declared.row.Said.TheVariants as saids
 use Rattle.chart_rows.specs.declared.row.Row.{Row}
 use Rattle.chart_rows.specs.declared.row.PacketSent.{PacketSent}
 use Rattle.chart_rows.specs.declared.row.DllpSent.{DllpSent}
@@ -16,7 +17,10 @@ use Rattle.chart_links.specs.declared.window.ChartWindow.{ChartWindow}
 use Rattle.chart_links.specs.declared.window.Place.{Place}
 use Rattle.chart_links.specs.declared.window.Place.TheVariants as places
 use Rattle.chart_rows.specs.declared.layout.Parts.{Parts}
-use Rattle.chart_links.specs.Window.{place_of, is_omitted, unless_omitted, absent_words, parts_of}
+use Rattle.chart_rows.specs.declared.layout.Frame.{Frame}
+use Rattle.chart_rows.specs.Layout.{first_line}
+use Rattle.chart_rows.specs.Words.{letters_of}
+use Rattle.chart_links.specs.Window.{place_in, place_of, is_omitted, unless_omitted, absent_words, parts_of}
 use Rattle.chart_links.specs.CourseView.{CourseView, quiet}
 use Rattle.chart_links.specs.Lanes.{Moved, followed, lane_at}
 use Rattle.chart_links.specs.News.{tells_nothing}
@@ -28,8 +32,9 @@ pub record ChartView : Type 0 where
   pub courses : List CourseView
   pub page : PageView
 
+-- a result has place for 16 letters at least
 abbrev pub empty_page : Parts → PageView
-empty_page parts = record { parts = parts; rows = []; opens = []; before = 0; after = 0; omitted = 0 }
+empty_page parts = record { frame = record { parts = parts; left = 0 }; letters = 16; rows = []; opens = []; before = 0; after = 0; omitted = 0 }
 
 -- a fabric with so many requesters, to which nothing has happened
 abbrev pub new_chart : ChartWindow → ℕ → ChartView
@@ -50,7 +55,7 @@ row_at _ row = None
 abbrev pub place_for : ChartView → ℕ → Event → Seen → Place
 place_for v line event what = unless_omitted (is_omitted v.window (tells_nothing v.courses event what)) (place_of v.window (length v.page.rows) line event)
 
--- one event more that isn't shown, before the rows, after them, or as it tells nothing new
+-- one row more that isn't shown, before the rows, after them, or as it tells nothing new
 abbrev pub counted : Place → PageView → PageView
 counted places.Before p = record p { before = one_more p.before }
 counted places.After p = record p { after = one_more p.after }
@@ -75,13 +80,17 @@ opened (deeds.Arrived lane fate arrival (Some p)) = opened_packet lane p
 opened (deeds.ArrivedDllp lane fate (Some d) replay) = opened_dllp lane d
 opened _ = []
 
+-- a row more, and its result has its place
+abbrev pub with_row : Row → PageView → PageView
+with_row r p = record p { rows = p.rows ++ r ∷ []; letters = max p.letters (letters_of r.said) }
+
 -- an event gets a row, or it ends what was sent in one
 abbrev pub drawn : Option ℕ → Row → PageView → PageView
-drawn (Some row) r p = record p { rows = p.rows ++ r ∷ [] }
+drawn (Some row) r p = with_row r p
 drawn None r p = record p { opens = p.opens ++ opened r.deed }
 
 abbrev pub row_of : ℕ → Event → Result Seen Refusal → Deed → Row
-row_of line event outcome deed = record { line = line; event = event; outcome = outcome; deed = deed }
+row_of line event outcome deed = record { line = line; said = saids.Event event outcome; deed = deed }
 
 abbrev pub follows : ChartView → Place → ℕ → Event → Seen → Moved → ChartView
 follows v place line event what m = record v {
@@ -118,6 +127,21 @@ refused_at v place line event r = record v {
 abbrev pub refused : ChartView → ℕ → Event → Refusal → ChartView
 refused v line event r = refused_at v (place_of v.window (length v.page.rows) line event) line event r
 
+-- a `settle`, whose events follow
+abbrev pub head_of : ℕ → Row
+head_of line = record { line = line; said = saids.Settle; deed = deeds.Settles }
+
+-- the row of a `settle` of that line, if it is shown
+abbrev pub head_row : ChartView → ℕ → Option ℕ
+head_row v line = row_at (place_in v.window (length v.page.rows) line) (length v.page.rows)
+
+abbrev pub headed_at : ChartView → Place → ℕ → ChartView
+headed_at v place line = record v { page = drawn (row_at place (length v.page.rows)) (head_of line) (counted place v.page) }
+
+-- that line of the script is a `settle`
+abbrev pub headed : ChartView → ℕ → ChartView
+headed v line = headed_at v (place_in v.window (length v.page.rows) line) line
+
 -- ---- the end
 
 -- what is still on a wire
@@ -137,12 +161,16 @@ abbrev pub left : ℕ → List CourseView → List Open
 left place [] = []
 left place (c ∷ cs) = left_of (lane_at place) c ++ left (place + 1) cs
 
-abbrev pub with_left : List CourseView → PageView → PageView
-with_left cs p = record p { opens = p.opens ++ left 0 cs }
+-- the first line stands behind so many step lines
+abbrev pub framed : ℕ → PageView → Frame
+framed levels p = record { parts = p.frame.parts; left = first_line p.letters levels }
 
--- the page of a chart
-abbrev pub page_of : ChartView → PageView
-page_of v = with_left v.courses v.page
+abbrev pub with_left : List CourseView → ℕ → PageView → PageView
+with_left cs levels p = record p { frame = framed levels p; opens = p.opens ++ left 0 cs }
+
+-- the page of a chart with so many step lines
+abbrev pub page_of : ChartView → ℕ → PageView
+page_of v levels = with_left v.courses levels v.page
 
 -- the line above a chart
 abbrev pub titled : ChartView → List ℕ → List ℕ

@@ -1,4 +1,4 @@
--- The step lines of the lanes that are shown, and a chart with them at its right. With none of them it is the chart alone
+-- The step lines of the lanes that are shown, and a chart with them behind its results. With none of them it is the chart alone
 -- (`charts_without_levels_are_charts`).
 use Rattle.std.specs.Prelude.{ℕ, zero, suc, ◌+◌, Bool, true, false, if◌then◌else◌, List, [], ◌++◌, Option, Some, None}
 use Rattle.fabric_steps.specs.declared.event.LaneName.{LaneName}

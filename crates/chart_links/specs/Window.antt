@@ -64,7 +64,7 @@ abbrev pub parts_of : Option LaneName → ℕ → Parts
 parts_of None n = parts.All n
 parts_of (Some lane) n = if has_lane n lane then ends_of lane else parts.All n
 
--- where an event of a line goes, after so many rows
+-- where a row of a line goes, after so many rows
 abbrev pub place_in : ChartWindow → ℕ → ℕ → Place
 place_in w rows line =
     if nat_lt line w.from then places.Before
@@ -74,13 +74,16 @@ place_in w rows line =
 abbrev pub place_of : ChartWindow → ℕ → ℕ → Event → Place
 place_of w rows line event = if is_chosen w.lane event then place_in w rows line else places.Hidden
 
--- of what would be shown, a brief chart leaves out what tells nothing new
+-- a brief chart leaves out what tells nothing new, and counts it if it would be shown
 abbrev pub is_omitted : ChartWindow → Bool → Bool
 is_omitted w is_old = w.is_brief && is_old
 
 abbrev pub omitted : Place → Place
 omitted places.Shown = places.Omitted
-omitted place = place
+omitted places.Omitted = places.Omitted
+omitted places.Hidden = places.Hidden
+omitted places.Before = places.Hidden
+omitted places.After = places.Hidden
 
 abbrev pub unless_omitted : Bool → Place → Place
 unless_omitted is_left_out place = if is_left_out then omitted place else place

@@ -1,5 +1,5 @@
 //! The chart, event by event.
-ghost use Rattle.std.specs.Prelude.{◌≡◌, ◌≤◌, ◌<◌, ◌++◌, length, replicate, IsSome, OnOk, OnErr, IfOk};
+ghost use Rattle.std.specs.Prelude.{◌≡◌, ◌≤◌, ◌<◌, ◌+◌, ◌++◌, length, replicate, IsSome, OnOk, OnErr, IfOk};
 ghost use Rattle.chart_rows.specs.Sizes.{AreRows};
 ghost use Rattle.chart_links.specs.Levels.{levelled_text};
 ghost use Rattle.chart_links.specs.CourseView.{quiet};
@@ -14,7 +14,7 @@ use crate::window::{ChartWindow, Place, parts_of, write_if_absent};
 use arrayvec::ArrayString;
 use chart_levels::{StepLine, put_levelled_page};
 use chart_page::put_chart_shapes;
-use chart_rows::{Deed, Open, Page, Row};
+use chart_rows::{Deed, Frame, Open, Page, Row, Said, first_line, letters_of};
 use fabric_core::{Event, LaneName, Refusal, Seen};
 use std::alloc::{AllocError, Global};
 use std::marker::Model;
@@ -24,7 +24,7 @@ const LANES: usize = 16;
 
 /// What happened on the links of a fabric so far.
 ///
-/// A chart has at most 1,000 rows, and counts the events that it doesn't show. What it keeps grows by a few hundred
+/// A chart has at most 1,000 rows, one for each event and one for each `settle`, and counts those that it doesn't show. What it keeps grows by a few hundred
 /// bytes for each row, and by what is in the replay buffers, on the wires and in the queues.
 #[derive(Drop)]
 pub struct Chart {
@@ -68,7 +68,7 @@ fn add_open(deed: Deed, opens: &mut Vec<Open>) -> Result<(), AllocError>
     }
 }
 
-/// One event more that isn't shown, before the rows, after them, or as it tells nothing new.
+/// One row more that isn't shown, before the rows, after them, or as it tells nothing new.
 fn count(place: Place, page: &mut Page)
     ensures page { page.new ≡ spec.counted place page.old }
     ensures rows { page.new.rows ≡ page.old.rows }
@@ -93,6 +93,16 @@ fn row_at(place: Place, rows: usize) -> Option<u16>
     }
 }
 
+/// A row is added, and its result has its place.
+fn add_row(of: Row, page: &mut Page) -> Result<(), AllocError>
+    ensures page { OnOk result (page.new ≡ spec.with_row of page.old) }
+    ensures rows { length page.new.rows ≤ length page.old.rows + 1 }
+{
+    page.letters = page.letters.max(letters_of(&of.said));
+    page.rows.push(of)?;
+    Ok(())
+}
+
 /// An event gets a row, or it ends what was sent in one.
 fn draw(row: Option<u16>, of: Row, page: &mut Page) -> Result<(), AllocError>
     requires few { AreRows (length page.old.rows) }
@@ -101,20 +111,18 @@ fn draw(row: Option<u16>, of: Row, page: &mut Page) -> Result<(), AllocError>
     ensures few { AreRows (length page.new.rows) }
 {
     match row {
-        Some(_) => {
-            page.rows.push(of)?;
-            Ok(())
-        }
+        Some(_) => add_row(of, page),
         None => add_open(of.deed, &mut page.opens),
     }
 }
 
-/// Adds what is still on the wires.
-fn add_rest(courses: &[Course], page: &mut Page) -> Result<(), AllocError>
+/// Adds what is still on the wires, and finds where the first line stands behind so many step lines.
+fn add_rest(courses: &[Course], levels: usize, page: &mut Page) -> Result<(), AllocError>
     requires { AreRows (length page.old.rows) }
-    ensures page { OnOk result (page.new ≡ spec.with_left courses.now page.old) }
+    ensures page { OnOk result (page.new ≡ spec.with_left courses.now levels page.old) }
     ensures few { OnOk result (AreRows (length page.new.rows)) }
 {
+    page.frame.left = first_line(page.letters, levels);
     add_left(courses, &mut page.opens)
 }
 
@@ -147,7 +155,11 @@ impl Chart {
             requesters,
             courses,
             page: Page {
-                parts: parts_of(window.lane, requesters),
+                frame: Frame {
+                    parts: parts_of(window.lane, requesters),
+                    left: 0,
+                },
+                letters: 16,
                 rows: Vec::new(alloc),
                 opens: Vec::new(alloc),
                 before: 0,
@@ -172,9 +184,27 @@ impl Chart {
         count(place, &mut self.page);
         let of = Row {
             line,
-            event,
-            outcome: Ok(seen),
+            said: Said::Event(event, Ok(seen)),
             deed,
+        };
+        draw(row, of, &mut self.page)?;
+        Ok(row)
+    }
+
+    /// That line of the script is a `settle`, and its events follow. Gives its row, if it is shown. The only error is being
+    /// out of memory; after it the chart may lack the row.
+    pub fn settle(&mut self, line: u64) -> Result<Option<u16>, AllocError>
+        ensures chart { OnOk result (self.new ≡ spec.headed self.old line) }
+        ensures row { IfOk result (λ row. row ≡ spec.head_row self.old line) }
+    {
+        let rows = self.page.rows.len();
+        let place = self.window.place_in(rows, line);
+        let row = row_at(place, rows);
+        count(place, &mut self.page);
+        let of = Row {
+            line,
+            said: Said::Settle,
+            deed: Deed::Settles,
         };
         draw(row, of, &mut self.page)?;
         Ok(row)
@@ -197,15 +227,14 @@ impl Chart {
         count(place, &mut self.page);
         let of = Row {
             line,
-            event,
-            outcome: Err(refusal),
+            said: Said::Event(event, Err(refusal)),
             deed: Deed::Nothing,
         };
         draw(row, of, &mut self.page)?;
         Ok(row)
     }
 
-    /// Adds the chart in SVG below a line, which is red where it tells a fault or a refusal, with step lines at its right.
+    /// Adds the chart in SVG below a line, which is red where it tells a fault or a refusal, with step lines behind its results.
     /// If the fabric lacks the lane of the window, that follows in the line. After an `Err`, which is out of memory,
     /// nothing is added.
     pub fn put(
@@ -215,14 +244,14 @@ impl Chart {
         title: &[u8],
         out: &mut Vec<u8>,
     ) -> Result<(), AllocError>
-        ensures ok { OnOk result (out.new.items ≡ out.old.items ++ levelled_text (spec.page_of self) lines.now is_red (spec.titled self title.now)) }
+        ensures ok { OnOk result (out.new.items ≡ out.old.items ++ levelled_text (spec.page_of self (length lines.now)) lines.now is_red (spec.titled self title.now)) }
         ensures err { OnErr result (out.new.items ≡ out.old.items) }
     {
         let alloc = self.alloc;
         let courses = self.courses;
         let mut page = self.page;
         let line = lengthened(alloc, title, self.window.lane, self.requesters)?;
-        add_rest(courses.as_slice(), &mut page)?;
+        add_rest(courses.as_slice(), lines.len(), &mut page)?;
         let mut shapes = Vec::new(alloc);
         put_chart_shapes(alloc, &page, is_red, line.as_slice(), &mut shapes)?;
         put_levelled_page(alloc, &page, lines, shapes, out)

@@ -115,7 +115,7 @@ pub(crate) fn parts_of(lane: Option<LaneName>, requesters: u8) -> Parts
 /// Where an event goes.
 #[derive(Clone, Copy)]
 pub(crate) enum Place {
-    /// It is of no lane that is shown.
+    /// It is of no lane that is shown, or it would be left out of the rows before or after.
     Hidden,
     /// It isn't shown, and comes before the rows.
     Before,
@@ -127,15 +127,13 @@ pub(crate) enum Place {
     Omitted,
 }
 
-/// Where an event goes that is left out, if it would be shown.
+/// Where an event goes that is left out: it is counted if it would be shown.
 fn omitted(place: Place) -> Place
     ensures place { result ≡ spec.omitted place }
     ensures shown { result ≡ Place.Shown → ⊥ }
 {
     match place {
-        Place::Hidden => Place::Hidden,
-        Place::Before => Place::Before,
-        Place::After => Place::After,
+        Place::Hidden | Place::Before | Place::After => Place::Hidden,
         Place::Shown | Place::Omitted => Place::Omitted,
     }
 }
@@ -144,8 +142,8 @@ fn omitted(place: Place) -> Place
 const MOST_ROWS: usize = 1_000;
 
 impl ChartWindow {
-    /// Where an event of a line goes, after so many rows.
-    fn place_in(&self, rows: usize, line: u64) -> Place
+    /// Where a row of a line goes, after so many rows.
+    pub(crate) fn place_in(&self, rows: usize, line: u64) -> Place
         ensures place { result ≡ spec.place_in self.now rows line }
         ensures shown { result ≡ Place.Shown → rows < 1000 }
     {

@@ -3,7 +3,7 @@ use Rattle.std.specs.Prelude.{ℕ, ◌≤◌}
 
 -- where the line of a part stands
 abbrev pub IsColumn : ℕ → Type 0
-IsColumn x = x ≤ 70000
+IsColumn x = x ≤ 110000
 
 -- how far across an arrow begins or ends
 abbrev pub IsAcross : ℕ → Type 0

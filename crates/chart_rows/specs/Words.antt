@@ -1,7 +1,11 @@
 -- The words on a chart.
-use Rattle.std.specs.Prelude.{ℕ, ◌-◌, nat_le, Bool, true, false, if◌then◌else◌, List, [], ◌∷◌, ◌++◌, length, take, codes, Option, Some, None, Result, Ok, Err}
+use Rattle.std.specs.Prelude.{ℕ, ◌+◌, ◌-◌, ◌^◌, ◌==◌, min, nat_le, Bool, true, false, if◌then◌else◌, List, [], ◌∷◌, ◌++◌, length, take, codes, Option, Some, None, Result, Ok, Err}
 use Rattle.std.specs.Fmt.{decimal}
+use Rattle.hex.specs.Hex.{encode_upper}
 use Rattle.tlp_core.specs.Ops.{Op}
+use Rattle.seq_memory.specs.Entries.{Reply}
+use Rattle.seq_memory.specs.declared.reply.ReplyOf.TheVariants as replies
+use Rattle.requester_core.specs.Answers.{Answer}
 use Rattle.tlp_core.specs.declared.operation.OpOf.TheVariants as ops
 use Rattle.dllp_core.specs.declared.packet.Dllp.{Dllp}
 use Rattle.dllp_core.specs.declared.packet.Dllp.TheVariants as dllps
@@ -11,18 +15,22 @@ use Rattle.lane_core.specs.declared.packet.Arrival.{Arrival}
 use Rattle.lane_core.specs.declared.packet.Arrival.TheVariants as arrivals
 use Rattle.link_replay.specs.declared.receiver.Reception.TheVariants as receptions
 use Rattle.fabric_steps.specs.Event.{Event, Seen}
+use Rattle.fabric_steps.specs.declared.event.SeenOf.TheVariants as seen
 use Rattle.fabric_steps.specs.declared.event.LaneName.{LaneName}
 use Rattle.fabric_steps.specs.declared.fault.Refusal.{Refusal}
 use Rattle.operation_text.specs.Texts.{sequence_text}
 use Rattle.script_text.specs.Names.{class_name, refusal_text}
-use Rattle.script_text.specs.Texts.{seen_text}
+use Rattle.script_text.specs.Texts.{port_of, seen_text}
 use Rattle.script_text.specs.LineTexts.{event_line, lane_text}
 use Rattle.chart_rows.specs.declared.row.Kind.{Kind}
 use Rattle.chart_rows.specs.declared.row.Kind.TheVariants as requests
 use Rattle.chart_rows.specs.declared.row.Carried.{Carried}
 use Rattle.chart_rows.specs.declared.row.Replay.{Replay}
 use Rattle.chart_rows.specs.declared.row.Replay.TheVariants as replays
+use Rattle.chart_rows.specs.declared.row.Said.{Said}
+use Rattle.chart_rows.specs.declared.row.Said.TheVariants as saids
 use Rattle.chart_rows.specs.declared.row.Row.{Row}
+use Rattle.chart_rows.specs.declared.row.Shown.{Shown}
 
 -- ---- packets
 
@@ -89,6 +97,20 @@ dllp_arrival_words fates.Good r = replay_words r
 dllp_arrival_words fates.Failed r = codes "failed"
 dllp_arrival_words fates.Lost r = codes "lost"
 
+-- ---- replies
+
+-- data of more than 16 bytes is cut to eight, with its length
+abbrev pub data_words : List ℕ → List ℕ
+data_words bytes =
+    if nat_le (length bytes) 16 then codes "data " ++ encode_upper bytes
+    else codes "data " ++ (encode_upper (take 8 bytes) ++ (codes ".. (" ++ (decimal (length bytes) ++ codes ")")))
+
+abbrev pub brief_reply : Reply → List ℕ
+brief_reply replies.Done = codes "done"
+brief_reply (replies.Data bytes) = data_words bytes.items
+brief_reply replies.Unsupported = codes "ur"
+brief_reply replies.Aborted = codes "ca"
+
 -- ---- what happened at a part
 
 abbrev pub submitted_words : Carried → List ℕ
@@ -103,8 +125,18 @@ forwarded_words c = codes "forward" ++ known_words c
 abbrev pub served_words : Option Carried → ℕ → List ℕ
 served_words c index = codes "serve" ++ (known_words c ++ (codes ", history " ++ decimal index))
 
-abbrev pub collected_words : Option Carried → List ℕ
-collected_words c = codes "collect" ++ known_words c
+-- the reply that the event of a row brought
+abbrev pub seen_reply : Seen → List ℕ
+seen_reply (seen.Collected a) = codes ": " ++ brief_reply a.reply
+seen_reply _ = []
+
+abbrev pub reply_in : Said → List ℕ
+reply_in (saids.Event event (Ok what)) = seen_reply what
+reply_in (saids.Event event (Err r)) = []
+reply_in saids.Settle = []
+
+abbrev pub collected_words : Option Carried → Said → List ℕ
+collected_words c row = codes "collect" ++ (known_words c ++ reply_in row)
 
 -- ---- rows
 
@@ -112,14 +144,44 @@ collected_words c = codes "collect" ++ known_words c
 abbrev pub shortened : ℕ → List ℕ → List ℕ
 shortened most text = if nat_le (length text) most then text else take (most - 2) text ++ codes ".."
 
--- what was seen of the event, or why it was refused
+-- what a row is of
+abbrev pub event_words : Said → List ℕ
+event_words saids.Settle = codes "settle"
+event_words (saids.Event event outcome) = event_line event
+
+abbrev pub answer_words : ℕ → Answer → List ℕ
+answer_words port a = codes "ans " ++ (decimal port ++ (32 ∷ (decimal a.number ++ (32 ∷ brief_reply a.reply))))
+
+-- what was seen of an event, with its data cut where there is much
+abbrev pub brief_seen : Event → Seen → List ℕ
+brief_seen event (seen.Collected a) = answer_words (port_of event) a
+brief_seen event what = seen_text event what
+
+abbrev pub refused_words : Refusal → List ℕ
+refused_words r = codes "refused " ++ refusal_text r
+
+-- so it stands at the left of a row, or why the event was refused
+abbrev pub result_words : Said → List ℕ
+result_words saids.Settle = []
+result_words (saids.Event event (Ok what)) = brief_seen event what
+result_words (saids.Event event (Err r)) = refused_words r
+
+-- in so many letters
+abbrev pub letters_of : Said → ℕ
+letters_of row = min (length (result_words row)) 44
+
+-- what was seen of the event, or why it was refused, with all its data
 abbrev pub outcome_words : Event → Result Seen Refusal → List ℕ
 outcome_words event (Ok what) = seen_text event what
-outcome_words event (Err r) = codes "refused " ++ refusal_text r
+outcome_words event (Err r) = refused_words r
+
+abbrev pub becomes_words : Said → List ℕ
+becomes_words saids.Settle = []
+becomes_words (saids.Event event outcome) = codes " -> " ++ shortened 60 (outcome_words event outcome)
 
 -- what is shown where one points at a row
 abbrev pub row_words : Row → List ℕ
-row_words r = (codes "line " ++ (decimal r.line ++ codes ": ")) ++ (shortened 60 (event_line r.event) ++ (codes " -> " ++ shortened 60 (outcome_words r.event r.outcome)))
+row_words r = (codes "line " ++ (decimal r.line ++ codes ": ")) ++ (shortened 60 (event_words r.said) ++ becomes_words r.said)
 
 -- ---- the heading
 
@@ -130,11 +192,21 @@ absent_words lane = codes "; the fabric lacks " ++ lane_text lane
 abbrev pub requester_words : ℕ → List ℕ
 requester_words port = codes "requester " ++ decimal port
 
-abbrev pub before_words : ℕ → List ℕ
-before_words count = codes "events before these rows: " ++ decimal count
+-- a number of 64 bits
+abbrev pub capped : ℕ → ℕ
+capped n = min n (2 ^ 64 - 1)
 
-abbrev pub after_words : ℕ → List ℕ
-after_words count = codes "events after these rows: " ++ decimal count
+-- which rows are shown, if so many come before these, and so many after them
+abbrev pub shown_of : ℕ → ℕ → ℕ → Shown
+shown_of before rows after = record { first = capped (before + 1); last = capped (before + rows); all = capped (capped (before + rows) + after) }
+
+abbrev pub rows_words : Shown → List ℕ
+rows_words s = codes "rows " ++ (decimal s.first ++ (codes " to " ++ decimal s.last))
+
+abbrev pub shown_words : Shown → List ℕ
+shown_words s = rows_words s ++ (codes " of " ++ (decimal s.all ++ codes "; --from and --to choose others"))
 
 abbrev pub omitted_words : ℕ → List ℕ
-omitted_words count = codes "events left out, as they tell nothing new: " ++ decimal count
+omitted_words count =
+    if count == 1 then codes "1 Ack or credit update that tells nothing new is left out; --all shows it"
+    else decimal count ++ codes " Acks and credit updates that tell nothing new are left out; --all shows them"

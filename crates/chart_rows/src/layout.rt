@@ -5,6 +5,12 @@ ghost use Rattle.chart_rows.specs.Layout as layout;
 
 use fabric_core::LaneName;
 
+/// Where the column of results begins.
+pub const RESULTS_LEFT: u64 = 236;
+
+/// The most letters of a result.
+pub const MOST_LETTERS: usize = 44;
+
 /// A point.
 #[derive(Clone, Copy)]
 pub struct Point {
@@ -31,46 +37,95 @@ pub enum Parts {
     Memory,
 }
 
+/// The parts that have a line, and where the first line stands.
+#[derive(Clone, Copy)]
+pub struct Frame {
+    pub parts: Parts,
+    pub left: u16,
+}
+
+/// How wide a text of so many letters of 12 pixels is.
+pub fn text_width(letters: usize) -> u64
+    requires { letters ≤ 512 }
+    ensures value { result ≡ layout.text_width letters }
+    ensures range { result ≤ 4000 }
+{
+    letters as u64 * 29 / 4
+}
+
+/// Where the step lines stand, behind a column of results in so many letters, 44 at most.
+pub fn levels_left(letters: usize) -> u64
+    ensures value { result ≡ layout.levels_left letters }
+    ensures range { result ≤ 4300 }
+{
+    RESULTS_LEFT + text_width(letters.min(MOST_LETTERS)) + 16
+}
+
+/// How far so many step lines reach, with white behind them.
+fn levels_width(count: usize) -> u64
+    ensures value { result ≡ layout.levels_width count }
+    ensures range { result ≤ 32064 }
+{
+    64 * (count.min(500) + count.min(1)) as u64
+}
+
+/// Where the first line stands behind a column of results in so many letters, and so many step lines.
+pub fn first_line(letters: usize, levels: usize) -> u16
+    ensures { result ≡ layout.first_line letters levels }
+{
+    (levels_left(letters) + levels_width(levels) + 84) as u16
+}
+
 /// Where the line of the requester at a port stands.
-pub fn requester_x(parts: Parts, port: u8) -> u64
-    ensures value { result ≡ layout.requester_x parts port }
+pub fn requester_x(frame: Frame, port: u8) -> u64
+    ensures value { result ≡ layout.requester_x frame port }
     ensures range { IsColumn result }
 {
-    match parts {
-        Parts::All(_) => 560 + 240 * u64::from(port).saturating_sub(1),
-        Parts::Requester(_) | Parts::Memory => 560,
+    let left = u64::from(frame.left);
+    match frame.parts {
+        Parts::All(_) => left + 170 * u64::from(port).saturating_sub(1),
+        Parts::Requester(_) | Parts::Memory => left,
     }
 }
 
 /// Where the line of the switch stands.
-pub fn switch_x(parts: Parts) -> u64
-    ensures value { result ≡ layout.switch_x parts }
-    ensures range { result ≤ 69000 }
+pub fn switch_x(frame: Frame) -> u64
+    ensures value { result ≡ layout.switch_x frame }
+    ensures range { result ≤ 109000 }
 {
-    match parts {
-        Parts::All(requesters) => 560 + 240 * u64::from(requesters),
-        Parts::Requester(_) => 800,
-        Parts::Memory => 560,
+    let left = u64::from(frame.left);
+    match frame.parts {
+        Parts::All(requesters) => left + 170 * u64::from(requesters),
+        Parts::Requester(_) => left + 170,
+        Parts::Memory => left,
     }
 }
 
 /// Where the line of the memory stands.
-pub fn memory_x(parts: Parts) -> u64
-    ensures value { result ≡ layout.memory_x parts }
+pub fn memory_x(frame: Frame) -> u64
+    ensures value { result ≡ layout.memory_x frame }
     ensures range { IsColumn result }
 {
-    switch_x(parts) + 240
+    switch_x(frame) + 170
 }
 
-/// How wide a chart is.
-pub fn width_of(parts: Parts) -> u64
-    ensures value { result ≡ layout.width_of parts }
-    ensures range { result ≤ 71000 }
+/// The line at the right.
+fn last_x(frame: Frame) -> u64
+    ensures value { result ≡ layout.last_x frame }
+    ensures range { IsColumn result }
 {
-    match parts {
-        Parts::All(_) => memory_x(parts) + 360,
-        Parts::Requester(_) | Parts::Memory => 1160,
+    match frame.parts {
+        Parts::All(_) | Parts::Memory => memory_x(frame),
+        Parts::Requester(_) => switch_x(frame),
     }
+}
+
+/// How wide a chart is: a legend has its place in 1,200 pixels.
+pub fn width_of(frame: Frame) -> u64
+    ensures value { result ≡ layout.width_of frame }
+    ensures range { result ≤ 111000 }
+{
+    (last_x(frame) + 240).max(1200)
 }
 
 /// Where a row begins. Below each 40 rows there is a stripe with the names of the lines.
@@ -79,7 +134,15 @@ pub fn top_of(row: u16) -> u64
     ensures range { IsRowTop result }
 {
     let row = u64::from(row);
-    104 + 26 * (row + row / 40)
+    96 + 20 * (row + row / 40)
+}
+
+/// The base line of a row's texts.
+pub fn text_line(row: u16) -> u64
+    ensures value { result ≡ layout.text_line row }
+    ensures range { IsDown result }
+{
+    top_of(row) + 14
 }
 
 /// Where in its row an arrow begins.
@@ -87,7 +150,7 @@ pub fn departure(row: u16) -> u64
     ensures value { result ≡ layout.departure row }
     ensures range { IsDown result }
 {
-    top_of(row) + 19
+    top_of(row) + 18
 }
 
 /// Where in its row an arrow ends, and a mark stands.
@@ -95,34 +158,34 @@ pub fn middle(row: u16) -> u64
     ensures value { result ≡ layout.middle row }
     ensures range { IsDown result }
 {
-    top_of(row) + 13
+    top_of(row) + 10
 }
 
 /// The way of packets on a lane.
-fn packet_way(parts: Parts, lane: LaneName) -> Way
-    ensures value { result ≡ layout.packet_way parts lane }
+fn packet_way(frame: Frame, lane: LaneName) -> Way
+    ensures value { result ≡ layout.packet_way frame lane }
     ensures from { IsColumn result.from }
     ensures to { IsColumn result.to }
 {
     match lane {
         LaneName::Up(port) => Way {
-            from: requester_x(parts, port),
-            to: switch_x(parts),
+            from: requester_x(frame, port),
+            to: switch_x(frame),
             is_right: true,
         },
         LaneName::Down(port) => Way {
-            from: switch_x(parts),
-            to: requester_x(parts, port),
+            from: switch_x(frame),
+            to: requester_x(frame, port),
             is_right: false,
         },
         LaneName::Inward => Way {
-            from: switch_x(parts),
-            to: memory_x(parts),
+            from: switch_x(frame),
+            to: memory_x(frame),
             is_right: true,
         },
         LaneName::Outward => Way {
-            from: memory_x(parts),
-            to: switch_x(parts),
+            from: memory_x(frame),
+            to: switch_x(frame),
             is_right: false,
         },
     }
@@ -136,12 +199,12 @@ pub fn other(is_right: bool) -> bool
 }
 
 /// The way of DLLPs on a lane, or of packets.
-pub fn way_of(parts: Parts, lane: LaneName, is_dllp: bool) -> Way
-    ensures value { result ≡ layout.way_of parts lane is_dllp }
+pub fn way_of(frame: Frame, lane: LaneName, is_dllp: bool) -> Way
+    ensures value { result ≡ layout.way_of frame lane is_dllp }
     ensures from { IsColumn result.from }
     ensures to { IsColumn result.to }
 {
-    let way = packet_way(parts, lane);
+    let way = packet_way(frame, lane);
     if !is_dllp {
         return way;
     }

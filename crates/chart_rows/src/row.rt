@@ -1,8 +1,8 @@
 //! What a chart shows.
-ghost use Rattle.std.specs.Prelude.{◌≡◌};
+ghost use Rattle.std.specs.Prelude.{◌≡◌, ◌+◌};
 ghost use Rattle.chart_rows.specs.Words as said;
 
-use crate::layout::Parts;
+use crate::layout::Frame;
 use dllp_core::Dllp;
 use fabric_core::{Event, LaneName, Refusal, Seen};
 use lane_core::{Arrival, Fate};
@@ -63,6 +63,8 @@ pub struct DllpSent {
 pub enum Deed {
     /// Nothing but its row: it was refused.
     Nothing,
+    /// Nothing but its row: it is a `settle`, whose events follow.
+    Settles,
     /// The requester at this port submitted it.
     Submitted(u8, Carried),
     /// The packet with this number went onto the lane.
@@ -85,12 +87,18 @@ pub enum Deed {
     Collected(u8, Option<Carried>),
 }
 
-/// An event, its line of the script, what was seen of it or why it was refused, and what is drawn of it.
+/// What a row is of: a `settle`, whose events follow, or an event, and what was seen of it or why it was refused.
+#[derive(Drop)]
+pub enum Said {
+    Settle,
+    Event(Event, Result<Seen, Refusal>),
+}
+
+/// What a row is of, its line of the script, and what is drawn of it.
 #[derive(Drop)]
 pub struct Row {
     pub line: u64,
-    pub event: Event,
-    pub outcome: Result<Seen, Refusal>,
+    pub said: Said,
     pub deed: Deed,
 }
 
@@ -109,10 +117,13 @@ pub struct Open {
     pub row: u16,
 }
 
-/// What a chart shows, and how many events it leaves out before its rows, after them, and because they tell nothing new.
+/// What a chart shows, and how many rows it leaves out before its rows and after them, and how many of them tell nothing
+/// new.
 #[derive(Drop)]
 pub struct Page {
-    pub parts: Parts,
+    pub frame: Frame,
+    /// How many letters the longest result has that stands at the left, 44 at most, and 16 at least.
+    pub letters: usize,
     pub rows: Vec<Row>,
     pub opens: Vec<Open>,
     pub before: u64,
@@ -125,7 +136,34 @@ impl Model for Page {
 
     ghost Value = { PageView };
 
-    ghost view = { λ p. record { parts = p.parts; rows = p.rows.items; opens = p.opens.items; before = p.before; after = p.after; omitted = p.omitted } };
+    ghost view = { λ p. record { frame = p.frame; letters = p.letters; rows = p.rows.items; opens = p.opens.items; before = p.before; after = p.after; omitted = p.omitted } };
+}
+
+/// Which rows are shown, of how many: numbers from 1 on.
+#[derive(Clone, Copy)]
+pub struct Shown {
+    pub first: u64,
+    pub last: u64,
+    pub all: u64,
+}
+
+/// The sum, as a number of 64 bits.
+fn capped_sum(one: u64, other: u64) -> u64
+    ensures { result ≡ said.capped (one + other) }
+{
+    one.saturating_add(other)
+}
+
+/// Which rows are shown, if so many come before these, and so many after them.
+pub fn shown_of(before: u64, rows: u64, after: u64) -> Shown
+    ensures { result ≡ said.shown_of before rows after }
+{
+    let last = capped_sum(before, rows);
+    Shown {
+        first: capped_sum(before, 1),
+        last,
+        all: capped_sum(last, after),
+    }
 }
 
 /// The kind of an operation.

@@ -1,21 +1,18 @@
 //! The words on a chart.
-ghost use Rattle.std.specs.Prelude.{◌≡◌, ◌≤◌, ◌+◌, ◌++◌, [], length, codes, OnOk};
-ghost use Rattle.std.specs.Fmt.{decimal};
+ghost use Rattle.std.specs.Prelude.{◌≡◌, ◌≤◌, ◌+◌, ◌++◌, [], length};
 ghost use Rattle.arrayvec.specs.ArrayString.{array_string_len};
 ghost use Rattle.script_text.specs.Names as names;
-ghost use Rattle.script_text.specs.LineTexts as lines;
 ghost use Rattle.chart_rows.specs.Words as said;
 
-use crate::row::{Carried, Kind, Replay, Row};
+use crate::row::{Carried, Kind, Replay, Said, Shown};
 use arrayvec::ArrayString;
 use dllp_core::{Class, Dllp};
-use fabric_core::{Event, Refusal, Seen};
+use fabric_core::Seen;
 use lane_core::{Arrival, Fate};
 use link_replay::Reception;
-use operation_text::{write_decimal, write_sequence};
-use script_text::{write_event, write_refusal, write_seen};
+use operation_text::{write_bytes, write_decimal, write_sequence};
+use seq_memory::Reply;
 use seq12::Seq12;
-use std::alloc::AllocError;
 
 /// The name of a kind.
 pub fn kind_name(kind: Kind) -> &'static str
@@ -215,108 +212,74 @@ pub fn write_served(carried: Option<Carried>, index: usize, text: &mut ArrayStri
     write_decimal(index as u64, text);
 }
 
-/// Writes what is said of a completion that a requester took.
-pub fn write_collected(carried: Option<Carried>, text: &mut ArrayString<512>)
+/// Adds data: up to 16 bytes, or the first eight of more and how many there are.
+fn put_data(bytes: &[u8], text: &mut ArrayString<512>)
+    requires few { length bytes.now ≤ 128 }
+    requires room { array_string_len text.old ≤ 100 }
+    ensures text { text.new.bytes ≡ text.old.bytes ++ said.data_words bytes.now }
+    ensures len { array_string_len text.new ≤ array_string_len text.old + 50 }
+{
+    text.push_str("data ");
+    if bytes.len() <= 16 {
+        write_bytes(bytes, text);
+        return;
+    }
+    write_bytes(&bytes[..8], text);
+    text.push_str(".. (");
+    write_decimal(bytes.len() as u64, text);
+    text.push_str(")");
+}
+
+/// Adds a reply, with its data cut where there is much.
+pub(crate) fn put_reply(reply: &Reply, text: &mut ArrayString<512>)
+    requires { array_string_len text.old ≤ 100 }
+    ensures text { text.new.bytes ≡ text.old.bytes ++ said.brief_reply reply.now }
+    ensures len { array_string_len text.new ≤ array_string_len text.old + 50 }
+{
+    match reply {
+        Reply::Done => text.push_str("done"),
+        Reply::Data(bytes) => put_data(bytes.as_slice(), text),
+        Reply::Unsupported => text.push_str("ur"),
+        Reply::Aborted => text.push_str("ca"),
+    }
+}
+
+/// Adds the reply that an event brought, if it brought one.
+fn put_reply_of(seen: &Seen, text: &mut ArrayString<512>)
+    requires { array_string_len text.old ≤ 90 }
+    ensures text { text.new.bytes ≡ text.old.bytes ++ said.seen_reply seen.now }
+    ensures len { array_string_len text.new ≤ array_string_len text.old + 52 }
+{
+    match seen {
+        Seen::Collected(answer) => {
+            text.push_str(": ");
+            put_reply(&answer.reply, text);
+        }
+        _ => {}
+    }
+}
+
+/// Adds the reply that the event of a row brought, if it brought one.
+fn put_reply_in(row: &Said, text: &mut ArrayString<512>)
+    requires { array_string_len text.old ≤ 90 }
+    ensures text { text.new.bytes ≡ text.old.bytes ++ said.reply_in row.now }
+    ensures len { array_string_len text.new ≤ array_string_len text.old + 52 }
+{
+    match row {
+        Said::Event(_, Ok(seen)) => put_reply_of(seen, text),
+        Said::Event(_, Err(_)) | Said::Settle => {}
+    }
+}
+
+/// Writes what is said of a completion that a requester took, in a row of that event.
+pub fn write_collected(carried: Option<Carried>, row: &Said, text: &mut ArrayString<512>)
     requires { text.old.bytes ≡ [] }
-    ensures text { text.new.bytes ≡ said.collected_words carried }
+    ensures text { text.new.bytes ≡ said.collected_words carried row.now }
     ensures len { array_string_len text.new ≤ 250 }
 {
     text.push_str("collect");
     put_known(carried, text);
-}
-
-/// Adds the text, or its first letters and two dots, so that these are no more than `most`.
-fn put_shortened(text: &[u8], most: usize, out: &mut Vec<u8>) -> Result<(), AllocError>
-    requires { 2 ≤ most }
-    ensures { OnOk result (out.new.items ≡ out.old.items ++ said.shortened most text.now) }
-{
-    if text.len() <= most {
-        return out.extend_from_slice(text);
-    }
-    out.extend_from_slice(&text[..most - 2])?;
-    out.extend_from_slice(b"..")
-}
-
-/// Adds the line of an event, in so many letters.
-fn put_event(event: &Event, most: usize, out: &mut Vec<u8>) -> Result<(), AllocError>
-    requires { 2 ≤ most }
-    ensures { OnOk result (out.new.items ≡ out.old.items ++ said.shortened most (lines.event_line event.now)) }
-{
-    let mut text = ArrayString::new();
-    write_event(&event.lend(), &mut text);
-    put_shortened(text.as_bytes(), most, out)
-}
-
-/// Writes the line of an event as it stands at the left of a row.
-pub fn write_event_words(event: &Event, out: &mut Vec<u8>) -> Result<(), AllocError>
-    requires { out.old.items ≡ [] }
-    ensures { OnOk result (out.new.items ≡ said.shortened 26 (lines.event_line event.now)) }
-{
-    put_event(event, 26, out)
-}
-
-/// Writes what was seen of an event, or why it was refused.
-fn write_outcome(event: &Event, outcome: &Result<Seen, Refusal>, text: &mut ArrayString<512>)
-    requires { text.old.bytes ≡ [] }
-    ensures { text.new.bytes ≡ said.outcome_words event.now outcome.now }
-{
-    match outcome {
-        Ok(seen) => write_seen(&event.lend(), &seen.lend(), text),
-        Err(refusal) => {
-            text.push_str("refused ");
-            write_refusal(refusal, text);
-        }
-    }
-}
-
-/// Adds what was seen of an event or why it was refused, in so many letters.
-fn put_outcome(
-    event: &Event,
-    outcome: &Result<Seen, Refusal>,
-    most: usize,
-    out: &mut Vec<u8>,
-) -> Result<(), AllocError>
-    requires { 2 ≤ most }
-    ensures { OnOk result (out.new.items ≡ out.old.items ++ said.shortened most (said.outcome_words event.now outcome.now)) }
-{
-    let mut text = ArrayString::new();
-    write_outcome(event, outcome, &mut text);
-    put_shortened(text.as_bytes(), most, out)
-}
-
-/// Writes what was seen of an event or why it was refused, as it stands at the left of a row.
-pub fn write_outcome_words(
-    event: &Event,
-    outcome: &Result<Seen, Refusal>,
-    out: &mut Vec<u8>,
-) -> Result<(), AllocError>
-    requires { out.old.items ≡ [] }
-    ensures { OnOk result (out.new.items ≡ said.shortened 20 (said.outcome_words event.now outcome.now)) }
-{
-    put_outcome(event, outcome, 20, out)
-}
-
-/// Writes the number of a line.
-fn put_line(line: u64, text: &mut ArrayString<512>)
-    requires { text.old.bytes ≡ [] }
-    ensures { text.new.bytes ≡ codes "line " ++ (decimal line ++ codes ": ") }
-{
-    text.push_str("line ");
-    write_decimal(line, text);
-    text.push_str(": ");
-}
-
-/// Writes what is shown where one points at a row.
-pub fn write_row_words(row: &Row, out: &mut Vec<u8>) -> Result<(), AllocError>
-    requires { out.old.items ≡ [] }
-    ensures { OnOk result (out.new.items ≡ said.row_words row.now) }
-{
-    let mut text = ArrayString::new();
-    put_line(row.line, &mut text);
-    out.extend_from_slice(text.as_bytes())?;
-    put_event(&row.event, 60, out)?;
-    out.extend_from_slice(b" -> ")?;
-    put_outcome(&row.event, &row.outcome, 60, out)
+    put_reply_in(row, text);
 }
 
 /// Writes the name of the requester at a port.
@@ -328,22 +291,27 @@ pub fn write_requester(port: u8, text: &mut ArrayString<512>)
     write_decimal(u64::from(port), text);
 }
 
-/// Writes how many events aren't shown before the rows.
-pub fn write_before(count: u64, text: &mut ArrayString<512>)
+/// Writes which rows are shown.
+fn write_rows(shown: Shown, text: &mut ArrayString<512>)
     requires { text.old.bytes ≡ [] }
-    ensures { text.new.bytes ≡ said.before_words count }
+    ensures text { text.new.bytes ≡ said.rows_words shown }
+    ensures len { array_string_len text.new ≤ 60 }
 {
-    text.push_str("events before these rows: ");
-    write_decimal(count, text);
+    text.push_str("rows ");
+    write_decimal(shown.first, text);
+    text.push_str(" to ");
+    write_decimal(shown.last, text);
 }
 
-/// Writes how many events aren't shown after the rows.
-pub fn write_after(count: u64, text: &mut ArrayString<512>)
+/// Writes which rows of how many are shown.
+pub fn write_shown(shown: Shown, text: &mut ArrayString<512>)
     requires { text.old.bytes ≡ [] }
-    ensures { text.new.bytes ≡ said.after_words count }
+    ensures { text.new.bytes ≡ said.shown_words shown }
 {
-    text.push_str("events after these rows: ");
-    write_decimal(count, text);
+    write_rows(shown, text);
+    text.push_str(" of ");
+    write_decimal(shown.all, text);
+    text.push_str("; --from and --to choose others");
 }
 
 /// Writes how many events are left out, as they tell nothing new.
@@ -351,6 +319,10 @@ pub fn write_omitted(count: u64, text: &mut ArrayString<512>)
     requires { text.old.bytes ≡ [] }
     ensures { text.new.bytes ≡ said.omitted_words count }
 {
-    text.push_str("events left out, as they tell nothing new: ");
+    if count == 1 {
+        text.push_str("1 Ack or credit update that tells nothing new is left out; --all shows it");
+        return;
+    }
     write_decimal(count, text);
+    text.push_str(" Acks and credit updates that tell nothing new are left out; --all shows them");
 }

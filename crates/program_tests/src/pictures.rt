@@ -131,7 +131,7 @@ timer up1
 settle
 ",
         written: Written::Parts(&[
-            "width=\"2552\"",
+            "width=\"2284\"",
             "<title>line 7: timer up1 -&gt; replay 1</title>",
             "<title>line 8: deliver up1 good -&gt; duplicate</title>",
             "<title>line 8: collect 1 -&gt; ans 1 0 data 00000000</title>",

@@ -4,7 +4,7 @@ use Rattle.chart_page.proofs.heading.put_columns.Goals as goal
 
 pub returns : goal.returns
 returns c =
-    let n = c.args.parts in
+    let n = c.args.frame in
     let bottom = c.args.bottom in
     let last = c.put_right_column.new.out.items in
     both c.args.out.now.items c.put_left_columns.new.out.items last (left_columns n bottom) _ c.in_ok-put_left_columns.ensures

@@ -6,7 +6,7 @@ use Rattle.chart_page.proofs.heading.put_names.Goals as goal
 
 pub returns : goal.returns
 returns c =
-    let n = c.args.parts in
+    let n = c.args.frame in
     let y = c.args.y in
     let last = c.put_right_name.new.out.items in
     both c.args.out.now.items c.put_left_names.new.out.items last (left_names n y) _ c.in_ok-put_left_names.ensures

@@ -4,4 +4,4 @@ use Rattle.chart_page.specs.Look.{requester_columns}
 use Rattle.chart_page.proofs.heading.put_requester_columns.Given as goal
 
 abbrev pub invariant-loop-place : goal.invariant-loop-place
-invariant-loop-place l = l.out.items ≡ l.fn.out.items ++ shapes_text (requester_columns l.parts l.place l.bottom)
+invariant-loop-place l = l.out.items ≡ l.fn.out.items ++ shapes_text (requester_columns l.frame l.place l.bottom)

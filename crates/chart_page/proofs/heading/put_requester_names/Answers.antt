@@ -6,4 +6,4 @@ loop-place-init c = text-none c.args.out.now.items
 
 pub loop-place-preserved : goal.loop-place-preserved
 loop-place-preserved c =
-    names-next c.args.parts c.loop-place.place c.args.y c.args.out.now.items c.loop-place.out.items c.put_requester_name.new.out.items c.loop-place.invariant c.in_ok-put_requester_name.ensures
+    names-next c.args.frame c.loop-place.place c.args.y c.args.out.now.items c.loop-place.out.items c.put_requester_name.new.out.items c.loop-place.invariant c.in_ok-put_requester_name.ensures

@@ -6,4 +6,4 @@ loop-stripe-init c = text-none c.args.out.now.items
 
 pub loop-stripe-preserved : goal.loop-stripe-preserved
 loop-stripe-preserved c =
-    stripes-next c.args.parts c.loop-stripe.stripe c.args.out.now.items c.loop-stripe.out.items c.put_stripe.new.out.items c.loop-stripe.invariant c.in_ok-put_stripe.ensures
+    stripes-next c.args.frame c.loop-stripe.stripe c.args.out.now.items c.loop-stripe.out.items c.put_stripe.new.out.items c.loop-stripe.invariant c.in_ok-put_stripe.ensures

@@ -4,4 +4,4 @@ use Rattle.chart_page.specs.Look.{stripes}
 use Rattle.chart_page.proofs.heading.put_stripes.Given as goal
 
 abbrev pub invariant-loop-stripe : goal.invariant-loop-stripe
-invariant-loop-stripe l = l.out.items ≡ l.fn.out.items ++ shapes_text (stripes l.parts l.stripe)
+invariant-loop-stripe l = l.out.items ≡ l.fn.out.items ++ shapes_text (stripes l.frame l.stripe)

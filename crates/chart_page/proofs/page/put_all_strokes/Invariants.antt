@@ -5,6 +5,6 @@ use Rattle.chart_page.proofs.page.put_all_strokes.Given as goal
 
 abbrev pub invariant-loop-of : goal.invariant-loop-of
 invariant-loop-of l = record {
-  shapes : l.out.items ++ shapes_text (each (row_strokes l.parts) l.row (drop l.of-index l.rows)) ≡ l.fn.out.items ++ shapes_text (each (row_strokes l.parts) 0 l.rows);
+  shapes : l.out.items ++ shapes_text (each (row_strokes l.frame) l.row (drop l.of-index l.rows)) ≡ l.fn.out.items ++ shapes_text (each (row_strokes l.frame) 0 l.rows);
   row : l.row ≡ l.of-index;
 }

@@ -1,4 +1,4 @@
-use Rattle.std.proofs.Common.{◌∙◌, ◌++◌, List, ap}
+use Rattle.std.proofs.Common.{◌∙◌, ◌++◌, length, List, ap}
 use Rattle.std.proofs.lemmas.Result.{on_ok_weaker}
 use Rattle.chart_levels.specs.StepLineView.{StepLineView}
 use Rattle.chart_links.specs.ChartView.{page_of, titled}
@@ -13,6 +13,6 @@ returns-clause-ok c =
     let chart = c.self.inside.chart in
     let title = c.args.title.now in
     on_ok_weaker c.put.result
-    (λ e. e ∙ ap (λ (ls : List StepLineView). o ++ levelled_text (page_of chart) ls c.args.is_red (titled chart title)) c.as_slice.ensures.value
+    (λ e. e ∙ ap (λ (ls : List StepLineView). o ++ levelled_text (page_of chart (length ls)) ls c.args.is_red (titled chart title)) c.as_slice.ensures.value
     ∙ ap (λ (w : ChartWitnessView). o ++ witness_text w c.args.is_red title) c.self.view_is)
     c.put.ensures.ok

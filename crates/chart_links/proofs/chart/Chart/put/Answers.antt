@@ -1,4 +1,4 @@
-use Rattle.std.proofs.Common.{◌∙◌, ◌++◌, ap, List, ℕ}
+use Rattle.std.proofs.Common.{◌∙◌, ◌++◌, ap, length, List, ℕ}
 use Rattle.std.proofs.lemmas.Result.{on_ok_weaker}
 use Rattle.svg_text.specs.Shapes.{shapes_text}
 use Rattle.chart_rows.specs.PageView.{PageView}
@@ -19,5 +19,5 @@ returns-clause-ok c =
     ∙ ap (λ (l : List ℕ). o ++ levelled_text c.add_rest.new.page lines c.args.is_red l)
     (c.as_slice-2.ensures.value ∙ c.in_ok-line.ensures ∙ ap (λ (v : ChartView). titled v title) c.self.view_is)
     ∙ ap (λ (p : PageView). o ++ levelled_text p lines c.args.is_red (titled c.args.self title))
-    (c.in_ok-add_rest.ensures.page ∙ ap (λ (cs : List CourseView). with_left cs c.self.inside.page) c.as_slice.ensures.value ∙ ap (λ (v : ChartView). page_of v) c.self.view_is))
+    (c.in_ok-add_rest.ensures.page ∙ ap (λ (cs : List CourseView). with_left cs (length lines) c.self.inside.page) c.as_slice.ensures.value ∙ ap (λ (v : ChartView). page_of v (length lines)) c.self.view_is))
     c.put_levelled_page.ensures.ok

@@ -2,35 +2,35 @@
 ghost use Rattle.std.specs.Prelude.{◌≡◌, ◌≤◌, ◌+◌, ◌++◌, length, OnOk};
 ghost use Rattle.chart_rows.specs.Sizes.{IsOnPage};
 ghost use Rattle.svg_text.specs.Shapes.{shape_text, shapes_text};
-ghost use Rattle.chart_page.specs.Look as look;
+ghost use Rattle.chart_marks.specs.Look as look;
 
-use chart_rows::{Carried, Kind, Point, kind_name, middle, top_of};
+use chart_rows::{Carried, Kind, Point, kind_name, middle, text_line, text_width, top_of};
 use std::alloc::AllocError;
 use svg_text::{Block, Colour, Label, Rule, put_block, put_label};
 
 /// What a line looks like.
 #[derive(Clone, Copy)]
-pub(crate) struct Pen {
-    pub(crate) colour: Colour,
+pub struct Pen {
+    pub colour: Colour,
     /// In pixels.
-    pub(crate) thickness: u64,
+    pub thickness: u64,
     /// The length of its dashes in pixels, 0 where it has none.
-    pub(crate) dash: u64,
+    pub dash: u64,
 }
 
 /// Where a text stands: beside a line, in a row.
 #[derive(Clone, Copy)]
-pub(crate) struct Tag {
-    pub(crate) x: u64,
-    pub(crate) is_right: bool,
-    pub(crate) row: u16,
+pub struct Tag {
+    pub x: u64,
+    pub is_right: bool,
+    pub row: u16,
     /// The kind whose colour stands before the text.
-    pub(crate) kind: Option<Kind>,
-    pub(crate) colour: Colour,
+    pub kind: Option<Kind>,
+    pub colour: Colour,
 }
 
 /// A line from one point to another.
-pub(crate) fn rule(pen: Pen, from: Point, to: Point) -> Rule
+pub fn rule(pen: Pen, from: Point, to: Point) -> Rule
     ensures { result ≡ look.rule pen from to }
 {
     Rule {
@@ -62,7 +62,7 @@ fn square_block(at: Point, fill: Colour) -> Block
 }
 
 /// Adds a square round a point, with its title.
-pub(crate) fn put_square(
+pub fn put_square(
     at: Point,
     fill: Colour,
     words: &[u8],
@@ -76,7 +76,7 @@ pub(crate) fn put_square(
 }
 
 /// A text in letters of 12 pixels.
-pub(crate) fn label_at(x: u64, y: u64, colour: Colour) -> Label
+pub fn label_at(x: u64, y: u64, colour: Colour) -> Label
     ensures { result ≡ look.label_at x y colour }
 {
     Label {
@@ -86,15 +86,6 @@ pub(crate) fn label_at(x: u64, y: u64, colour: Colour) -> Label
         colour,
         is_centred: false,
     }
-}
-
-/// How wide a text is.
-fn text_width(words: &[u8]) -> u64
-    requires { length words.now ≤ 512 }
-    ensures value { result ≡ look.text_width words.now }
-    ensures range { result ≤ 4000 }
-{
-    words.len() as u64 * 29 / 4
 }
 
 fn indent(kind: Option<Kind>) -> u64
@@ -118,7 +109,7 @@ fn text_left(tag: Tag, words: &[u8]) -> u64
         tag.x + indent(tag.kind)
     } else {
         tag.x
-            .saturating_sub(text_width(words))
+            .saturating_sub(text_width(words.len()))
             .saturating_sub(indent(tag.kind))
     }
 }
@@ -131,9 +122,9 @@ fn plate(tag: Tag, words: &[u8]) -> Block
 {
     Block {
         left: text_left(tag, words).saturating_sub(2),
-        top: top_of(tag.row) + 5,
-        right: text_left(tag, words) + text_width(words) + 2,
-        bottom: top_of(tag.row) + 19,
+        top: top_of(tag.row) + 3,
+        right: text_left(tag, words) + text_width(words.len()) + 2,
+        bottom: top_of(tag.row) + 17,
         fill: Colour::White,
         edge: Colour::White,
         thickness: 0,
@@ -153,7 +144,8 @@ fn kind_x(tag: Tag) -> u64
     }
 }
 
-fn kind_colour(kind: Kind) -> Colour
+/// The colour of a kind.
+pub fn kind_colour(kind: Kind) -> Colour
     ensures { result ≡ look.kind_colour kind }
 {
     match kind {
@@ -183,19 +175,19 @@ fn put_kind(tag: Tag, out: &mut Vec<u8>) -> Result<(), AllocError>
 
 /// Adds a text beside a line.
 #[tactic(auto, unfolding(svg_text::specs::Shapes::shapes_text))]
-pub(crate) fn put_tag(tag: Tag, words: &[u8], out: &mut Vec<u8>) -> Result<(), AllocError>
+pub fn put_tag(tag: Tag, words: &[u8], out: &mut Vec<u8>) -> Result<(), AllocError>
     requires x { tag.x ≤ 2999000 }
     requires words { length words.now ≤ 512 }
     ensures { OnOk result (out.new.items ≡ out.old.items ++ shapes_text (look.tag_shapes tag words.now)) }
 {
     put_block(&plate(tag, words), words, out)?;
-    let label = label_at(text_left(tag, words), top_of(tag.row) + 17, tag.colour);
+    let label = label_at(text_left(tag, words), text_line(tag.row), tag.colour);
     put_label(&label, words, out)?;
     put_kind(tag, out)
 }
 
 /// The kind of what is carried, if that is known.
-pub(crate) fn kind_in(carried: Option<Carried>) -> Option<Kind>
+pub fn kind_in(carried: Option<Carried>) -> Option<Kind>
     ensures { result ≡ look.kind_in carried }
 {
     match carried {

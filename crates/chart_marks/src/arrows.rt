@@ -2,16 +2,15 @@
 ghost use Rattle.std.specs.Prelude.{◌≡◌, ◌≤◌, ◌+◌, ◌*◌, ◌++◌, ◌∷◌, [], OnOk};
 ghost use Rattle.chart_rows.specs.Sizes.{IsAcross, IsColumn, IsDown};
 ghost use Rattle.svg_text.specs.Shapes.{Shape, shape_text, shapes_text};
-ghost use Rattle.chart_page.specs.Look as look;
-ghost use Rattle.chart_page.specs.Shapes as spec;
+ghost use Rattle.chart_marks.specs.Look as look;
+ghost use Rattle.chart_marks.specs.Marks as spec;
 
 use crate::shapes::{Pen, put_square, rule};
 use arrayvec::ArrayString;
 use chart_rows::{
-    Deed, DllpSent, Flying, Open, PacketSent, Parts, Point, Replay, Way, behind, departure,
-    finish_of, start_of, thirds, way_of, write_dllp_title, write_open_title, write_packet_title,
+    Deed, DllpSent, Flying, Frame, Open, PacketSent, Point, Way, behind, departure, finish_of,
+    start_of, thirds, way_of, write_dllp_title, write_open_title, write_packet_title,
 };
-use fabric_core::LaneName;
 use lane_core::{Arrival, Fate};
 use link_replay::Reception;
 use std::alloc::AllocError;
@@ -28,7 +27,8 @@ pub(crate) struct Arrow {
     row: u16,
 }
 
-pub(crate) fn pen(colour: Colour, thickness: u64, dash: u64) -> Pen
+/// A pen.
+pub fn pen(colour: Colour, thickness: u64, dash: u64) -> Pen
     ensures { result ≡ look.pen colour thickness dash }
 {
     Pen {
@@ -38,23 +38,71 @@ pub(crate) fn pen(colour: Colour, thickness: u64, dash: u64) -> Pen
     }
 }
 
-/// The pen of a packet that arrived so.
-fn packet_pen(arrival: Arrival) -> Pen
-    ensures { result ≡ look.packet_pen arrival }
+/// What the line of an arrow is.
+#[derive(Clone, Copy)]
+pub enum Stroke {
+    /// That of a packet.
+    Packet,
+    /// That of a packet that has come before.
+    Duplicate,
+    /// That of a packet that arrives, and isn't accepted.
+    NotAccepted,
+    /// That of a DLLP.
+    Dllp,
+}
+
+/// The line of a packet that arrived so.
+fn packet_stroke(arrival: Arrival) -> Stroke
+    ensures { result ≡ look.packet_stroke arrival }
 {
     match arrival {
-        Arrival::Answered(Reception::Accept) => pen(Colour::Black, 2, 0),
-        Arrival::Answered(Reception::Duplicate) => pen(Colour::Black, 2, 6),
-        Arrival::Answered(Reception::NakNow) => pen(Colour::Red, 2, 0),
-        Arrival::Answered(Reception::Quiet) => pen(Colour::Red, 2, 0),
-        Arrival::Gone => pen(Colour::Black, 2, 0),
+        Arrival::Answered(Reception::Accept) => Stroke::Packet,
+        Arrival::Answered(Reception::Duplicate) => Stroke::Duplicate,
+        Arrival::Answered(Reception::NakNow) => Stroke::NotAccepted,
+        Arrival::Answered(Reception::Quiet) => Stroke::NotAccepted,
+        Arrival::Gone => Stroke::Packet,
     }
 }
 
-pub(crate) fn dllp_pen() -> Pen
-    ensures { result ≡ look.dllp_pen }
+/// What the line of the arrow is that ends in a row of this deed, if there is one.
+pub fn stroke_of(deed: Deed) -> Option<Stroke>
+    ensures { result ≡ spec.stroke_of deed }
 {
-    pen(Colour::Grey, 1, 0)
+    match deed {
+        Deed::Arrived(_, _, arrival, _) => Some(packet_stroke(arrival)),
+        Deed::ArrivedDllp(_, _, _, _) => Some(Stroke::Dllp),
+        _ => None,
+    }
+}
+
+/// How the arrow ends that ends in a row of this deed, if there is one.
+pub fn end_of(deed: Deed) -> Option<Fate>
+    ensures { result ≡ spec.end_of deed }
+{
+    match deed {
+        Deed::Arrived(_, fate, _, _) => Some(fate),
+        Deed::ArrivedDllp(_, fate, _, _) => Some(fate),
+        _ => None,
+    }
+}
+
+/// The pen of such a line.
+pub fn pen_of(stroke: Stroke) -> Pen
+    ensures { result ≡ look.pen_of stroke }
+{
+    match stroke {
+        Stroke::Packet => pen(Colour::Black, 2, 0),
+        Stroke::Duplicate => pen(Colour::Black, 2, 6),
+        Stroke::NotAccepted => pen(Colour::Red, 2, 0),
+        Stroke::Dllp => pen(Colour::Grey, 1, 0),
+    }
+}
+
+/// The pen of what isn't seen to arrive.
+pub fn open_pen() -> Pen
+    ensures { result ≡ look.open_pen }
+{
+    pen(Colour::Grey, 1, 3)
 }
 
 /// The same pen without dashes.
@@ -140,7 +188,7 @@ fn tip(pen: Pen, is_right: bool, from: Point, to: Point) -> (Rule, Rule)
 }
 
 /// A cross.
-pub(crate) fn cross(at: Point) -> (Rule, Rule)
+pub fn cross(at: Point) -> (Rule, Rule)
     requires x { IsAcross at.x }
     requires y { IsDown at.y }
     ensures { result ≡ look.cross at }
@@ -197,7 +245,7 @@ fn put_failing(shaft: Rule, to: Point, title: &[u8], out: &mut Vec<u8>) -> Resul
     put_failed(to, out)
 }
 
-pub(crate) fn is_lost(fate: Fate) -> bool
+pub fn is_lost(fate: Fate) -> bool
     ensures { result ≡ look.is_lost fate }
 {
     match fate {
@@ -245,70 +293,37 @@ fn dllp_row(sent: &Option<DllpSent>) -> Option<u16>
     }
 }
 
-/// Adds the arrow of a packet.
-fn put_packet(
-    parts: Parts,
-    row: u16,
-    lane: LaneName,
-    fate: Fate,
-    arrival: Arrival,
-    sent: Option<PacketSent>,
-    out: &mut Vec<u8>,
-) -> Result<(), AllocError>
-    ensures { OnOk result (out.new.items ≡ out.old.items ++ shapes_text (spec.strokes parts row (Deed.Arrived lane fate arrival sent))) }
+/// The arrow that ends in a row, of what was sent in another one if that is shown.
+fn arrow_on(way: Way, stroke: Stroke, fate: Fate, sent: Option<u16>, row: u16) -> Arrow
+    ensures { result ≡ spec.arrow_on way (look.pen_of stroke) fate sent row }
 {
-    let arrow = Arrow {
-        way: way_of(parts, lane, false),
-        pen: packet_pen(arrival),
+    Arrow {
+        way,
+        pen: pen_of(stroke),
         fate,
-        sent: packet_row(&sent),
+        sent,
         row,
-    };
-    let mut title = ArrayString::new();
-    write_packet_title(lane, sent, fate, arrival, &mut title);
-    put_arrow(arrow, title.as_bytes(), out)
-}
-
-/// Adds the arrow of a DLLP.
-fn put_dllp(
-    parts: Parts,
-    row: u16,
-    lane: LaneName,
-    fate: Fate,
-    sent: Option<DllpSent>,
-    replay: Replay,
-    out: &mut Vec<u8>,
-) -> Result<(), AllocError>
-    ensures { OnOk result (out.new.items ≡ out.old.items ++ shapes_text (spec.strokes parts row (Deed.ArrivedDllp lane fate sent replay))) }
-{
-    let arrow = Arrow {
-        way: way_of(parts, lane, true),
-        pen: dllp_pen(),
-        fate,
-        sent: dllp_row(&sent),
-        row,
-    };
-    let mut title = ArrayString::new();
-    write_dllp_title(lane, sent, fate, replay, &mut title);
-    put_arrow(arrow, title.as_bytes(), out)
+    }
 }
 
 /// Adds the arrow that ends in a row of this deed, if there is one.
 #[tactic(auto, unfolding(svg_text::specs::Shapes::shapes_text))]
-pub(crate) fn put_strokes(
-    parts: Parts,
-    row: u16,
-    deed: Deed,
-    out: &mut Vec<u8>,
-) -> Result<(), AllocError>
-    ensures { OnOk result (out.new.items ≡ out.old.items ++ shapes_text (spec.strokes parts row deed)) }
+pub fn put_strokes(frame: Frame, row: u16, deed: Deed, out: &mut Vec<u8>) -> Result<(), AllocError>
+    ensures { OnOk result (out.new.items ≡ out.old.items ++ shapes_text (spec.strokes frame row deed)) }
 {
+    let mut title = ArrayString::new();
     match deed {
         Deed::Arrived(lane, fate, arrival, sent) => {
-            put_packet(parts, row, lane, fate, arrival, sent, out)
+            let way = way_of(frame, lane, false);
+            write_packet_title(lane, sent, fate, arrival, &mut title);
+            let arrow = arrow_on(way, packet_stroke(arrival), fate, packet_row(&sent), row);
+            put_arrow(arrow, title.as_bytes(), out)
         }
         Deed::ArrivedDllp(lane, fate, sent, replay) => {
-            put_dllp(parts, row, lane, fate, sent, replay, out)
+            let way = way_of(frame, lane, true);
+            write_dllp_title(lane, sent, fate, replay, &mut title);
+            let arrow = arrow_on(way, Stroke::Dllp, fate, dllp_row(&sent), row);
+            put_arrow(arrow, title.as_bytes(), out)
         }
         _ => Ok(()),
     }
@@ -335,15 +350,15 @@ fn put_open_line(way: Way, row: u16, title: &[u8], out: &mut Vec<u8>) -> Result<
         x: thirds(way, 1),
         y: y + 5,
     };
-    put_lines(&[rule(pen(Colour::Grey, 1, 3), from, to)], title, out)
+    put_lines(&[rule(open_pen(), from, to)], title, out)
 }
 
 /// Adds the first third of the way of what isn't seen to arrive.
-pub(crate) fn put_open(parts: Parts, of: &Open, out: &mut Vec<u8>) -> Result<(), AllocError>
-    ensures { OnOk result (out.new.items ≡ out.old.items ++ shape_text (spec.open_stroke parts of.now)) }
+pub fn put_open(frame: Frame, of: &Open, out: &mut Vec<u8>) -> Result<(), AllocError>
+    ensures { OnOk result (out.new.items ≡ out.old.items ++ shape_text (spec.open_stroke frame of.now)) }
 {
     let mut title = ArrayString::new();
     write_open_title(of, &mut title);
-    let way = way_of(parts, of.lane, is_dllp(of.what));
+    let way = way_of(frame, of.lane, is_dllp(of.what));
     put_open_line(way, of.row, title.as_bytes(), out)
 }

@@ -2,22 +2,22 @@
 ghost use Rattle.std.specs.Prelude.{◌≡◌, ◌≤◌, ◌++◌, [], length, Some, None, OnOk};
 ghost use Rattle.chart_rows.specs.Sizes.{IsColumn};
 ghost use Rattle.svg_text.specs.Shapes.{shapes_text};
-ghost use Rattle.svg_text.specs.declared.colour.Colour.TheVariants as colours;
 ghost use Rattle.chart_rows.specs.Layout as layout;
-ghost use Rattle.chart_rows.specs.Words as said;
-ghost use Rattle.chart_page.specs.Look as look;
-ghost use Rattle.chart_page.specs.Shapes as spec;
+ghost use Rattle.chart_rows.specs.Words as texts;
+ghost use Rattle.chart_marks.specs.Look as look;
+ghost use Rattle.chart_marks.specs.Marks as spec;
 
 use crate::arrows::is_lost;
 use crate::shapes::{Tag, kind_in, put_square, put_tag};
 use arrayvec::ArrayString;
 use chart_rows::{
-    Carried, Deed, Kind, PacketSent, Parts, Point, Replay, Way, arrival_words, memory_x, middle,
-    other, requester_x, switch_x, way_of, write_collected, write_dllp, write_dllp_arrival,
+    Carried, Deed, Frame, Kind, PacketSent, Point, Replay, Row, Said, Way, arrival_words, memory_x,
+    middle, other, requester_x, switch_x, way_of, write_collected, write_dllp, write_dllp_arrival,
     write_expired, write_forwarded, write_sent, write_served, write_submitted,
 };
 use dllp_core::Dllp;
 use lane_core::{Arrival, Fate};
+use link_replay::Reception;
 use seq12::Seq12;
 use std::alloc::AllocError;
 use svg_text::{Colour, Dot, put_dot};
@@ -95,30 +95,29 @@ fn remark_side(way: Way, fate: Fate) -> bool
     }
 }
 
-/// Adds a text at the end of a way, if there is something to say.
-#[tactic(auto, unfolding(svg_text::specs::Shapes::shapes_text))]
-fn put_remark(
-    way: Way,
-    row: u16,
-    fate: Fate,
-    colour: Colour,
-    words: &[u8],
-    out: &mut Vec<u8>,
-) -> Result<(), AllocError>
-    requires way { IsColumn way.to }
-    requires words { length words.now ≤ 512 }
-    ensures { OnOk result (out.new.items ≡ out.old.items ++ shapes_text (look.remark way row fate colour words.now)) }
+/// Where a text stands at the end of a way.
+fn remark_tag(way: Way, row: u16, fate: Fate, colour: Colour) -> Tag
+    ensures { result ≡ look.remark_tag way row fate colour }
 {
-    if words.is_empty() {
-        return Ok(());
-    }
-    let tag = Tag {
+    Tag {
         x: way.to,
         is_right: remark_side(way, fate),
         row,
         kind: None,
         colour,
-    };
+    }
+}
+
+/// Adds a text, if there is something to say.
+#[tactic(auto, unfolding(svg_text::specs::Shapes::shapes_text))]
+fn put_remark(tag: Tag, words: &[u8], out: &mut Vec<u8>) -> Result<(), AllocError>
+    requires x { IsColumn tag.x }
+    requires words { length words.now ≤ 512 }
+    ensures { OnOk result (out.new.items ≡ out.old.items ++ shapes_text (look.remark tag words.now)) }
+{
+    if words.is_empty() {
+        return Ok(());
+    }
     put_tag(tag, words, out)
 }
 
@@ -133,19 +132,19 @@ fn remark_colour(fate: Fate) -> Colour
 }
 
 fn put_submitted_note(
-    parts: Parts,
+    frame: Frame,
     row: u16,
     port: u8,
     carried: Carried,
     out: &mut Vec<u8>,
 ) -> Result<(), AllocError>
     ensures { OnOk result (out.new.items ≡ out.old.items ++
-        shapes_text (look.mark (layout.requester_x parts port) row (Some carried.kind) (said.submitted_words carried))) }
+        shapes_text (look.mark (layout.requester_x frame port) row (Some carried.kind) (texts.submitted_words carried))) }
 {
     let mut text = ArrayString::new();
     write_submitted(carried, &mut text);
     let kind = Some(carried.kind);
-    put_mark(requester_x(parts, port), row, kind, text.as_bytes(), out)
+    put_mark(requester_x(frame, port), row, kind, text.as_bytes(), out)
 }
 
 fn put_sent_note(
@@ -156,25 +155,24 @@ fn put_sent_note(
     out: &mut Vec<u8>,
 ) -> Result<(), AllocError>
     requires { IsColumn way.from }
-    ensures { OnOk result (out.new.items ≡ out.old.items ++ shapes_text (look.departing way row (look.kind_in carried) (said.sent_words number carried))) }
+    ensures { OnOk result (out.new.items ≡ out.old.items ++ shapes_text (look.departing way row (look.kind_in carried) (texts.sent_words number carried))) }
 {
     let mut text = ArrayString::new();
     write_sent(number, carried, &mut text);
     put_departing(way, row, kind_in(carried), text.as_bytes(), out)
 }
 
-fn put_arrival_note(
-    way: Way,
-    row: u16,
-    fate: Fate,
-    arrival: Arrival,
-    out: &mut Vec<u8>,
-) -> Result<(), AllocError>
-    requires { IsColumn way.to }
-    ensures { OnOk result (out.new.items ≡ out.old.items ++ shapes_text (look.remark way row fate colours.Red (said.arrival_words fate arrival))) }
+/// What is wrong with a packet is told in red.
+fn arrival_colour(fate: Fate, arrival: Arrival) -> Colour
+    ensures { result ≡ look.arrival_colour fate arrival }
 {
-    let words = arrival_words(fate, arrival);
-    put_remark(way, row, fate, Colour::Red, words.as_bytes(), out)
+    match (fate, arrival) {
+        (Fate::Good, Arrival::Answered(Reception::NakNow)) => Colour::Red,
+        (Fate::Good, Arrival::Answered(Reception::Quiet)) => Colour::Red,
+        (Fate::Good, _) => Colour::Black,
+        (Fate::Failed, _) => Colour::Red,
+        (Fate::Lost, _) => Colour::Red,
+    }
 }
 
 /// Whether something arrives more than twelve rows below its sending.
@@ -199,48 +197,46 @@ fn write_far(sent: Option<PacketSent>, row: u16, text: &mut ArrayString<512>)
     }
 }
 
-/// Adds the number of a packet that comes from far, if nothing else is said of its arrival.
-#[tactic(auto, unfolding(svg_text::specs::Shapes::shapes_text))]
-fn put_far_note(
-    way: Way,
-    row: u16,
+/// Writes what is said of a packet's arrival: if nothing else is, the number of one that comes from far.
+fn write_arrived(
     fate: Fate,
     arrival: Arrival,
     sent: Option<PacketSent>,
-    out: &mut Vec<u8>,
-) -> Result<(), AllocError>
-    requires { IsColumn way.to }
-    ensures { OnOk result (out.new.items ≡ out.old.items ++ shapes_text (look.far_remark way row fate arrival sent)) }
+    row: u16,
+    text: &mut ArrayString<512>,
+)
+    requires { text.old.bytes ≡ [] }
+    ensures { text.new.bytes ≡ look.arrived_words fate arrival sent row }
 {
-    if !arrival_words(fate, arrival).is_empty() {
-        return Ok(());
+    let words = arrival_words(fate, arrival);
+    if words.is_empty() {
+        write_far(sent, row, text);
+    } else {
+        text.push_str(words);
     }
-    let mut text = ArrayString::new();
-    write_far(sent, row, &mut text);
-    put_remark(way, row, fate, Colour::Black, text.as_bytes(), out)
 }
 
 /// Adds what is said of a packet's arrival.
 fn put_arrived(
     way: Way,
     row: u16,
-    fate: Fate,
-    arrival: Arrival,
+    end: (Fate, Arrival),
     sent: Option<PacketSent>,
     out: &mut Vec<u8>,
 ) -> Result<(), AllocError>
     requires { IsColumn way.to }
-    ensures { OnOk result (out.new.items ≡ out.old.items ++ shapes_text (
-        look.remark way row fate colours.Red (said.arrival_words fate arrival) ++ look.far_remark way row fate arrival sent)) }
+    ensures { OnOk result (out.new.items ≡ out.old.items ++ shapes_text (look.arrived way row end.0 end.1 sent)) }
 {
-    put_arrival_note(way, row, fate, arrival, out)?;
-    put_far_note(way, row, fate, arrival, sent, out)?;
-    Ok(())
+    let (fate, arrival) = end;
+    let mut text = ArrayString::new();
+    write_arrived(fate, arrival, sent, row, &mut text);
+    let tag = remark_tag(way, row, fate, arrival_colour(fate, arrival));
+    put_remark(tag, text.as_bytes(), out)
 }
 
 fn put_dllp_note(way: Way, row: u16, dllp: Dllp, out: &mut Vec<u8>) -> Result<(), AllocError>
     requires { IsColumn way.from }
-    ensures { OnOk result (out.new.items ≡ out.old.items ++ shapes_text (look.departing way row None (said.dllp_words dllp))) }
+    ensures { OnOk result (out.new.items ≡ out.old.items ++ shapes_text (look.departing way row None (texts.dllp_words dllp))) }
 {
     let mut text = ArrayString::new();
     write_dllp(dllp, &mut text);
@@ -256,16 +252,17 @@ fn put_dllp_arrival_note(
 ) -> Result<(), AllocError>
     requires { IsColumn way.to }
     ensures { OnOk result (out.new.items ≡ out.old.items ++
-        shapes_text (look.remark way row fate (look.remark_colour fate) (said.dllp_arrival_words fate replay))) }
+        shapes_text (look.remark (look.remark_tag way row fate (look.remark_colour fate)) (texts.dllp_arrival_words fate replay))) }
 {
     let mut text = ArrayString::new();
     write_dllp_arrival(fate, replay, &mut text);
-    put_remark(way, row, fate, remark_colour(fate), text.as_bytes(), out)
+    let tag = remark_tag(way, row, fate, remark_colour(fate));
+    put_remark(tag, text.as_bytes(), out)
 }
 
 fn put_expired_note(way: Way, row: u16, replay: Replay, out: &mut Vec<u8>) -> Result<(), AllocError>
     requires { IsColumn way.from }
-    ensures { OnOk result (out.new.items ≡ out.old.items ++ shapes_text (look.notice way row (said.expired_words replay))) }
+    ensures { OnOk result (out.new.items ≡ out.old.items ++ shapes_text (look.notice way row (texts.expired_words replay))) }
 {
     let mut text = ArrayString::new();
     write_expired(replay, &mut text);
@@ -273,84 +270,96 @@ fn put_expired_note(way: Way, row: u16, replay: Replay, out: &mut Vec<u8>) -> Re
 }
 
 fn put_forwarded_note(
-    parts: Parts,
+    frame: Frame,
     row: u16,
     carried: Option<Carried>,
     out: &mut Vec<u8>,
 ) -> Result<(), AllocError>
     ensures { OnOk result (out.new.items ≡ out.old.items ++
-        shapes_text (look.mark (layout.switch_x parts) row (look.kind_in carried) (said.forwarded_words carried))) }
+        shapes_text (look.mark (layout.switch_x frame) row (look.kind_in carried) (texts.forwarded_words carried))) }
 {
     let mut text = ArrayString::new();
     write_forwarded(carried, &mut text);
     let kind = kind_in(carried);
-    put_mark(switch_x(parts), row, kind, text.as_bytes(), out)
+    put_mark(switch_x(frame), row, kind, text.as_bytes(), out)
 }
 
 fn put_served_note(
-    parts: Parts,
+    frame: Frame,
     row: u16,
     carried: Option<Carried>,
     index: usize,
     out: &mut Vec<u8>,
 ) -> Result<(), AllocError>
     ensures { OnOk result (out.new.items ≡ out.old.items ++
-        shapes_text (look.mark (layout.memory_x parts) row (look.kind_in carried) (said.served_words carried index))) }
+        shapes_text (look.mark (layout.memory_x frame) row (look.kind_in carried) (texts.served_words carried index))) }
 {
     let mut text = ArrayString::new();
     write_served(carried, index, &mut text);
     let kind = kind_in(carried);
-    put_mark(memory_x(parts), row, kind, text.as_bytes(), out)
+    put_mark(memory_x(frame), row, kind, text.as_bytes(), out)
 }
 
 fn put_collected_note(
-    parts: Parts,
+    x: u64,
     row: u16,
-    port: u8,
     carried: Option<Carried>,
+    said: &Said,
     out: &mut Vec<u8>,
 ) -> Result<(), AllocError>
+    requires { IsColumn x }
     ensures { OnOk result (out.new.items ≡ out.old.items ++
-        shapes_text (look.mark (layout.requester_x parts port) row (look.kind_in carried) (said.collected_words carried))) }
+        shapes_text (look.mark x row (look.kind_in carried) (texts.collected_words carried said.now))) }
 {
     let mut text = ArrayString::new();
-    write_collected(carried, &mut text);
+    write_collected(carried, said, &mut text);
     let kind = kind_in(carried);
-    put_mark(requester_x(parts, port), row, kind, text.as_bytes(), out)
+    put_mark(x, row, kind, text.as_bytes(), out)
 }
 
-/// Adds the dot, the square and the text of a row of this deed.
-#[tactic(auto, unfolding(svg_text::specs::Shapes::shapes_text))]
-pub(crate) fn put_note(
-    parts: Parts,
-    row: u16,
-    deed: Deed,
-    out: &mut Vec<u8>,
-) -> Result<(), AllocError>
-    ensures { OnOk result (out.new.items ≡ out.old.items ++ shapes_text (spec.note parts row deed)) }
+/// The kind whose colour stands in a row of this deed.
+pub fn kind_shown(deed: Deed) -> Option<Kind>
+    ensures { result ≡ spec.kind_shown deed }
 {
     match deed {
-        Deed::Nothing => Ok(()),
-        Deed::Submitted(port, carried) => put_submitted_note(parts, row, port, carried, out),
+        Deed::Submitted(_, carried) => Some(carried.kind),
+        Deed::Sent(_, _, carried) => kind_in(carried),
+        Deed::Forwarded(carried) => kind_in(carried),
+        Deed::Served(carried, _) => kind_in(carried),
+        Deed::Collected(_, carried) => kind_in(carried),
+        _ => None,
+    }
+}
+
+/// Adds the dot, the square and the text of a row.
+#[tactic(auto, unfolding(svg_text::specs::Shapes::shapes_text))]
+pub fn put_note(frame: Frame, row: u16, of: &Row, out: &mut Vec<u8>) -> Result<(), AllocError>
+    ensures { OnOk result (out.new.items ≡ out.old.items ++ shapes_text (spec.note frame row of.now.said of.now.deed)) }
+{
+    match of.deed {
+        Deed::Nothing | Deed::Settles => Ok(()),
+        Deed::Submitted(port, carried) => put_submitted_note(frame, row, port, carried, out),
         Deed::Sent(lane, number, carried) => {
-            put_sent_note(way_of(parts, lane, false), row, number, carried, out)
+            put_sent_note(way_of(frame, lane, false), row, number, carried, out)
         }
         Deed::Arrived(lane, fate, arrival, sent) => {
-            let way = way_of(parts, lane, false);
-            put_arrived(way, row, fate, arrival, sent, out)
+            let way = way_of(frame, lane, false);
+            put_arrived(way, row, (fate, arrival), sent, out)
         }
-        Deed::SentDllp(lane, dllp) => { put_dllp_note(way_of(parts, lane, true), row, dllp, out) }
+        Deed::SentDllp(lane, dllp) => { put_dllp_note(way_of(frame, lane, true), row, dllp, out) }
         Deed::ArrivedDllp(lane, fate, _, replay) => {
-            put_dllp_arrival_note(way_of(parts, lane, true), row, fate, replay, out)
+            put_dllp_arrival_note(way_of(frame, lane, true), row, fate, replay, out)
         }
         Deed::Expired(lane, replay) => {
-            put_expired_note(way_of(parts, lane, false), row, replay, out)
+            put_expired_note(way_of(frame, lane, false), row, replay, out)
         }
         Deed::Retrained(lane) => {
-            put_notice(way_of(parts, lane, false), row, b"link retrained", out)
+            put_notice(way_of(frame, lane, false), row, b"link retrained", out)
         }
-        Deed::Forwarded(carried) => put_forwarded_note(parts, row, carried, out),
-        Deed::Served(carried, index) => put_served_note(parts, row, carried, index, out),
-        Deed::Collected(port, carried) => put_collected_note(parts, row, port, carried, out),
+        Deed::Forwarded(carried) => put_forwarded_note(frame, row, carried, out),
+        Deed::Served(carried, index) => put_served_note(frame, row, carried, index, out),
+        Deed::Collected(port, carried) => {
+            put_collected_note(requester_x(frame, port), row, carried, &of.said, out)
+        }
     }
 }
