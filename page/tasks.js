@@ -42,7 +42,7 @@ const OPTIONS = {
         { ...field("credits", "Credits PH,PD,NPH,NPD", "16,64,16,16", "as advertised"), needs: "link" },
     ],
     chart: [
-        flag("brief", "Leave out Acks and credits that say nothing new"),
+        flag("all", "Acks and credits that say nothing new, too"),
         flag("levels", "Levels of queues and credits"),
         { ...choice("lane", "Lane", "", LANES), isRare: true },
         { ...field("from", "From line", "1", "of the script"), isRare: true },
@@ -55,7 +55,7 @@ const OPTIONS = {
 };
 
 // The page's own values, where they aren't the program's.
-const SET = { chart: { brief: true }, endpoint: { trace: true } };
+const SET = { endpoint: { trace: true } };
 // Options that the page gives by itself, or that make no sense in it.
 const UNSHOWN = { step: ["echo", "trace"], search: ["draw", "progress"] };
 

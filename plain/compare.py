@@ -136,7 +136,7 @@ def inputs(program):
         "draw": (traces + trace_files, [[], ["--from", "2", "--to", "9"]], 0.1),
         "upgrade": (traces + trace_files, [[]], 0.1),
         "step": (made + script_files, [[], ["--trace"], ["--keep-going", "--echo"], ["--keep-going"]], 0.1),
-        "chart": (made + script_files, [[], ["--levels"], ["--brief"], ["--lane", "up1"]], 0.1),
+        "chart": (made + script_files, [[], ["--levels"], ["--all"], ["--lane", "up1"]], 0.1),
         "endpoint": (read("examples/endpoint.txt"), [[], ["--trace"], ["--size", "65536", "--id", "8086:0D93"]], 0.1),
         "endpoint --link": (read("examples/linked.txt"), [[], ["--trace"], ["--crc"], ["--credits", "2,8,2,2"]], 0.1),
     }

@@ -440,7 +440,7 @@ if [ -c /dev/full ]; then
     is_full examples/first_script.txt step
     is_full examples/first_script.txt step --echo --keep-going
     is_full examples/first_script.txt step --trace
-    is_full examples/first_script.txt chart --lane up1 --brief --levels
+    is_full examples/first_script.txt chart --lane up1 --all --levels
     is_full /dev/null --help
     is_full /dev/null generate --seed 1 --events 0
     is_full /dev/null generate --seed 1 --events 9

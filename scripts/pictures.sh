@@ -80,7 +80,7 @@ for name in lost_ack write_passes_read credits stopped_link first_script; do
     charts "the chart of $name.txt" 0
     charts "the lane up1 of $name.txt" 0 --lane up1
     charts "the lines 4 to 9 of $name.txt" 0 --from 4 --to 9
-    charts "the brief chart of $name.txt" 0 --brief
+    charts "the whole chart of $name.txt" 0 --all
     charts "the lane up1 of $name.txt with its levels" 0 --lane up1 --levels
 done
 cp examples/credits_used_up.txt "$room/input"
@@ -92,7 +92,7 @@ done
 "$pciex" generate --seed 7 --events 3000 --lose 8 --corrupt 8 > "$room/input"
 charts "the chart of a storm" 0
 charts "the lane in of a storm" 0 --lane in --from 1000
-charts "the brief chart of a storm" 0 --brief
+charts "the whole chart of a storm" 0 --all
 "$pciex" generate --seed 3 --requesters 3 --events 900 --lose 4 --corrupt 8 > "$room/input"
 for lane in up2 down2 in out; do
     charts "the lane $lane of three requesters" 0 --lane $lane
@@ -120,8 +120,8 @@ fi
     failed=1
 }
 for name in lost_ack first_script; do
-    "$pciex" chart --brief < examples/$name.txt | cmp -s - examples/$name.svg || {
-        echo "pictures: examples/$name.svg is not the brief chart of examples/$name.txt"
+    "$pciex" chart < examples/$name.txt | cmp -s - examples/$name.svg || {
+        echo "pictures: examples/$name.svg is not the chart of examples/$name.txt"
         failed=1
     }
 done

@@ -36,7 +36,7 @@ _pciex() {
                 *" draw") words="--from --to --help" ;;
                 *" upgrade") words="--help" ;;
                 *" step") words="--trace --keep-going --echo --help" ;;
-                *" chart") words="--lane --from --to --brief --levels --help" ;;
+                *" chart") words="--lane --from --to --all --levels --help" ;;
                 *" generate") words="--seed --events --requesters --lose --corrupt --block --help" ;;
                 *" sweep") words="--seeds --events --requesters --lose --corrupt --block --clocked --keep-going --workers --help" ;;
                 *" run") words="--requesters --each --lose --corrupt --turns --workers --progress --help" ;;

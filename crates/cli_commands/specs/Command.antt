@@ -1,5 +1,5 @@
 -- What the program does for what its words ask for.
-use Rattle.std.specs.Prelude.{◌≡◌, ◌≢◌, ◌⊎◌, ℕ, true, false, List, [], ◌∷◌, Option}
+use Rattle.std.specs.Prelude.{◌≡◌, ◌≢◌, ◌⊎◌, ℕ, true, false, not, List, [], ◌∷◌, Option}
 use Rattle.clap.specs.Words.{Kinds}
 use Rattle.clap.specs.declared.error.kind.ErrorKind.TheVariants as kinds
 use Rattle.cli_words.specs.declared.outputs.SearchOutput.{SearchOutput}
@@ -61,8 +61,8 @@ IsDone (Draw from to) input rest out out' exit = IsRun (out_draw (record { from 
 IsDone Upgrade input rest out out' exit = IsRun out_upgrade input rest out out' exit
 IsDone (Step is_traced keeps_going echoes) input rest out out' exit =
     IsRun (out_step_with (record { is_traced = is_traced; keeps_going = keeps_going; echoes = echoes })) input rest out out' exit
-IsDone (Chart lane from to is_brief has_levels) input rest out out' exit =
-    IsRun (out_chart (record { lane = lane; from = from; to = to; is_brief = is_brief; has_levels = has_levels })) input rest out out' exit
+IsDone (Chart lane from to has_all has_levels) input rest out out' exit =
+    IsRun (out_chart (record { lane = lane; from = from; to = to; is_brief = not has_all; has_levels = has_levels })) input rest out out' exit
 IsDone (Generate storm) input rest out out' exit = (rest ≡ input) × IsGenerated storm out out' exit
 IsDone (Sweep storm last is_clocked keeps_going workers) input rest out out' exit =
     (rest ≡ input) × IsSwept (record { storm = storm; last = last; is_clocked = is_clocked; keeps_going = keeps_going; workers = workers }) out out' exit

@@ -244,14 +244,14 @@ fn begin<C: Clock, R: Read + Fallible, W: Write + Fallible, E: Write>(
             lane,
             from,
             to,
-            is_brief,
+            has_all,
             has_levels,
         } => {
             let window = ChartWindow {
                 lane,
                 from,
                 to,
-                is_brief,
+                is_brief: !has_all,
                 has_levels,
             };
             let run = run_chart_with_reasons(alloc, window, reader, writer, errors);

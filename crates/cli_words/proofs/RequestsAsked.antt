@@ -72,7 +72,7 @@ name_of (Search limit work size output is_told) = codes "search"
 name_of (Draw from to) = codes "draw"
 name_of Upgrade = codes "upgrade"
 name_of (Step is_traced keeps_going echoes) = codes "step"
-name_of (Chart lane from to is_brief has_levels) = codes "chart"
+name_of (Chart lane from to has_all has_levels) = codes "chart"
 name_of (Generate storm) = codes "generate"
 name_of (Sweep storm last is_clocked keeps_going workers) = codes "sweep"
 name_of (Run counting is_told) = codes "run"
@@ -88,7 +88,7 @@ asks_name p (Search limit work size output is_told) a = a.0
 asks_name p (Draw from to) a = a.0
 asks_name p Upgrade a = a
 asks_name p (Step is_traced keeps_going echoes) a = a.0
-asks_name p (Chart lane from to is_brief has_levels) a = a.0
+asks_name p (Chart lane from to has_all has_levels) a = a.0
 asks_name p (Generate storm) a = a.0
 asks_name p (Sweep storm last is_clocked keeps_going workers) a = a.0
 asks_name p (Run counting is_told) a = a.0
@@ -235,7 +235,7 @@ asks_one (Some p) (Chart lane from to t v) (Chart lane' from' to' u w) a b =
     let f = same_number 1 _ from from' a.1.from_read b.1.from_read in
     let g = same_number 18446744073709551615 _ to to' a.1.to_read b.1.to_read in
     ap (λ (x : Option LaneName). Chart x from to t v) e ∙ ap (λ (x : ℕ). Chart lane' x to t v) f ∙ ap (λ (x : ℕ). Chart lane' from' x t v) g
-    ∙ ap (λ (x : Bool). Chart lane' from' to' x v) (same_flag _ t u a.1.brief_read b.1.brief_read) ∙ ap (Chart lane' from' to' u) (same_flag _ v w a.1.levels_read b.1.levels_read)
+    ∙ ap (λ (x : Bool). Chart lane' from' to' x v) (same_flag _ t u a.1.all_read b.1.all_read) ∙ ap (Chart lane' from' to' u) (same_flag _ v w a.1.levels_read b.1.levels_read)
 asks_one (Some p) (Generate s) (Generate t) a b =
     let x = a.1 in
     let y = b.1 in

@@ -69,7 +69,7 @@ rules_of kinds.Search =
 rules_of kinds.Draw = option (codes "from") ∷ option (codes "to") ∷ []
 rules_of kinds.Upgrade = []
 rules_of kinds.Step = flag (codes "trace") ∷ flag (codes "keep-going") ∷ flag (codes "echo") ∷ []
-rules_of kinds.Chart = option (codes "lane") ∷ option (codes "from") ∷ option (codes "to") ∷ flag (codes "brief") ∷ flag (codes "levels") ∷ []
+rules_of kinds.Chart = option (codes "lane") ∷ option (codes "from") ∷ option (codes "to") ∷ flag (codes "all") ∷ flag (codes "brief") ∷ flag (codes "levels") ∷ []
 rules_of kinds.Generate =
     required (codes "seed") ∷ required (codes "events") ∷ option (codes "requesters") ∷ option (codes "lose") ∷ option (codes "corrupt")
     ∷ option (codes "block") ∷ []
@@ -105,6 +105,7 @@ the_app = fold and_subcommand top_app subcommands
 -- the rule of an option
 abbrev pub option_rule : CommandOption → Rule
 option_rule (takes.Flag name _) = flag name.now
+option_rule (takes.Kept name) = flag name.now
 option_rule (takes.Value name _ _) = option name.now
 option_rule (takes.Required name _ _) = required name.now
 
@@ -150,14 +151,14 @@ pub record AsksStep (rows : List Row) (is_traced keeps_going echoes : Bool) : Ty
   pub echo_read : WritesFlag (first_of (codes "echo") rows) echoes
 
 -- the values of `chart` ask for the events of this lane, or of all, on the lines from one to another, numbers of 64 bits,
--- and to leave out what tells nothing new
-pub record AsksChart (rows : List Row) (lane : Option LaneName) (from to : ℕ) (is_brief has_levels : Bool) : Type 0 where
+-- and what tells nothing new, too
+pub record AsksChart (rows : List Row) (lane : Option LaneName) (from to : ℕ) (has_all has_levels : Bool) : Type 0 where
   pub lane_read : WritesLane (first_of (codes "lane") rows) lane
   pub from_read : WritesNumber 1 (first_of (codes "from") rows) from
   pub to_read : WritesNumber 18446744073709551615 (first_of (codes "to") rows) to
   pub ordered : from ≤ to
   pub fits : to < 2 ^ 64
-  pub brief_read : WritesFlag (first_of (codes "brief") rows) is_brief
+  pub all_read : WritesFlag (first_of (codes "all") rows) has_all
   pub levels_read : WritesFlag (first_of (codes "levels") rows) has_levels
 
 -- the values of `generate` ask for this storm, of a seed of 64 bits
@@ -209,7 +210,7 @@ Asks (Some p) (Search limit work size output is_told) =
 Asks (Some p) (Draw from to) = (p.0 ≡ codes "draw") × AsksDraw p.1 from to
 Asks (Some p) Upgrade = p.0 ≡ codes "upgrade"
 Asks (Some p) (Step is_traced keeps_going echoes) = (p.0 ≡ codes "step") × AsksStep p.1 is_traced keeps_going echoes
-Asks (Some p) (Chart lane from to is_brief has_levels) = (p.0 ≡ codes "chart") × AsksChart p.1 lane from to is_brief has_levels
+Asks (Some p) (Chart lane from to has_all has_levels) = (p.0 ≡ codes "chart") × AsksChart p.1 lane from to has_all has_levels
 Asks (Some p) (Generate storm) = (p.0 ≡ codes "generate") × AsksGenerate p.1 storm
 Asks (Some p) (Sweep storm last is_clocked keeps_going workers) =
     (p.0 ≡ codes "sweep") × AsksSweep p.1 storm last workers × WritesFlag (first_of (codes "clocked") p.1) is_clocked × WritesFlag (first_of (codes "keep-going") p.1) keeps_going

@@ -70,6 +70,8 @@ pub(crate) fn subcommand_named(name: &str) -> Option<Subcommand>
 pub(crate) enum CommandOption {
     /// It takes no value.
     Flag(&'static str, &'static str),
+    /// It takes no value, changes nothing, and stands in no help: an option of an earlier version.
+    Kept(&'static str),
     /// It takes a value.
     Value(&'static str, &'static str, &'static str),
     /// It takes a value, and has to be given.
@@ -92,6 +94,10 @@ fn arg_of<'a>(alloc: Global, option: &CommandOption) -> Arg<'a>
             .long(name)
             .action(ArgAction::SetTrue)
             .help(help),
+        CommandOption::Kept(name) => Arg::new(alloc, name)
+            .long(name)
+            .action(ArgAction::SetTrue)
+            .hide(true),
         CommandOption::Value(name, value, help) => Arg::new(alloc, name)
             .long(name)
             .value_name(value)
@@ -250,7 +256,8 @@ fn chart_command<'a>(alloc: Global) -> Result<Command<'a>, AllocError>
         CommandOption::Value("lane", "NAME", texts::LANE),
         CommandOption::Value("from", "LINE", texts::FIRST_LINE),
         CommandOption::Value("to", "LINE", texts::LAST_LINE),
-        CommandOption::Flag("brief", texts::BRIEF),
+        CommandOption::Flag("all", texts::ALL),
+        CommandOption::Kept("brief"),
         CommandOption::Flag("levels", texts::LEVELS),
     ];
     with_options(alloc, plain_command(alloc, "chart", texts::CHART), &options)

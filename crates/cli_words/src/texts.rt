@@ -167,10 +167,11 @@ pub(crate) static CHART: Help = Help {
     long: "Draws what a script does on the links of a fabric, as an SVG chart.
 
 The input is one script, as 'step' reads it. Each event of a link that the options choose
-has a row, 1000 at most. Above them stands the fault or the refusal that ended the run, in
-red, or that the script ran to its end.",
+has a row, 1000 at most, and so has each 'settle', above its events. Left out are the Acks and
+credit updates that tell nothing new. Above the rows stands the fault or the refusal that ended
+the run, in red, or that the script ran to its end.",
     example: "Example:
-  $ pciex chart --brief < examples/first_script.txt > chart.svg",
+  $ pciex chart examples/first_script.txt > chart.svg",
 };
 
 pub(crate) static GENERATE: Help = Help {
@@ -277,11 +278,10 @@ pub(crate) static FIRST_LINE: &str = "First line of the script to draw [default:
 pub(crate) static LAST_LINE: &str =
     "Last line of the script to draw, at least --from [default: the last one]";
 
-pub(crate) static BRIEF: &str =
-    "Leave out the Acks and credit updates that tell nothing new, and count them";
+pub(crate) static ALL: &str = "Draw the Acks and credit updates that tell nothing new, too";
 
 pub(crate) static LEVELS: &str =
-    "Draw the levels of each lane's queue, replay buffer and credits beside the rows";
+    "Draw the levels of each lane's queue, replay buffer and credits behind the results";
 
 pub(crate) static CLOCKED: &str =
     "Also test the n: none falls, exceeds the history's length or is above its request's index";

@@ -74,13 +74,13 @@ pub enum Request {
         keeps_going: bool,
         echoes: bool,
     },
-    /// The subcommand `chart`, of the lane alone, if one is given, and of the lines from one to another; a brief one leaves
-    /// out what tells nothing new; one with levels draws those of the lanes.
+    /// The subcommand `chart`, of the lane alone, if one is given, and of the lines from one to another, with what tells
+    /// nothing new, too, or without; one with levels draws those of the lanes.
     Chart {
         lane: Option<LaneName>,
         from: u64,
         to: u64,
-        is_brief: bool,
+        has_all: bool,
         has_levels: bool,
     },
     /// The subcommand `generate`, which writes the script of a storm.
@@ -241,7 +241,7 @@ fn chart_of<'a>(chart: &ArgMatches<'a>) -> Result<Request, RefusedValue<'a>>
         lane,
         from,
         to,
-        is_brief: is_set(chart.get_str("brief")),
+        has_all: is_set(chart.get_str("all")),
         has_levels: is_set(chart.get_str("levels")),
     })
 }

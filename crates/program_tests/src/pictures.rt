@@ -94,7 +94,7 @@ pciex: line 12 is an answer before line 13
     // Requester 2 has sent its packet four times, and its link is retrained; no DLLP has come yet.
     Row {
         name: "one lane, on which credits are sent",
-        words: &["pciex", "chart", "--lane", "in"],
+        words: &["pciex", "chart", "--lane", "in", "--all"],
         input: "\
 fabric 2 0 4096
 submit 2 write 40 F 0 01020304
@@ -119,7 +119,7 @@ dllp in p
     // The Ack is lost, and the packet is sent once more: until then the replay buffer holds it. Then all comes to rest.
     Row {
         name: "all lanes, with their levels",
-        words: &["pciex", "chart", "--brief", "--levels"],
+        words: &["pciex", "chart", "--levels"],
         input: "\
 fabric 1 0 4096
 submit 1 add 40 07000000

@@ -35,6 +35,7 @@ pub struct Arg<'a> {
     help: Text,
     action: ArgAction,
     required: bool,
+    is_hidden: bool,
 }
 
 impl<'a> Arg<'a> {
@@ -47,6 +48,7 @@ impl<'a> Arg<'a> {
             help: Text::new(),
             action: ArgAction::Set,
             required: false,
+            is_hidden: false,
         }
     }
 
@@ -67,6 +69,12 @@ impl<'a> Arg<'a> {
 
     pub fn action(mut self, action: ArgAction) -> Arg<'a> {
         self.action = action;
+        self
+    }
+
+    /// Leaves the option out of help.
+    pub fn hide(mut self, is_hidden: bool) -> Arg<'a> {
+        self.is_hidden = is_hidden;
         self
     }
 
@@ -590,7 +598,7 @@ impl<'c, 'a> Level<'c, 'a> {
     }
 
     fn help_options(&self, text: &mut Text, is_long: bool) {
-        let args = &self.command.args;
+        let args: List<&Arg> = self.command.args.iter().filter(|arg| !arg.is_hidden).collect();
         let widths = args.iter().map(|arg| width(&arg.to_string()) + 4);
         let longest = widths.max().unwrap_or(0).max(2);
         let is_below = is_long || args.iter().any(|arg| is_too_wide(width(&arg.help), longest));

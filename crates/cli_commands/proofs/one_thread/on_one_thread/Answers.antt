@@ -87,7 +87,7 @@ undone (Search limit work size output is_told) input out exit e = inr (e, nothin
 undone Upgrade input out exit e = inr (e, nothing-done _ input out)
 undone (Draw from to) input out exit e = inr (e, nothing-done _ input out)
 undone (Step is_traced keeps_going echoes) input out exit e = inr (e, nothing-done _ input out)
-undone (Chart lane from to is_brief has_levels) input out exit e = inr (e, nothing-done _ input out)
+undone (Chart lane from to has_all has_levels) input out exit e = inr (e, nothing-done _ input out)
 undone (Generate storm) input out exit e = (refl, inr (e, record { done = []; begins = inl refl; written = appends out }))
 undone (Sweep storm last is_clocked keeps_going workers) input out exit e = (refl, inr (e, nothing-swept _ out))
 undone (run_words counting is_told) input out exit e = (refl, inr (e, nothing-counted counting out))

@@ -36,7 +36,7 @@ returns-clause-ok c =
         to_read = to.0;
         ordered = omega (arith, c.if-to-from.false);
         fits = omega (arith, to.1.most);
-        brief_read = subst (λ (t : Option Text). WritesFlag t c.is_set.result) (c.get_str-2.ensures ∙ first_value-rows (found_of c.args.chart.now) (codes "brief")) c.is_set.ensures;
+        all_read = subst (λ (t : Option Text). WritesFlag t c.is_set.result) (c.get_str-2.ensures ∙ first_value-rows (found_of c.args.chart.now) (codes "all")) c.is_set.ensures;
         levels_read = subst (λ (t : Option Text). WritesFlag t c.is_set-2.result) (c.get_str-3.ensures ∙ first_value-rows (found_of c.args.chart.now) (codes "levels")) c.is_set-2.ensures;
       },
     )
