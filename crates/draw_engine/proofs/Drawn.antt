@@ -60,6 +60,7 @@ fault-shown r d new f o p gone read written tells = as_shown r d new (at_end d.r
     (IfOk-weaker r _ _ (λ verdict is. ap is_fault is) tells)
 
 shown : Pages → (d : DrawerView) (r : Result Claim ReadFault) → IsDocument (drawn d r).text
+unfolding picture_text
 shown pages d (Err f) = pages _ _ _
 shown pages d (Ok c) = pages _ _ _
 

@@ -1,5 +1,5 @@
 -- What is drawn is what `check` tells.
-use Rattle.std.proofs.Common.{◌≡◌, ◌∙◌, ◌+◌, ◌++◌, ℕ, Bool, true, false, List, [], ◌∷◌, length, sym, ap, refl, subst, drop, fold, cond, Result, Ok, Err}
+use Rattle.std.proofs.Common.{◌≡◌, ◌∙◌, ◌++◌, ℕ, Bool, true, false, List, [], ◌∷◌, length, sym, ap, refl, subst, drop, fold, cond, Result, Ok, Err}
 use Rattle.std.proofs.lemmas.List.{append-nil}
 use Rattle.std.specs.Prelude.{nat_lt, codes, Option, Some, None, is_some}
 use Rattle.history_words.specs.declared.flaws.FlawKind.{FlawKind}
@@ -7,7 +7,7 @@ use Rattle.history_words.specs.Claim.{Claim}
 use Rattle.history_words.specs.Flaws.{first_flaw}
 use Rattle.history_picture.specs.declared.scale.Window.{Window}
 use Rattle.history_picture.specs.declared.flaws.Finding.{Finding}
-use Rattle.history_picture.specs.Picture.{picture_text, line_text, view_of, width_of, bottom_of}
+use Rattle.history_picture.specs.Picture.{picture_text, line_text, view_of, width_of, height_of}
 use Rattle.history_picture.specs.Notes.{line_words}
 use Rattle.history_picture.specs.Picture as picture
 use Rattle.hex_text.specs.Lines.{lines_of, bare, said}
@@ -57,12 +57,13 @@ along w (l ∷ ls) a b s = along w ls (after_line draw_responses a l) (after_lin
 -- the picture of a trace, by its first flaw
 of_flaw : (w : Window) (lines : TraceLinesView) (c : Claim) (o : Option (FlawKind × ℕ)) (d : DrawerView) (a : Run DrawerView) (b : Run read.TraceReaderView) → IsAlong w a b
     → SaysTheSame (with_answer a (shows d (picture_text w c (finding_at lines c (flaw_of o))) (is_some o))) (with_answer b (judged o))
+unfolding picture_text
 of_flaw w lines c None d a b s = record {
   line = codes "ok";
   more = [];
   flawed = false;
   width = width_of (view_of w c None);
-  height = bottom_of (view_of w c None) c.records c.memory.entries + 30;
+  height = height_of (view_of w c None) c.records c.memory.entries;
   below = drop 1 (picture.drawn (view_of w c None) c.records c.memory.entries None);
   told = ap (λ (t : List ℕ). t ++ (codes "ok" ++ 10 ∷ [])) s.b_text;
   drawn_as = ap (λ (t : List ℕ). t ++ picture_text w c None) s.a_text;
@@ -76,7 +77,7 @@ of_flaw w lines c (Some f) d a b s =
       more = line_words finding;
       flawed = true;
       width = width_of (view_of w c (flaw_of (Some f)));
-      height = bottom_of (view_of w c (flaw_of (Some f))) c.records c.memory.entries + 30;
+      height = height_of (view_of w c (flaw_of (Some f))) c.records c.memory.entries;
       below = drop 1 (picture.drawn (view_of w c (flaw_of (Some f))) c.records c.memory.entries finding);
       told = ap (λ (t : List ℕ). t ++ (flaw_line f.0 f.1 ++ 10 ∷ [])) s.b_text;
       drawn_as = ap (λ (t : List ℕ). t ++ picture_text w c finding) s.a_text;

@@ -1,26 +1,26 @@
 -- Each request has its bar.
-use Rattle.std.proofs.Common.{◌≡◌, ◌∙◌, ◌+◌, ◌-◌, ◌*◌, ◌∷◌, ◌++◌, ◌<◌, ◌≤◌, List, ℕ, [], zero, suc, Bool, true, false, cond, ap, ap₂, sym, refl, subst, length, append_assoc, arith, min, max}
-use Rattle.std.specs.Prelude.{Option, Some, None, option_map, slice_get, nat_le, nat_lt, ◌&&◌, ◌||◌}
-use Rattle.std.proofs.lemmas.Bool.{eq-eqb, le-leb, lt-ltb}
+use Rattle.std.proofs.Common.{◌≡◌, ◌∙◌, ◌+◌, ◌-◌, ◌*◌, ◌∷◌, ◌++◌, ◌<◌, ◌≤◌, List, ℕ, [], zero, suc, Bool, true, false, cond, ap, ap₂, sym, refl, subst, append_assoc, arith, min, max, inl, inr}
+use Rattle.std.specs.Prelude.{Option, Some, None, option_map, slice_get, nat_le, nat_lt, ◌==◌, ◌&&◌, ◌||◌, ◌⊎◌}
+use Rattle.std.proofs.lemmas.Bool.{eq-eqb, eqb-true, le-leb, lt-ltb, ltb-true, ltb-false}
 use Rattle.tlp_core.specs.Ops.{Op}
 use Rattle.seq_memory.specs.Entries.{Entry}
 use Rattle.seq_memory.specs.Entries.{Reply}
 use Rattle.history_words.specs.Records.{Record}
 use Rattle.history_words.specs.declared.record.RecordOf.TheVariants as records
-use Rattle.history_words.specs.Flaws.{first_place}
-use Rattle.history_words.specs.Trace.{is_request}
 use Rattle.svg_text.specs.declared.shapes.Dot.{Dot}
 use Rattle.svg_text.specs.Shapes.{Shape}
+use Rattle.history_bars.specs.declared.scale.Scale.{Scale}
+use Rattle.history_bars.specs.declared.bars.Bar.{Bar}
+use Rattle.history_bars.specs.declared.marks.View.{View}
+use Rattle.history_bars.specs.Layout.{x_at, acted_in, answer_in, bar_of, dot_at, row_for}
+use Rattle.history_bars.specs.Words.{answer_at, moment_of}
+use Rattle.history_bars.specs.Said.{said_of}
+use Rattle.history_bars.specs.Signs.{signs_of}
+use Rattle.history_bars.specs.Bars.{bar_for, bar_shapes, dot_shapes, placed_shapes, record_shapes, record_ends, bars, frame_of, row_ends, row, row_height, rows, requesters, bottom_of}
 use Rattle.history_picture.specs.declared.scale.Window.{Window}
-use Rattle.history_picture.specs.declared.scale.Scale.{Scale}
-use Rattle.history_picture.specs.declared.bars.Bar.{Bar}
-use Rattle.history_picture.specs.declared.marks.View.{View}
-use Rattle.history_picture.specs.Layout.{scale_of, x_at, acted_in, answer_in, bar_of, dot_at, row_for}
-use Rattle.history_picture.specs.Words.{answer_at, moment_of}
-use Rattle.history_picture.specs.Picture.{bar_for, bar_shapes, dot_shapes, placed_shapes, record_shapes, record_ends, bars, frame_of, row_ends, row, row_height, rows, requesters, view_of, width_of, bottom_of, entries, shown_entries, mark_shapes, body, captions, kinds, signs, flaw_of}
-use Rattle.history_picture.specs.Said.{said_of}
-use Rattle.history_picture.specs.Notes.{note_shapes}
-use Rattle.history_picture.specs.Shown.{Has, IsSubmitted, IsWholeHistory, EachRequestHasItsBar, BarsGoFromSubmissionToAnswer, DotsStandAtEntries, request_in}
+use Rattle.history_picture.specs.Points.{is_open, is_cut, chosen, around, flaw_point}
+use Rattle.history_picture.specs.Picture.{width_of, entries, shown_entries, mark_shapes, body, heading, flaw_of}
+use Rattle.history_picture.specs.Shown.{Has, IsSubmitted, EachRequestHasItsBar, BarsGoFromSubmissionToAnswer, DotsStandAtEntries, request_in, WholeHistoriesAreShown, FewPointsAreShown, FlawsAreShown, IsWithin}
 
 -- ---- parts of lists
 
@@ -116,12 +116,10 @@ each v rs h f i k n op bar low high submitted e =
     let first = entries v (bottom_of v rs h) 0 (shown_entries v.scale h) in
     let in_all : Has all part = within all (row v width rs h i found.0) part found.1 bar_is.1 in (
       bar_is.0,
-      has_after (captions v.scale (length h) f) (note_shapes v rs f ++ (kinds ++ (signs ++ body v rs h f))) part
-          (has_after (note_shapes v rs f) (kinds ++ (signs ++ body v rs h f)) part
-          (has_after kinds (signs ++ body v rs h f) part (has_after signs (body v rs h f) part (has_after first (all ++ last) part (has_before all last part in_all))))),
+      has_after (heading v rs h f (signs_of (body v rs h f))) (body v rs h f) part (has_after first (all ++ last) part (has_before all last part in_all)),
     )
 
--- ---- the whole history
+-- ---- bars and dots that are shown whole
 
 abbrev make_scale : ℕ → ℕ → Scale
 make_scale from span = record { from = from; span = span }
@@ -132,65 +130,90 @@ make_bar start end is_open = record { start = start; end = end; is_open = is_ope
 abbrev make_dot : ℕ → ℕ → Dot
 make_dot x y = record { x = x; y = y }
 
-whole_scale : (w : Window) (h : List Entry) → IsWholeHistory w h → scale_of w (length h) ≡ record { from = 0; span = length h }
-whole_scale w h s =
-    let from : min w.from (min w.to (length h)) ≡ 0 = omega (arith, s.from) in
-    let span : min (min w.to (length h) - min w.from (min w.to (length h))) 4294967295 ≡ length h = omega (arith, s.from, s.to, s.count) in
-    ap₂ (λ (a : ℕ). λ (b : ℕ). make_scale a b) from span
-
-whole_bar : (count n m : ℕ) (acted : Option ℕ) → n < m → m ≤ count
-    → bar_of (record { from = 0; span = count }) false n (Some m) acted ≡ Some (record { start = n; end = m; is_open = false })
-whole_bar count n m acted before within =
-    let begins : nat_le (n - 0) count ≡ true = le-leb (n - 0) count (omega arith) in
-    let ends : nat_lt 0 m ≡ true = lt-ltb 0 m (omega arith) in
-    let start : n - 0 ≡ n = omega arith in
-    let end : max (min (m - 0) (count + 1)) (n - 0 + 1) ≡ m = omega arith in
-    ap₂ (λ (a : Bool). λ (b : Bool). cond (a && (b || nat_le 0 n)) (Some (make_bar (n - 0) (max (min (m - 0) (count + 1)) (n - 0 + 1)) false)) None) begins ends
-    ∙ ap₂ (λ (a : ℕ). λ (b : ℕ). Some (make_bar a b false)) start end
+whole_bar : (s : Scale) (n m : ℕ) (acted : Option ℕ) → n < m → s.from ≤ n → m ≤ s.from + s.span
+    → bar_of s false n (Some m) acted ≡ Some (record { start = n - s.from; end = m - s.from; is_open = false })
+whole_bar s n m acted before low within =
+    let begins : nat_le (n - s.from) s.span ≡ true = le-leb (n - s.from) s.span (omega arith) in
+    let ends : nat_lt s.from m ≡ true = lt-ltb s.from m (omega arith) in
+    let end : max (min (m - s.from) (s.span + 1)) (n - s.from + 1) ≡ m - s.from = omega arith in
+    ap₂ (λ (a : Bool). λ (b : Bool). cond (a && (b || nat_le s.from n)) (Some (make_bar (n - s.from) (max (min (m - s.from) (s.span + 1)) (n - s.from + 1)) false)) None) begins ends
+    ∙ ap (λ (b : ℕ). Some (make_bar (n - s.from) b false)) end
 
 answer_known : (rs : List Record) (i k m a : ℕ) (reply : Reply) → answer_in rs i k ≡ Some a → slice_get rs a ≡ Some (records.Ans i k reply m)
     → moment_of (answer_at rs (answer_in rs i k)) ≡ Some m
 answer_known rs i k m a reply first found = ap (λ (o : Option ℕ). moment_of (answer_at rs o)) first ∙ ap moment_of found
 
 pub answered : BarsGoFromSubmissionToAnswer
-answered w c f i k n m a op reply whole low high posted submitted first found before within =
-    let rs = c.records in
-    let h = c.memory.entries in
-    let v = view_of w c (flaw_of f) in
-    let q = request_in rs h i k n in
-    let bar : Bar = record { start = n; end = m; is_open = false } in
-    let known : bar_for v rs op q ≡ Some bar =
-    ap₂ (λ (s : Scale). λ (b : Bool). bar_of s b n (moment_of (answer_at rs (answer_in rs i k))) (acted_in h i k)) (whole_scale w h whole) posted
-    ∙ ap (λ (o : Option ℕ). bar_of (make_scale 0 (length h)) false n o (acted_in h i k)) (answer_known rs i k m a reply first found)
-    ∙ whole_bar (length h) n m (acted_in h i k) before within in
+answered v rs h f i k n m a op reply low high posted submitted first found before from within =
+    let s = v.scale in
+    let bar : Bar = record { start = n - s.from; end = m - s.from; is_open = false } in
+    let known : bar_for v rs op (request_in rs h i k n) ≡ Some bar =
+    ap (λ (b : Bool). bar_of s b n (moment_of (answer_at rs (answer_in rs i k))) (acted_in h i k)) posted
+    ∙ ap (λ (o : Option ℕ). bar_of s false n o (acted_in h i k)) (answer_known rs i k m a reply first found)
+    ∙ whole_bar s n m (acted_in h i k) before from within in
     each v rs h f i k n op bar low high submitted known
 
--- ---- dots
-
-by_first : (b : Bool) (o : Option ℕ) (count p : ℕ) → cond b (Some 0) (option_map (λ n. n + 1) o) ≡ Some p → ((q : ℕ) → o ≡ Some q → q < count) → p < suc count
-by_first true o count p e f =
-    let here : 0 ≡ p = of_some 0 p e in
-    omega (arith, here)
-by_first false None count p e f = absurd cc
-by_first false (Some q) count p e f =
-    let here : q + 1 ≡ p = of_some (q + 1) p e in
-    let less : q < count = f q refl in
-    omega (arith, here, less)
-
-first_within : {X : Type 0} (t : X → Bool) (xs : List X) (p : ℕ) → first_place t xs ≡ Some p → p < length xs
-first_within t [] p e = absurd cc
-first_within t (x ∷ xs) p e = by_first (t x) (first_place t xs) (length xs) p e (first_within t xs)
-
-whole_dot : (count e top : ℕ) (words : List ℕ) → e < count
-    → dot_shapes (dot_at (record { from = 0; span = count }) (Some (e + 1))) top words ≡ Shape.Dotted (record { x = x_at e + 48; y = top + 34 }) words ∷ []
-whole_dot count e top words lt =
-    let after : nat_lt 0 (e + 1) ≡ true = lt-ltb 0 (e + 1) (omega arith) in
-    let before : nat_le (e + 1 - 0) count ≡ true = le-leb (e + 1 - 0) count (omega arith) in
-    let x : 120 + 96 * (e + 1 - 0) - 48 ≡ 120 + 96 * e + 48 = omega arith in
-    ap₂ (λ (a : Bool). λ (b : Bool). dot_shapes (cond (a && b) (Some (e + 1 - 0)) None) top words) after before
+whole_dot : (s : Scale) (e top : ℕ) (words : List ℕ) → s.from ≤ e → e < s.from + s.span
+    → dot_shapes (dot_at s (Some (e + 1))) top words ≡ Shape.Dotted (record { x = x_at (e - s.from) + 48; y = top + 34 }) words ∷ []
+whole_dot s e top words low lt =
+    let after : nat_lt s.from (e + 1) ≡ true = lt-ltb s.from (e + 1) (omega arith) in
+    let before : nat_le (e + 1 - s.from) s.span ≡ true = le-leb (e + 1 - s.from) s.span (omega arith) in
+    let x : 120 + 96 * (e + 1 - s.from) - 48 ≡ 120 + 96 * (e - s.from) + 48 = omega arith in
+    ap₂ (λ (a : Bool). λ (b : Bool). dot_shapes (cond (a && b) (Some (e + 1 - s.from)) None) top words) after before
     ∙ ap (λ (at : ℕ). Shape.Dotted (make_dot at (top + 34)) words ∷ []) x
 
 pub dots : DotsStandAtEntries
-dots w h i k e top words whole acted =
-    ap₂ (λ (s : Scale). λ (o : Option ℕ). dot_shapes (dot_at s (option_map (λ p. p + 1) o)) top words) (whole_scale w h whole) acted
-    ∙ whole_dot (length h) e top words (first_within (is_request i k) h e acted)
+dots s h i k e top words acted low lt = ap (λ (o : Option ℕ). dot_shapes (dot_at s (option_map (λ p. p + 1) o)) top words) acted ∙ whole_dot s e top words low lt
+
+-- ---- which points are shown
+
+whole_chosen : (w : Window) (count : ℕ) → w.from ≡ 0 → count ≤ w.to → count ≤ 4294967295 → chosen w count ≡ record { from = 0; span = count }
+whole_chosen w count first to few =
+    let from : min w.from (min w.to count) ≡ 0 = omega (arith, first) in
+    let span : min (min w.to count - min w.from (min w.to count)) 4294967295 ≡ count = omega (arith, first, to, few) in
+    ap₂ (λ (a : ℕ). λ (b : ℕ). make_scale a b) from span
+
+not_cut : (b c : Bool) → (b ≡ true → c ≡ true → ⊥) → (b && c) ≡ false
+not_cut true true f = absurd (f refl refl)
+not_cut true false f = refl
+not_cut false c f = refl
+
+split : (b c : Bool) → (b && c) ≡ true → (b ≡ true) × (c ≡ true)
+split true true e = (refl, refl)
+split true false e = cc
+split false c e = cc
+
+is_whole : (w : Window) (count : ℕ) → (count ≤ 60) ⊎ (w.to < 18446744073709551615) → is_cut w count ≡ false
+is_whole w count (inl few) = not_cut (is_open w) (nat_lt 60 count) (λ o c. let more : 60 < count = ltb-true 60 count c in omega (arith, few, more))
+is_whole w count (inr to) =
+    not_cut (is_open w) (nat_lt 60 count) (λ o c. let last : w.to ≡ 18446744073709551615 = eqb-true w.to 18446744073709551615 (split (w.from == 0) (w.to == 18446744073709551615) o).1 in omega (arith, to, last))
+
+pub whole : WholeHistoriesAreShown
+whole w point count s =
+    ap (λ (b : Bool). cond b (around point count) (chosen w count)) (is_whole w count s.chosen) ∙ whole_chosen w count s.from s.to s.few
+
+few_by : (b : Bool) (w : Window) (point count : ℕ) → nat_lt 60 count ≡ b → (cond b (around point count) (chosen w count)).span ≤ 60
+few_by true w point count e = omega arith
+few_by false w point count e =
+    let few : count ≤ 60 = ltb-false 60 count e in
+    omega (arith, few)
+
+pub few : FewPointsAreShown
+few w point count o =
+    subst (λ (b : Bool). (cond (b && nat_lt 60 count) (around point count) (chosen w count)).span ≤ 60) (sym o) (few_by (nat_lt 60 count) w point count refl)
+
+flaws_by : (b : Bool) (w : Window) (point count : ℕ) → nat_lt 60 count ≡ b → w.from ≡ 0 → w.to ≡ 18446744073709551615 → point ≤ count → count < 18446744073709551616
+    → IsWithin (cond b (around point count) (chosen w count)) point
+flaws_by true w point count e from to at small =
+    let more : 60 < count = ltb-true 60 count e in
+    record { from = omega arith; to = omega (arith, more, at) }
+flaws_by false w point count e from to at small =
+    let few : count ≤ 60 = ltb-false 60 count e in
+    record { from = omega (arith, from); to = omega (arith, from, to, few, at, small) }
+
+pub flaws : FlawsAreShown
+flaws w rs flaw count o at small =
+    let both : (w.from ≡ 0) × (w.to ≡ 18446744073709551615) =
+    (eqb-true w.from 0 (split (w.from == 0) (w.to == 18446744073709551615) o).0, eqb-true w.to 18446744073709551615 (split (w.from == 0) (w.to == 18446744073709551615) o).1) in
+    let point = flaw_point rs flaw in
+    subst (λ (b : Bool). IsWithin (cond (b && nat_lt 60 count) (around point count) (chosen w count)) point) (sym o) (flaws_by (nat_lt 60 count) w point count refl both.0 both.1 at small)

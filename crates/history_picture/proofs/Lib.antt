@@ -1,4 +1,2 @@
-mod Lookups
 mod Steps
 mod Drawings
-mod Overlaps

@@ -1,7 +1,5 @@
-pub mod Layout
-pub mod Words
-pub mod Marks
-pub mod Said
+pub mod Points
 pub mod Notes
+pub mod Legend
 pub mod Picture
 pub mod Shown

@@ -1,5 +1,5 @@
 -- What is wrong, in words.
-use Rattle.std.specs.Prelude.{ℕ, List, [], ◌∷◌, ◌++◌, take, codes, slice_get, Option, Some, None}
+use Rattle.std.specs.Prelude.{ℕ, ◌+◌, Bool, if◌then◌else◌, List, [], ◌∷◌, ◌++◌, take, codes, slice_get, Option, Some, None}
 use Rattle.std.specs.Fmt.{decimal}
 use Rattle.seq_memory.specs.Entries.{Reply}
 use Rattle.history_words.specs.Records.{Record}
@@ -10,9 +10,9 @@ use Rattle.history_words.specs.declared.flaws.FlawKind.TheVariants as flaws
 use Rattle.flaw_places.specs.Places.{flaw_line}
 use Rattle.operation_text.specs.Texts.{reply_text}
 use Rattle.svg_text.specs.Shapes.{Shape}
-use Rattle.history_picture.specs.declared.marks.View.{View}
+use Rattle.history_bars.specs.declared.marks.View.{View}
 use Rattle.history_picture.specs.declared.flaws.Finding.{Finding}
-use Rattle.history_picture.specs.Marks.{plain_label}
+use Rattle.history_bars.specs.Marks.{plain_label}
 
 -- what a flaw says of a request
 abbrev pub meaning : FlawKind → List ℕ
@@ -80,3 +80,13 @@ line_words (Some f) = codes " (line " ++ (decimal f.line ++ codes ")")
 
 abbrev pub verdict_words : Option Finding → List ℕ
 verdict_words f = flaw_words f ++ line_words f
+
+-- where points are left out, the options that choose them
+abbrev pub others_words : Bool → List ℕ
+others_words is_cut = if is_cut then codes "; --from and --to choose others" else []
+
+-- which points of how many are shown
+abbrev pub window_words : View → ℕ → List ℕ
+window_words v count =
+    codes "points " ++ (decimal v.scale.from ++ (codes " to " ++ (decimal (v.scale.from + v.scale.span)
+    ++ (codes " of " ++ (decimal count ++ others_words v.is_cut)))))

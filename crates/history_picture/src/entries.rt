@@ -1,12 +1,15 @@
 //! The history along the axis.
-ghost use Rattle.std.specs.Prelude.{◌≡◌, ◌≤◌, ◌<◌, ◌+◌, ◌^◌, ◌++◌, length, OnOk};
+ghost use Rattle.std.specs.Prelude.{◌≡◌, ◌≤◌, ◌<◌, ◌+◌, ◌^◌, ◌++◌, None, false, length, IfOk, OnOk};
 ghost use Rattle.svg_text.specs.Shapes.{shapes_text};
+ghost use Rattle.history_bars.specs.Signs.{signs_of, joined, bar_signs};
+ghost use Rattle.history_bars.specs.Words.{kind_colour as colour_of};
 ghost use Rattle.history_picture.specs.Picture as spec;
 
-use crate::marks::{View, centred_label, edge_of, thickness_of};
-use crate::scale::{Scale, x_at};
-use crate::words::{kind_colour, put_entry_words, put_pair, put_point_words};
 use arrayvec::ArrayString;
+use history_bars::marks::{View, centred_label, edge_of, thickness_of};
+use history_bars::scale::{Scale, x_at};
+use history_bars::signs::Signs;
+use history_bars::words::{kind_colour, put_entry_words, put_pair, put_point_words};
 use operation_text::write_decimal;
 use seq_memory::Entry;
 use std::alloc::AllocError;
@@ -77,24 +80,35 @@ fn put_entry(view: &View, offset: u64, entry: &Entry, out: &mut Vec<u8>) -> Resu
     put_label(&place, text.as_bytes(), out)
 }
 
-/// Adds the entries that are shown, each after its point.
+/// What occurs with an entry more.
+fn with_entry(signs: Signs, entry: &Entry) -> Signs
+    ensures { result ≡ joined signs (bar_signs (colour_of entry.now.op) false None) }
+{
+    signs.joined(Signs::of_bar(kind_colour(&entry.op), false, None))
+}
+
+/// Adds the entries that are shown, each after its point, and gives what occurs among them.
 pub(crate) fn put_entries(
     view: &View,
     bottom: u64,
     shown: &[Entry],
     out: &mut Vec<u8>,
-) -> Result<(), AllocError>
+) -> Result<Signs, AllocError>
     requires span { length shown.now ≤ 4294967295 }
     requires point { view.now.scale.from + length shown.now < 2 ^ 64 }
-    ensures { OnOk result (out.new.items ≡ out.old.items ++ shapes_text (spec.entries view.now bottom 0 shown.now)) }
+    ensures shapes { OnOk result (out.new.items ≡ out.old.items ++ shapes_text (spec.entries view.now bottom 0 shown.now)) }
+    ensures signs { IfOk result (λ signs. signs ≡ signs_of (spec.entries view.now bottom 0 shown.now)) }
 {
     let mut offset = 0;
+    let mut signs = Signs::none();
     for entry in shown {
         put_tick(view.scale.from, offset, bottom, out)?;
         put_entry(view, offset, entry, out)?;
+        signs = with_entry(signs, entry);
         offset += 1;
     }
-    put_tick(view.scale.from, offset, bottom, out)
+    put_tick(view.scale.from, offset, bottom, out)?;
+    Ok(signs)
 }
 
 /// The entries that are shown.

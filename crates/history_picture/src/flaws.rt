@@ -2,11 +2,12 @@
 ghost use Rattle.std.specs.Prelude.{◌≡◌, ◌≤◌, ◌++◌, OnOk};
 ghost use Rattle.svg_text.specs.Shapes.{shapes_text};
 ghost use Rattle.history_picture.specs.Picture as spec;
+ghost use Rattle.history_picture.specs.Points as points;
 
-use crate::marks::centred_label;
-use crate::scale::{Scale, x_at};
-use crate::words::moment_of;
 use flaw_places::is_of_entry;
+use history_bars::marks::centred_label;
+use history_bars::scale::{Scale, x_at};
+use history_bars::words::moment_of;
 use history_words::{Flaw, Record};
 use std::alloc::AllocError;
 use svg_text::{Colour, Rule, put_label, put_lines};
@@ -57,6 +58,27 @@ pub(crate) fn flaw_of(finding: Option<Finding>) -> Option<Flaw>
     ensures { result ≡ spec.flaw_of finding }
 {
     Some(finding?.flaw)
+}
+
+/// Where a flaw is: at the point before the entry, or at the length that the history had at the record.
+fn point_of(records: &[Record], flaw: Flaw) -> u64
+    ensures { result ≡ points.point_of records.now flaw }
+{
+    if is_of_entry(flaw.kind) {
+        flaw.place as u64
+    } else {
+        moment_of(records.get(flaw.place)).unwrap_or(0)
+    }
+}
+
+/// The point of the first flaw, or else the first one.
+pub(crate) fn flaw_point(records: &[Record], flaw: Option<Flaw>) -> u64
+    ensures { result ≡ points.flaw_point records.now flaw }
+{
+    match flaw {
+        None => 0,
+        Some(flaw) => point_of(records, flaw),
+    }
 }
 
 /// Adds a red line at a place, and the name below it.

@@ -1,5 +1,5 @@
 //! What holds of all pictures.
-ghost use Rattle.history_picture.specs.Shown.{EachRequestHasItsBar, BarsGoFromSubmissionToAnswer, DotsStandAtEntries, BarsDoNotOverlap};
+ghost use Rattle.history_picture.specs.Shown.{EachRequestHasItsBar, BarsGoFromSubmissionToAnswer, DotsStandAtEntries, WholeHistoriesAreShown, FewPointsAreShown, FlawsAreShown};
 
 /// Each request has its bar: from when it was submitted to its answer, with a dot at its entry.
 pub fn requests_are_drawn()
@@ -8,7 +8,10 @@ pub fn requests_are_drawn()
     ensures dots { DotsStandAtEntries }
 {}
 
-/// Bars of one requester don't overlap, but in the last of 256 sub-rows.
-pub fn bars_do_not_overlap()
-    ensures { BarsDoNotOverlap }
+/// A short history is shown whole, and a longer one if that is chosen. Otherwise a few points are shown, the first flaw's
+/// among them.
+pub fn points_are_chosen()
+    ensures whole { WholeHistoriesAreShown }
+    ensures few { FewPointsAreShown }
+    ensures flaws { FlawsAreShown }
 {}

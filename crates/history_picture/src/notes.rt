@@ -3,10 +3,10 @@ ghost use Rattle.std.specs.Prelude.{◌≡◌, ◌++◌, option_map, OnOk};
 ghost use Rattle.svg_text.specs.Shapes.{shapes_text};
 ghost use Rattle.history_picture.specs.Notes as spec;
 
-use crate::bar_texts::shown;
 use crate::flaws::Finding;
-use crate::marks::{View, plain_label};
 use arrayvec::ArrayString;
+use history_bars::bar_texts::shown;
+use history_bars::marks::{View, plain_label};
 use history_words::{Flaw, FlawKind, Record};
 use operation_text::{write_decimal, write_reply};
 use seq_memory::Reply;
@@ -44,10 +44,10 @@ fn put_reply(reply: &Reply, out: &mut Vec<u8>) -> Result<(), AllocError>
 }
 
 /// Adds the reply that a record tells, if it tells one.
-fn put_told(record: Option<&Record>, out: &mut Vec<u8>) -> Result<(), AllocError>
-    ensures { OnOk result (out.new.items ≡ out.old.items ++ spec.told_by (option_map (λ r. r.now) record.entry)) }
+fn put_told(answer: Option<&Record>, out: &mut Vec<u8>) -> Result<(), AllocError>
+    ensures { OnOk result (out.new.items ≡ out.old.items ++ spec.told_by (option_map (λ r. r.now) answer.entry)) }
 {
-    match record {
+    match answer {
         Some(Record::Ans { reply, .. }) => put_reply(reply, out),
         _ => Ok(()),
     }
@@ -63,11 +63,11 @@ fn put_instead(other: &Reply, out: &mut Vec<u8>) -> Result<(), AllocError>
 }
 
 /// Adds the reply that a record tells, and which one is expected.
-fn put_replies(record: Option<&Record>, other: &Reply, out: &mut Vec<u8>) -> Result<(), AllocError>
-    ensures { OnOk result (out.new.items ≡ out.old.items ++ spec.replies (option_map (λ r. r.now) record.entry) other.now) }
+fn put_replies(answer: Option<&Record>, other: &Reply, out: &mut Vec<u8>) -> Result<(), AllocError>
+    ensures { OnOk result (out.new.items ≡ out.old.items ++ spec.replies (option_map (λ r. r.now) answer.entry) other.now) }
 {
     out.extend_from_slice(b": ")?;
-    put_told(record, out)?;
+    put_told(answer, out)?;
     put_instead(other, out)
 }
 

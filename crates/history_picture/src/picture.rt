@@ -1,17 +1,22 @@
 //! Whole pictures.
 ghost use Rattle.std.specs.Prelude.{◌≡◌, ◌≤◌, ◌+◌, ◌++◌, length, OnOk, OnErr, IfOk};
 ghost use Rattle.svg_text.specs.Shapes.{shapes_text};
+ghost use Rattle.history_bars.specs.Bars.{bottom_of};
+ghost use Rattle.history_bars.specs.Signs.{signs_of};
 ghost use Rattle.history_picture.specs.Picture as spec;
 
 use crate::entries::{put_entries, shown_entries};
-use crate::flaws::{Finding, flaw_of, put_mark};
-use crate::heading::{put_captions, put_kinds, put_signs, title_label};
-use crate::marks::View;
+use crate::flaws::{Finding, flaw_of, flaw_point, put_mark};
+use crate::heading::{put_captions, title_label};
+use crate::legend::put_legend;
 use crate::notes::put_note;
-use crate::requests::Drawing;
-use crate::rows::{Shown, put_rows};
-use crate::scale::{Window, scale_of, x_at};
+use crate::scale::{Window, is_cut, scale_of};
 use flaw_places::{expected_reply, flawed_request};
+use history_bars::marks::View;
+use history_bars::requests::Drawing;
+use history_bars::rows::{Shown, put_rows};
+use history_bars::scale::x_at;
+use history_bars::signs::Signs;
 use history_words::{Claim, Flaw, Record};
 use seq_memory::Entry;
 use std::alloc::{AllocError, Global};
@@ -34,13 +39,22 @@ struct Drawn<'a> {
     finding: Option<Finding>,
 }
 
-/// Adds the shapes below the heading, and gives where the rows end.
-fn put_body(alloc: Global, drawn: &Drawn<'_>, out: &mut Vec<u8>) -> Result<u64, AllocError>
+/// What is known of shapes: where the rows end, and what occurs.
+#[derive(Clone, Copy)]
+struct Extent {
+    bottom: u64,
+    signs: Signs,
+}
+
+/// Adds the shapes below the heading.
+fn put_body(alloc: Global, drawn: &Drawn<'_>, out: &mut Vec<u8>) -> Result<Extent, AllocError>
     requires { drawn.now.view.now.scale.from + drawn.now.view.now.scale.span ≤ length drawn.now.history.now }
     ensures shapes { OnOk result (out.new.items ≡ out.old.items ++
         shapes_text (spec.body drawn.now.view.now drawn.now.records.now drawn.now.history.now drawn.now.finding)) }
-    ensures bottom { IfOk result (λ bottom. bottom ≡ spec.bottom_of drawn.now.view.now drawn.now.records.now drawn.now.history.now) }
-    ensures range { IfOk result (λ bottom. bottom ≤ 100000) }
+    ensures bottom { IfOk result (λ e. e.bottom ≡ bottom_of drawn.now.view.now drawn.now.records.now drawn.now.history.now) }
+    ensures range { IfOk result (λ e. e.bottom ≤ 100000) }
+    ensures signs { IfOk result (λ e. e.signs
+        ≡ signs_of (spec.body drawn.now.view.now drawn.now.records.now drawn.now.history.now drawn.now.finding)) }
 {
     let (view, history) = (drawn.view, drawn.history);
     let shown = Shown {
@@ -51,11 +65,32 @@ fn put_body(alloc: Global, drawn: &Drawn<'_>, out: &mut Vec<u8>) -> Result<u64, 
     };
     let mut rows = Drawing::new(alloc);
     let bottom = put_rows(alloc, &shown, &mut rows)?;
-    put_entries(view, bottom, shown_entries(view.scale, history), out)?;
+    let signs = put_entries(view, bottom, shown_entries(view.scale, history), out)?;
     out.extend_from_slice(rows.out.as_slice())?;
     let flaw = flaw_of(drawn.finding);
     put_mark(view.scale, drawn.records, flaw, bottom, out)?;
-    Ok(bottom)
+    Ok(Extent {
+        bottom,
+        signs: signs.joined(rows.signs),
+    })
+}
+
+/// Adds what stands above the picture: of the legend what occurs.
+fn put_heading(
+    alloc: Global,
+    drawn: &Drawn<'_>,
+    signs: Signs,
+    out: &mut Vec<u8>,
+) -> Result<(), AllocError>
+    requires { drawn.now.view.now.scale.from + drawn.now.view.now.scale.span ≤ length drawn.now.history.now }
+    ensures { OnOk result (out.new.items ≡ out.old.items ++
+        shapes_text (spec.heading drawn.now.view.now drawn.now.records.now drawn.now.history.now drawn.now.finding signs)) }
+{
+    let count = drawn.history.len() as u64;
+    put_captions(drawn.view, count, drawn.finding, out)?;
+    put_note(alloc, drawn.view, drawn.records, drawn.finding, out)?;
+    put_legend(signs, out)?;
+    Ok(())
 }
 
 /// Adds all shapes, and gives where the rows end.
@@ -63,19 +98,13 @@ fn put_drawn(alloc: Global, drawn: &Drawn<'_>, out: &mut Vec<u8>) -> Result<u64,
     requires { drawn.now.view.now.scale.from + drawn.now.view.now.scale.span ≤ length drawn.now.history.now }
     ensures shapes { OnOk result (out.new.items ≡ out.old.items ++
         shapes_text (spec.drawn drawn.now.view.now drawn.now.records.now drawn.now.history.now drawn.now.finding)) }
-    ensures bottom { IfOk result (λ bottom. bottom ≡ spec.bottom_of drawn.now.view.now drawn.now.records.now drawn.now.history.now) }
+    ensures bottom { IfOk result (λ bottom. bottom ≡ bottom_of drawn.now.view.now drawn.now.records.now drawn.now.history.now) }
     ensures range { IfOk result (λ bottom. bottom ≤ 100000) }
 {
-    put_captions(
-        drawn.view.scale,
-        drawn.history.len() as u64,
-        drawn.finding,
-        out,
-    )?;
-    put_note(alloc, drawn.view, drawn.records, drawn.finding, out)?;
-    put_kinds(out)?;
-    put_signs(out)?;
-    let bottom = put_body(alloc, drawn, out)?;
+    let mut body = Vec::new(alloc);
+    let Extent { bottom, signs } = put_body(alloc, drawn, &mut body)?;
+    put_heading(alloc, drawn, signs, out)?;
+    out.extend_from_slice(body.as_slice())?;
     Ok(bottom)
 }
 
@@ -105,16 +134,19 @@ fn view_of(
         Some(flaw) => expected_reply(alloc, claim, flaw)?,
         None => None,
     };
+    let trace = claim.trace;
+    let point = flaw_point(trace.records.as_slice(), flaw);
     Ok(View {
-        scale: scale_of(window, claim.history.len()),
+        scale: scale_of(window, point, claim.history.len()),
+        is_cut: is_cut(window, claim.history.len()),
         flawed: flawed_request(claim, flaw),
         expected,
     })
 }
 
 /// Adds the picture of a trace and its history in SVG, of which `finding` has the first flaw. The window says
-/// which points of the history are shown, 4,294,967,295 of them at most after the first. The rows
-/// are those of requesters 1 to 7. After an `Err`, which is out of memory, nothing is added.
+/// which points of the history are shown, 4,294,967,295 of them at most after the first, or 60 where nothing is chosen.
+/// The rows are those of requesters 1 to 7. After an `Err`, which is out of memory, nothing is added.
 pub fn put_picture(
     alloc: Global,
     claim: &Claim<'_>,

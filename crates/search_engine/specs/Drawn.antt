@@ -24,7 +24,7 @@ use Rattle.search_scene.specs.Scenes.{Shows}
 use Rattle.search_engine.specs.Bounded.{IsGivenUp}
 use Rattle.search_engine.specs.Flaws.{IsFlawIn}
 
--- all points of a history
+-- no points are chosen: of a long history 60 are shown after the first
 abbrev pub whole : Window
 whole = record { from = 0; to = 18446744073709551615 }
 

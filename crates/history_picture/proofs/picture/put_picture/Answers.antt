@@ -5,11 +5,12 @@ use Rattle.history_words.specs.declared.flaws.Flaw.{Flaw}
 use Rattle.history_words.specs.Claim.{Claim}
 use Rattle.history_words.specs.Records.{Record}
 use Rattle.history_words.specs.TraceView.{TraceView}
-use Rattle.history_picture.specs.declared.marks.View.{View}
-use Rattle.history_picture.specs.Picture.{flaw_of, view_of, view_text}
+use Rattle.history_bars.specs.declared.marks.View.{View}
+use Rattle.history_picture.specs.Picture.{flaw_of, view_of, view_text, picture_text}
 use Rattle.history_picture.proofs.picture.put_picture.Goals as goal
 
 pub returns-clause-ok : goal.returns-clause-ok
+unfolding picture_text
 returns-clause-ok c =
     let o = c.args.out.now.items in
     let x = c.args.claim.now in

@@ -1,0 +1,4 @@
+mod Lookups
+pub mod Steps
+pub mod Occurring
+mod Overlaps

@@ -1,5 +1,0 @@
-use Rattle.history_picture.proofs.Overlaps.{apart}
-use Rattle.history_picture.proofs.laws.bars_do_not_overlap.Goals as goal
-
-pub returns : goal.returns
-returns c = apart
