@@ -127,7 +127,9 @@ pub(crate) static DRAW: Help = Help {
 
 The input is one trace with its history, as 'check' reads it. The points of the history go
 from left to right. Each requester has a row and each request a bar from its submission to
-its answer; the first flaw is red. If the trace can't be read, the picture says why.",
+its answer; the first flaw is red. Of more than 60 points, 60 are drawn, up to 20 of them
+behind the first flaw, unless '--from' or '--to' chooses others. If the trace can't be
+read, the picture says why.",
     example: "Example:
   $ pciex generate --seed 7 --events 200 | pciex step --trace | pciex draw > history.svg",
 };
