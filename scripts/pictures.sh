@@ -71,6 +71,46 @@ makes "what search finds of trace.txt" 0 search --draw
 }
 sed 's/^ans 1 0 2 data 01020304/ans 1 0 2 data 00000000/' examples/trace.txt > "$room/input"
 draws "a trace with a wrong reply" 1
+# Of a picture the legend has what occurs: its texts stand at 64 pixels.
+legend_is() {
+    legend=$(grep -o ' y="64" [^>]*>[^<]*<' "$room/picture" | sed 's/^[^>]*>//; s/<$/;/' | tr '\n' ' ')
+    [ "$legend" = "$1" ] || {
+        echo "pictures: the legend is '$legend', and not '$1'"
+        failed=1
+    }
+}
+cp examples/overlaps.txt "$room/input"
+draws "overlaps.txt with all signs" 0
+legend_is "read; write; add; swap; cas; acted; posted, or no answer; "
+draws "points 4 to 5 of overlaps.txt" 0 --from 4 --to 5
+legend_is "read; write; swap; cas; acted; posted, or no answer; "
+printf 'pciex-trace 2\nmemory 0 4096 64\nsub 1 0 0 swap 40 01000000\nhistory\nend\n' > "$room/input"
+draws "a swap that hasn't acted" 0
+legend_is "swap; posted, or no answer; "
+printf 'pciex-trace 2\nmemory 0 4096 64\nhistory\nend\n' > "$room/input"
+draws "an empty history" 0
+legend_is ""
+# Of a long history 60 points are drawn, 20 of them behind the flaw, if there is one.
+window_is() {
+    grep -q ">points $1 of 149; --from and --to choose others</text>" "$room/picture" || {
+        echo "pictures: of a long history other points are drawn than $1"
+        failed=1
+    }
+}
+"$pciex" generate --seed 7 --events 3000 | "$pciex" step --trace > "$room/input"
+draws "a long history" 0
+window_is "0 to 60"
+sed 's/^ans 3 33 101 data 464411CB27C5DD43/ans 3 33 101 data F64411CB27C5DD43/' "$room/input" > "$room/flawed"
+mv "$room/flawed" "$room/input"
+draws "a long history with a wrong reply" 1
+window_is "61 to 121"
+{
+    printf 'pciex-log 1\nmemory 0 4096 64\n'
+    seq 0 148 | sed 's/.*/sub 1 & read 40 1 F 0\nans 1 & data 00000000/'
+    echo end
+} > "$room/input"
+makes "a long history that search finds" 0 search --draw
+window_is "0 to 60"
 for text in "" "<&>\"" "pciex-trace 2"; do
     echo "$text" > "$room/input"
     draws "the text '$text'" 1
