@@ -10,6 +10,7 @@ use Rattle.search_places.specs.declared.steps.Done.{Done}
 use Rattle.search_run.specs.StackView.{FrameView, StackView}
 use Rattle.search_places.specs.Undo.{MayCome, CameBy, LeadsBy}
 use Rattle.search_run.specs.Outcomes.{IsRun}
+use Rattle.search_run.specs.Watched.{IsReached}
 use Rattle.search_run.specs.declared.walk.Walk.{Walk}
 use Rattle.search_run.specs.Frames.{Path, PathFrom, Here, Back, LeadsNowhere, IsOpen, AreLost}
 use Rattle.search_run.specs.Stacked.{steps_of, Forgets, Reopens}
@@ -195,6 +196,10 @@ module _ (log : LogView) where
       → xs ≡ steps_of fs ++ steps_by ds → IsRun log xs
   found fs ds t xs h over e =
       record { last = t; leads = subst (λ ys. Leads log (start log) ys t) (sym e) (whole (Dead log (start log)) (start log) fs ds t h); over = over }
+
+  -- the search stands at a state that is reached
+  pub reached : (fs : List FrameView) (ds : List Done) (t : State) → PathFrom log fs (Here log ds t) → (t.event ≡ length log.events → ⊥) → IsReached log t
+  reached fs ds t h more = record { steps = steps_of fs ++ steps_by ds; leads = whole (Dead log (start log)) (start log) fs ds t h; more = more }
 
 -- ---- steps that are lost
 

@@ -7,8 +7,8 @@ use Rattle.search_run.specs.declared.exploring.End.TheVariants as ends
 use Rattle.search_run.specs.declared.walk.Walk.{Walk}
 use Rattle.search_run.specs.Frames.{IsAt}
 
--- a walk that led to the end stands there, and where none does there is none
+-- a walk that led to the end stands there, one that was given up stands before it, and where none leads there is none
 abbrev pub Ends : LogView → Walk → End → Type 0
 Ends log w ends.Run = IsAt log w × (w.here.state.event ≡ length log.events)
 Ends log w ends.Dead = Dead log (start log)
-Ends log w (ends.Limit bound) = Unit {0}
+Ends log w (ends.Limit bound) = IsAt log w × (w.here.state.event ≡ length log.events → ⊥)

@@ -1,5 +1,5 @@
 //! Whether a run leads through a log to its end.
-ghost use Rattle.std.specs.Prelude.{◌≡◌, ◌<◌, ◌≤◌, ◌↔◌, IfOk, OnOk, IsTrue, length};
+ghost use Rattle.std.specs.Prelude.{◌≡◌, ◌<◌, ◌≤◌, ◌↔◌, ◌-◌, ◌*◌, IfOk, OnOk, IsTrue, length};
 ghost use Rattle.log_runs.specs.LogView.{LogView};
 ghost use Rattle.search_forced.specs.Catalogs.{IsCatalog};
 ghost use Rattle.search_run.specs.Frames.{IsAt};
@@ -76,6 +76,7 @@ fn finishes(
     requires catalog { IsCatalog log.now catalog.now }
     ensures at { OnOk result (IsAt log.now walk.new) }
     ensures over { IfOk result (λ over. IsTrue over ↔ walk.new.here.state.event ≡ length log.now.events) }
+    ensures work { OnOk result (walk.new.work ≤ walk.old.work) }
 {
     settle(walk, alloc, log, catalog)?;
     Ok(walk.here.event() == log.len())
@@ -113,6 +114,8 @@ fn choose<W: Watch>(
     ensures limit { IfOk result (λ r. r.0 ≡ End.Limit Bound.Choices → r.1 ≡ course.entry.bounds.choices) }
     ensures work { IfOk result (λ r. r.0 ≡ End.Limit Bound.Work → course.entry.bounds.work < 18446744073709551615) }
     ensures less { IfOk result (λ r. r.0 ≡ End.Limit Bound.Work → r.1 < course.entry.bounds.choices) }
+    ensures spent { IfOk result (λ r. r.0 ≡ End.Limit Bound.Work → walk.new.work ≡ 0) }
+    ensures cost { IfOk result (λ r. walk.new.work ≤ walk.old.work - 256 * r.1) }
     ensures saw { IfOk result (λ r. Saw W.sees r.1 watch.old watch.new) }
 {
     let Course {
@@ -161,6 +164,8 @@ fn ended<W: Watch>(
     ensures limit { IfOk result (λ r. r.0 ≡ End.Limit Bound.Choices → r.1 ≡ quest.entry.bounds.choices) }
     ensures work { IfOk result (λ r. r.0 ≡ End.Limit Bound.Work → quest.entry.bounds.work < 18446744073709551615) }
     ensures less { IfOk result (λ r. r.0 ≡ End.Limit Bound.Work → r.1 < quest.entry.bounds.choices) }
+    ensures spent { IfOk result (λ r. r.0 ≡ End.Limit Bound.Work → walk.new.work ≡ 0) }
+    ensures cost { IfOk result (λ r. walk.new.work ≤ walk.old.work - 256 * r.1) }
     ensures saw { IfOk result (λ r. Saw W.sees r.1 watch.old watch.new) }
 {
     let Quest { log, way, bounds } = quest;
@@ -195,7 +200,8 @@ fn outcome_of(alloc: Global, walk: &Walk, end: End) -> Result<Outcome, AllocErro
 }
 
 /// Looks for steps that lead from the start of the log to its end, within the bounds. `watch` sees each choice that is
-/// looked at.
+/// looked at. Each costs 256 of the work, and more. A bound ends the search at a state to which steps lead from the start,
+/// before the end; where the work ended it, none is left.
 pub fn explore_watched<W: Watch>(
     alloc: Global,
     log: &Log,
@@ -208,6 +214,8 @@ pub fn explore_watched<W: Watch>(
     ensures limit { IfOk result (λ r. r.outcome ≡ Outcome.Limit Bound.Choices → r.states ≡ bounds.choices) }
     ensures work { IfOk result (λ r. r.outcome ≡ Outcome.Limit Bound.Work → bounds.work < 18446744073709551615) }
     ensures less { IfOk result (λ r. r.outcome ≡ Outcome.Limit Bound.Work → r.states < bounds.choices) }
+    ensures spent { IfOk result (λ r. r.outcome ≡ Outcome.Limit Bound.Work → r.work ≡ 0) }
+    ensures cost { IfOk result (λ r. r.work ≤ bounds.work - 256 * r.states) }
     ensures saw { IfOk result (λ r. Saw W.sees r.states watch.old watch.new) }
 {
     let mut walk = begin(alloc, log, bounds.work)?;
@@ -233,6 +241,8 @@ pub fn explore(
     ensures limit { IfOk result (λ r. r.outcome ≡ Outcome.Limit Bound.Choices → r.states ≡ bounds.choices) }
     ensures work { IfOk result (λ r. r.outcome ≡ Outcome.Limit Bound.Work → bounds.work < 18446744073709551615) }
     ensures less { IfOk result (λ r. r.outcome ≡ Outcome.Limit Bound.Work → r.states < bounds.choices) }
+    ensures spent { IfOk result (λ r. r.outcome ≡ Outcome.Limit Bound.Work → r.work ≡ 0) }
+    ensures cost { IfOk result (λ r. r.work ≤ bounds.work - 256 * r.states) }
 {
     explore_watched(alloc, log, way, bounds, &mut Unwatched)
 }

@@ -1,5 +1,5 @@
 //! The frames of the search, and what is tried there.
-ghost use Rattle.std.specs.Prelude.{◌≡◌, ◌∷◌, [], false, length, IsTrue, IfOk, OnOk, IfSome};
+ghost use Rattle.std.specs.Prelude.{◌≡◌, ◌≤◌, ◌-◌, ◌∷◌, [], false, length, IsTrue, IfOk, OnOk, IfSome};
 ghost use Rattle.std.specs.List.{All, Contains};
 ghost use Rattle.log_runs.specs.LogView.{LogView};
 ghost use Rattle.log_runs.specs.Runs.{State, Allowed, Dead, next, start};
@@ -42,7 +42,8 @@ pub(crate) struct Walk {
 }
 
 pub(crate) fn begin(alloc: Global, log: &Log, work: u64) -> Result<Walk, AllocError>
-    ensures { IfOk result (frames.IsAt log.now) }
+    ensures at { IfOk result (frames.IsAt log.now) }
+    ensures work { IfOk result (λ w. w.work ≡ work) }
 {
     Ok(Walk {
         stack: Stack::new(alloc),
@@ -64,7 +65,8 @@ pub(crate) fn settle(
 ) -> Result<(), AllocError>
     requires at { frames.IsAt log.now walk.old }
     requires catalog { IsCatalog log.now catalog.now }
-    ensures { OnOk result (frames.IsAt log.now walk.new) }
+    ensures at { OnOk result (frames.IsAt log.now walk.new) }
+    ensures work { OnOk result (walk.new.work ≤ walk.old.work) }
 {
     let mut look = walk.look;
     for _step in 0..u64::MAX {
@@ -86,7 +88,8 @@ pub(crate) fn settle(
 
 /// The place becomes a frame.
 fn keep(walk: &mut Walk) -> Result<(), AllocError>
-    ensures { OnOk result ((log : LogView) → frames.IsAt log walk.old → (walk.old.here.state.event ≡ length log.events → ⊥) → frames.IsReady log walk.new) }
+    ensures ready { OnOk result ((log : LogView) → frames.IsAt log walk.old → (walk.old.here.state.event ≡ length log.events → ⊥) → frames.IsReady log walk.new) }
+    ensures work { OnOk result (walk.new.work ≡ walk.old.work) }
 {
     walk.stack.close()?;
     Ok(())
@@ -98,6 +101,7 @@ fn rewind(walk: &mut Walk, log: &Log) -> Result<(), AllocError>
     ensures ready { OnOk result (frames.IsReady log.now walk.new) }
     ensures frames { OnOk result (walk.new.stack.frames ≡ walk.old.stack.frames) }
     ensures state { OnOk result ((s : State) → LeadsBy log.now s walk.old.stack.done walk.old.here.state → s ≡ walk.new.here.state) }
+    ensures work { OnOk result (walk.new.work ≡ walk.old.work) }
 {
     while let Some(done) = walk.stack.pop() {
         walk.here.take_back(log, &done)?;
@@ -113,6 +117,7 @@ fn go_on(walk: &mut Walk, log: &Log, catalog: &Catalog, step: Step) -> Result<()
     ensures frames { OnOk result (walk.new.stack.frames ≡ walk.old.stack.frames) }
     ensures led { OnOk result (LeadsBy log.now walk.old.here.state walk.new.stack.done walk.new.here.state) }
     ensures next { OnOk result (next log.now walk.old.here.state step ≡ walk.new.here.state) }
+    ensures work { OnOk result (walk.new.work ≡ walk.old.work) }
 {
     let done = walk.here.take(log, step)?;
     walk.look = Look::none().after(log, catalog, &walk.here, step);
@@ -142,6 +147,7 @@ fn try_step(walk: &mut Walk, log: &Log, catalog: &Catalog, step: Step) -> Result
     requires catalog { IsCatalog log.now catalog.now }
     ensures at { IfOk result (λ more. IsTrue more → frames.IsAt log.now walk.new) }
     ensures lost { IfOk result (λ more. more ≡ false → frames.AreLost log.now walk.old walk.new (step ∷ [])) }
+    ensures work { OnOk result (walk.new.work ≡ walk.old.work) }
 {
     walk.stack.note(step)?;
     go_on(walk, log, catalog, step)?;
@@ -192,7 +198,8 @@ fn is_full(walk: &Walk) -> bool {
 
 /// Forgets the step that was noted last, if many are.
 fn spare(walk: &mut Walk)
-    ensures { (log : LogView) → frames.IsOpen log walk.old → frames.AreLost log walk.old walk.new [] }
+    ensures lost { (log : LogView) → frames.IsOpen log walk.old → frames.AreLost log walk.old walk.new [] }
+    ensures work { walk.new.work ≡ walk.old.work }
 {
     if !is_full(walk) {
         return;
@@ -213,6 +220,7 @@ fn try_next(
     requires catalog { IsCatalog log.now catalog.now }
     ensures at { IfOk result (λ more. IsTrue more → frames.IsAt log.now walk.new) }
     ensures lost { IfOk result (λ more. more ≡ false → frames.AreLost log.now walk.old walk.new (step ∷ [])) }
+    ensures work { OnOk result (walk.new.work ≡ walk.old.work) }
 {
     if was_tried(walk, from, step) {
         return Ok(false);
@@ -236,6 +244,7 @@ fn try_each(
     requires catalog { IsCatalog log.now catalog.now }
     ensures at { IfOk result (λ more. IsTrue more → frames.IsAt log.now walk.new) }
     ensures lost { IfOk result (λ more. more ≡ false → frames.AreLost log.now walk.old walk.new steps.now) }
+    ensures work { OnOk result (walk.new.work ≡ walk.old.work) }
 {
     let mut from = 0usize;
     for step in steps {
@@ -258,6 +267,7 @@ fn try_here(
     requires catalog { IsCatalog log.now catalog.now }
     ensures at { IfOk result (λ more. IsTrue more → frames.IsAt log.now walk.new) }
     ensures spent { IfOk result (λ more. more ≡ false → frames.IsSpent log.now walk.old walk.new) }
+    ensures work { OnOk result (walk.new.work ≡ walk.old.work) }
 {
     let steps = choices(alloc, log, catalog.others(), catalog.hints(), &walk.here)?;
     let goes_on = try_each(walk, log, catalog, steps.as_slice())?;
@@ -270,6 +280,7 @@ fn back(walk: &mut Walk, alloc: Global, log: &Log, catalog: &Catalog) -> Result<
     requires catalog { IsCatalog log.now catalog.now }
     ensures at { IfOk result (λ more. IsTrue more → frames.IsAt log.now walk.new) }
     ensures none { IfOk result (λ more. more ≡ false → Dead log.now (start log.now)) }
+    ensures work { OnOk result (walk.new.work ≡ walk.old.work) }
 {
     loop {
         if walk.stack.is_empty() {
@@ -314,6 +325,7 @@ pub(crate) fn advance(
     requires more { walk.old.here.state.event ≡ length log.now.events → ⊥ }
     ensures at { IfOk result (λ more. IsTrue more → frames.IsAt log.now walk.new) }
     ensures none { IfOk result (λ more. more ≡ false → Dead log.now (start log.now)) }
+    ensures work { OnOk result (walk.new.work ≤ walk.old.work - 256) }
 {
     walk.work = walk.work.saturating_sub(CHOICE);
     if let Some(at) = dead_at(walk, alloc, log, catalog) {

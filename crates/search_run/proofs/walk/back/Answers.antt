@@ -6,11 +6,11 @@ use Rattle.search_run.proofs.walk.back.Goals as goal
 pub returns-then-is_empty-clause-none : goal.returns-then-is_empty-clause-none
 returns-then-is_empty-clause-none c = λ so.
     let walk = c.loop-alloc.walk in
-    none_left c.args.log.now walk.stack.frames walk.here.state c.loop-alloc.invariant.path (c.is_empty.ensures.0 c.if-is_empty.true)
+    none_left c.args.log.now walk.stack.frames walk.here.state c.loop-alloc.invariant.0.path (c.is_empty.ensures.0 c.if-is_empty.true)
 
 pub try_here-requires-clause-at : goal.try_here-requires-clause-at
 try_here-requires-clause-at c = record {
-  ready = c.loop-alloc.invariant;
+  ready = c.loop-alloc.invariant.0;
   some = λ none. false≢true (sym c.if-is_empty.false ∙ c.is_empty.ensures.1 none);
 }
 

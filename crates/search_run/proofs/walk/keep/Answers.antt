@@ -5,8 +5,8 @@ use Rattle.search_run.specs.Frames.{PathFrom}
 use Rattle.search_run.proofs.FrameLemmas.{kept}
 use Rattle.search_run.proofs.walk.keep.Goals as goal
 
-pub returns : goal.returns
-returns c = λ log at more.
+pub returns-clause-ready : goal.returns-clause-ready
+returns-clause-ready c = λ log at more.
     let walk = c.args.walk.now in
     record {
       path = subst (λ (s : StackView). PathFrom log s.frames (λ (m : State) (P : Type 0). (m ≡ walk.here.state) × P)) (sym c.in_ok-close.ensures)

@@ -34,6 +34,7 @@ loop-done-preserved c =
       led = λ s leads.
           led_back log s walk.here.state c.take_back.new.self.state stack.done c.in-Some.done
           (subst (λ (ds : List Done). LeadsBy log s ds walk.here.state) c.in-Some.ensures.done (c.loop-done.invariant.led s leads)) c.in_ok-take_back.ensures.state;
+      work = c.loop-done.invariant.work;
     }
 
 pub returns-clause-ready : goal.returns-clause-ready

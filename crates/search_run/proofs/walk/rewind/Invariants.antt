@@ -9,6 +9,7 @@ invariant-loop-done l = record {
   back : IsBack l.log l.walk;
   same : l.walk.stack.frames ≡ l.fn.walk.stack.frames;
   led : (s : State) → LeadsBy l.log s l.fn.walk.stack.done l.fn.walk.here.state → LeadsBy l.log s l.walk.stack.done l.walk.here.state;
+  work : l.walk.work ≡ l.fn.walk.work;
 }
 
 abbrev pub decreases-loop-done : goal.decreases-loop-done

@@ -11,6 +11,8 @@ loop-step-preserved c =
     let log = c.args.log.now in
     let xs = c.args.steps.now in
     let i = c.loop-step.step-index in
-    let grown : take (i + 1) xs ≡ take i xs ++ get_or xs i Pass ∷ [] = ap (λ k. take k xs) (add-one i) ∙ take-suc xs i Pass c.loop-step-test.true in
-    subst (AreLost log c.args.walk.now c.try_next.new.walk) (sym grown)
-    (lost_more log c.args.walk.now c.loop-step.walk (take i xs) c.loop-step.invariant c.try_next.new.walk (get_or xs i Pass ∷ []) (c.in_ok-try_next.ensures.lost c.if-branch.false))
+    let grown : take (i + 1) xs ≡ take i xs ++ get_or xs i Pass ∷ [] = ap (λ k. take k xs) (add-one i) ∙ take-suc xs i Pass c.loop-step-test.true in (
+      subst (AreLost log c.args.walk.now c.try_next.new.walk) (sym grown)
+          (lost_more log c.args.walk.now c.loop-step.walk (take i xs) c.loop-step.invariant.0 c.try_next.new.walk (get_or xs i Pass ∷ []) (c.in_ok-try_next.ensures.lost c.if-branch.false)),
+      c.in_ok-try_next.ensures.work ∙ c.loop-step.invariant.1,
+    )

@@ -12,4 +12,4 @@ pub returns-clause-lost : goal.returns-clause-lost
 returns-clause-lost c = λ so.
     let log = c.args.log.now in
     let lost = c.in_ok-try_step.ensures.lost c.if-branch.false in
-    lost_more log c.args.walk.now c.try_step.new.walk (c.args.step ∷ []) lost c.spare.new.walk [] (c.spare.ensures log lost.at)
+    lost_more log c.args.walk.now c.try_step.new.walk (c.args.step ∷ []) lost c.spare.new.walk [] (c.spare.ensures.lost log lost.at)
