@@ -26,6 +26,7 @@ use Rattle.log_runs.specs.declared.Step.{Step}
 use Rattle.log_runs.specs.declared.Step.TheVariants as steps
 use Rattle.log_events.specs.Formed.{AreFormed}
 use Rattle.search_run.specs.Outcomes.{IsRun, IsRight}
+use Rattle.search_run.specs.Watched.{Stands}
 use Rattle.search_run.specs.declared.exploring.Outcome.{Outcome}
 use Rattle.search_run.specs.declared.exploring.Outcome.TheVariants as outcomes
 use Rattle.trace_store.specs.Changes.{seen_by, submitted, with_n}
@@ -50,7 +51,8 @@ is_run t count log xs all extent run formed =
 pub outcome_of : (t : TraceView) (count : ℕ) (log : LogView) (o : Outcome) → AreAllEvents (take count t.records) log.events → log.extent ≡ observed t → IsRight log o → IsWellFormed (take count t.records) → IsOutcomeOf (prefix count t) o
 outcome_of t count log (outcomes.Run xs) all extent right formed = is_run t count log xs.items all extent right formed
 outcome_of t count log outcomes.Dead all extent right formed = tt
-outcome_of t count log (outcomes.Limit bound) all extent right formed = tt
+outcome_of t count log (outcomes.Limit bound) all extent right formed =
+    record { formed = formed; events = log.events; all = all; stands = subst (λ (x : Extent). Stands (of x log.events)) extent right }
 
 pub whole : (t : TraceView) (v : Verdict) → IsVerdictOf (prefix (length t.records) t) v → IsVerdictOf t v
 whole t v x = subst (λ (rs : List Record). IsVerdictOf (record { base = t.base; size = t.size; block = t.block; records = rs }) v) (take-length t.records) x

@@ -4,6 +4,7 @@ use Rattle.history_words.specs.Claim.{Claim}
 use Rattle.history_words.specs.Trace.{Explains}
 use Rattle.history_words.specs.Clocks.{IsClocked, KeepsRealTimeOrder}
 use Rattle.log_runs.specs.Explainable.{IsExplainable}
+use Rattle.search_history.specs.Looks.{IsStopped}
 use Rattle.search_history.specs.Prefixes.{IsUnexplained}
 use Rattle.search_history.specs.declared.searching.Sought.{Sought}
 use Rattle.search_history.specs.declared.searching.Sought.TheVariants as answers
@@ -25,3 +26,9 @@ abbrev pub IsNone : TraceView → Sought → Type 0
 IsNone t answers.Found = Unit {0}
 IsNone t (answers.None prefix) = (IsExplainable t → ⊥) × IsUnexplained t prefix
 IsNone t (answers.Limit bound) = Unit {0}
+
+-- where a bound ended the search, it stood before the end of the log
+abbrev pub Stops : TraceView → Sought → Type 0
+Stops t answers.Found = Unit {0}
+Stops t (answers.None prefix) = Unit {0}
+Stops t (answers.Limit bound) = IsStopped t

@@ -4,3 +4,4 @@ pub mod Contradictions
 pub mod Expected
 pub mod Runs
 pub mod Prepared
+pub mod Looks

@@ -7,6 +7,7 @@ use Rattle.log_runs.specs.Tasks.{AreAllEvents, IsWellFormed}
 use Rattle.search_run.specs.Outcomes.{IsRun}
 use Rattle.search_run.specs.declared.exploring.Outcome.{Outcome}
 use Rattle.search_run.specs.declared.exploring.Outcome.TheVariants as outcomes
+use Rattle.search_history.specs.Looks.{IsStopped}
 use Rattle.search_history.specs.declared.searching.Sought.{Sought}
 use Rattle.search_history.specs.declared.searching.Sought.TheVariants as answers
 use Rattle.search_history.specs.declared.searching.Verdict.{Verdict}
@@ -19,16 +20,16 @@ pub record IsRunOf (t : TraceView) (xs : List Step) : Type 0 where
   pub all : AreAllEvents t.records events
   pub run : IsRun (record { extent = observed t; events = events }) xs
 
--- a run that is told is one of the trace
+-- a run that is told is one of the trace, and a bound ends a search before the end
 abbrev pub IsOutcomeOf : TraceView → Outcome → Type 0
 IsOutcomeOf t (outcomes.Run xs) = IsRunOf t xs.items
 IsOutcomeOf t outcomes.Dead = Unit {0}
-IsOutcomeOf t (outcomes.Limit bound) = Unit {0}
+IsOutcomeOf t (outcomes.Limit bound) = IsStopped t
 
 abbrev pub IsVerdictOf : TraceView → Verdict → Type 0
 IsVerdictOf t (verdicts.Run xs) = IsRunOf t xs.items
 IsVerdictOf t (verdicts.None n) = Unit {0}
-IsVerdictOf t (verdicts.Limit bound) = Unit {0}
+IsVerdictOf t (verdicts.Limit bound) = IsStopped t
 
 -- a run is answered by a history, and nothing else is; what bound ended it is told
 abbrev pub IsAnswered : Verdict → Sought → Type 0

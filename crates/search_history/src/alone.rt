@@ -3,6 +3,7 @@ ghost use Rattle.std.specs.Prelude.{◌≡◌, ◌≤◌, IfOk, IsSome};
 ghost use Rattle.log_runs.specs.Runs.{Dead, start};
 ghost use Rattle.log_cells.specs.Places.{ArePlaces};
 ghost use Rattle.search_run.specs.Watched.{Saw, Spends};
+ghost use Rattle.search_history.specs.Looks.{IsOn, IsPartOf, IsUnder};
 
 use crate::within::{Within, explore_within};
 use log_cells::{Cells, part};
@@ -39,7 +40,7 @@ pub(crate) fn explored_on<W: Watch>(
     requires places { ArePlaces field.log.now.events field.cells.now.places }
     ensures dead { IfOk result (λ r. r.found.outcome ≡ Outcome.Dead → Dead field.entry.log.now (start field.entry.log.now)) }
     ensures states { IfOk result (λ r. r.found.states ≤ bounds.choices) }
-    ensures saw { IfOk result (λ r. Saw W.sees r.found.states watch.old watch.new) }
+    ensures saw { IfOk result (λ r. Saw W.sees (IsOn field.entry.log.now) r.found.states watch.old watch.new) }
 {
     let Field { log, cells } = field;
     let Some(part) = part(alloc, log, cells, range.0, range.1)? else {
@@ -59,8 +60,7 @@ pub(crate) fn explored_on<W: Watch>(
         names: &part.names,
         range: Some(range),
     };
-    let mut found = explore_within(alloc, &part.log, bounds, &mut within)?;
-    found.reach = part.names.get(found.reach).copied().unwrap_or(log.len());
+    let found = explore_within(alloc, log, &part.log, bounds, &mut within)?;
     Ok(Explored {
         found,
         names: part.names,
@@ -149,6 +149,8 @@ impl Ranges<'_> {
 /// Ranges of cells of a log that are looked at in it, or in a part of it.
 #[derive(Clone, Copy)]
 struct Task<'a> {
+    /// The log, of which the field's may be a part.
+    whole: &'a Log<'a>,
     field: Field<'a>,
     ranges: Ranges<'a>,
     /// If it is a part, the places in the log of its events.
@@ -167,8 +169,10 @@ impl<'a> Field<'a> {
     fn task(self, first: usize, end: usize) -> Task<'a>
         ensures log { result.field.log.now ≡ self.entry.log.now }
         ensures cells { result.field.cells.now ≡ self.entry.cells.now }
+        ensures whole { result.whole.now ≡ self.entry.log.now }
     {
         Task {
+            whole: self.log,
             field: self,
             ranges: Ranges {
                 cells: self.cells,
@@ -200,14 +204,16 @@ fn each_of<W: Watch>(
     watch: &mut W,
 ) -> Result<Tried, AllocError>
     requires places { ArePlaces task.field.log.now.events task.field.cells.now.places }
+    requires of { IsUnder task.whole.now task.field.log.now }
     ensures dead { IfOk result (λ r. IsSome r.dead → Dead task.entry.field.log.now (start task.entry.field.log.now)) }
     ensures states { IfOk result (λ r. r.left.choices ≤ bounds.choices) }
-    ensures saw { IfOk result (λ r. Spends W.sees bounds.choices r.left.choices watch.old watch.new) }
+    ensures saw { IfOk result (λ r. Spends W.sees (IsPartOf task.entry.whole.now) bounds.choices r.left.choices watch.old watch.new) }
 {
     let Task {
         field,
         ranges,
         places,
+        ..
     } = task;
     let mut left = bounds.choices;
     let mut work = bounds.work;
@@ -244,10 +250,11 @@ fn each_seen_within<W: Watch>(
     within: &mut Within<'_, '_, W>,
 ) -> Result<Tried, AllocError>
     requires places { ArePlaces task.field.log.now.events task.field.cells.now.places }
+    requires of { IsUnder task.whole.now task.field.log.now }
     ensures dead { IfOk result (λ r. IsSome r.dead → Dead task.entry.field.log.now (start task.entry.field.log.now)) }
     ensures states { IfOk result (λ r. r.left.choices ≤ bounds.choices) }
     ensures same { IfOk result (λ r. within.new.watch.ghost_name ≡ within.old.watch.ghost_name) }
-    ensures saw { IfOk result (λ r. Spends W.sees bounds.choices r.left.choices within.old.watch.now within.new.watch.now) }
+    ensures saw { IfOk result (λ r. Spends W.sees (IsPartOf task.entry.whole.now) bounds.choices r.left.choices within.old.watch.now within.new.watch.now) }
 {
     let tried = each_of(alloc, task, turns, bounds, within)?;
     Ok(tried)
@@ -264,7 +271,7 @@ fn each_within<W: Watch>(
     requires places { ArePlaces task.field.log.now.events task.field.cells.now.places }
     ensures dead { IfOk result (λ r. IsSome r.dead → Dead task.entry.field.log.now (start task.entry.field.log.now)) }
     ensures states { IfOk result (λ r. r.left.choices ≤ bounds.choices) }
-    ensures saw { IfOk result (λ r. Spends W.sees bounds.choices r.left.choices watch.old watch.new) }
+    ensures saw { IfOk result (λ r. Spends W.sees (IsPartOf task.entry.field.log.now) bounds.choices r.left.choices watch.old watch.new) }
 {
     let Field { log, cells } = task.field;
     let Some((low, high)) = task.ranges.whole() else {
@@ -275,6 +282,7 @@ fn each_within<W: Watch>(
     };
     let inner = Cells::of(alloc, &group.log)?;
     let within = Task {
+        whole: log,
         field: Field {
             log: &group.log,
             cells: &inner,
@@ -312,7 +320,7 @@ fn each_part<W: Watch>(
     requires places { ArePlaces field.log.now.events field.cells.now.places }
     ensures dead { IfOk result (λ r. IsSome r.dead → Dead field.entry.log.now (start field.entry.log.now)) }
     ensures states { IfOk result (λ r. r.left.choices ≤ bounds.choices) }
-    ensures saw { IfOk result (λ r. Spends W.sees bounds.choices r.left.choices watch.old watch.new) }
+    ensures saw { IfOk result (λ r. Spends W.sees (IsPartOf field.entry.log.now) bounds.choices r.left.choices watch.old watch.new) }
 {
     let count = field.cells.count();
     if count < MANY {
@@ -345,7 +353,7 @@ pub(crate) fn parts_of<W: Watch>(
 ) -> Result<Parts, AllocError>
     ensures dead { IfOk result (λ r. IsSome r.dead → Dead log.now (start log.now)) }
     ensures states { IfOk result (λ r. r.states ≤ bounds.choices) }
-    ensures saw { IfOk result (λ r. Saw W.sees r.states watch.old watch.new) }
+    ensures saw { IfOk result (λ r. Saw W.sees (IsPartOf log.now) r.states watch.old watch.new) }
 {
     let cells = Cells::of(alloc, log)?;
     if cells.count() <= 1 {

@@ -8,6 +8,7 @@ ghost use Rattle.search_history.specs.Prepared.{IsLogOf};
 ghost use Rattle.search_history.specs.Runs.{IsOutcomeOf};
 ghost use Rattle.search_run.specs.Outcomes.{IsRight};
 ghost use Rattle.search_run.specs.Watched.{Saw};
+ghost use Rattle.search_history.specs.Looks.{IsPartOf};
 
 use crate::alone::{Field, explored_on, parts_of};
 use log_cells::Cells;
@@ -70,6 +71,8 @@ pub(crate) struct Judgment {
     pub(crate) outcome: Outcome,
     /// How many choices were looked at.
     pub(crate) states: u64,
+    /// How much work is left.
+    pub(crate) work: u64,
     /// By what it was seen that there is no run, if there is none.
     pub(crate) clue: Clue,
 }
@@ -83,14 +86,15 @@ pub(crate) struct Clue {
     pub(crate) reach: usize,
 }
 
-/// There is no run, as was seen by the answer at that place, or on cells, at so many choices.
-fn dead(states: u64, range: Option<(u64, u64)>, reach: usize) -> Judgment
+/// There is no run, as was seen by the answer at that place, or on cells, at so many choices; so much work is left.
+fn dead(states: u64, work: u64, range: Option<(u64, u64)>, reach: usize) -> Judgment
     ensures outcome { result.outcome ≡ Outcome.Dead }
     ensures states { result.states ≡ states }
 {
     Judgment {
         outcome: Outcome::Dead,
         states,
+        work,
         clue: Clue { range, reach },
     }
 }
@@ -119,19 +123,21 @@ fn explored_parts<W: Watch>(
     ensures limit { IfOk result (λ r. r.outcome ≡ Outcome.Limit Bound.Choices → r.states ≡ bounds.choices) }
     ensures work { IfOk result (λ r. r.outcome ≡ Outcome.Limit Bound.Work → bounds.work < 18446744073709551615) }
     ensures less { IfOk result (λ r. r.outcome ≡ Outcome.Limit Bound.Work → r.states < bounds.choices) }
-    ensures saw { IfOk result (λ r. Saw W.sees r.states watch.old watch.new) }
+    ensures spent { IfOk result (λ r. r.outcome ≡ Outcome.Limit Bound.Work → r.work ≡ 0) }
+    ensures saw { IfOk result (λ r. Saw W.sees (IsPartOf log.now) r.states watch.old watch.new) }
 {
     let few = Bounds {
         choices: bounds.choices / 10,
         work: bounds.work / 2,
     };
     let parts = parts_of(alloc, log, few, watch)?;
+    let work = work_for_all(bounds.work, few.work, parts.work);
     if let Some(by) = parts.dead {
-        return Ok(dead(parts.states, Some(by.range), by.reach));
+        return Ok(dead(parts.states, work, Some(by.range), by.reach));
     }
     let rest = Bounds {
         choices: bounds.choices - parts.states,
-        work: work_for_all(bounds.work, few.work, parts.work),
+        work,
     };
     let found = explore_watched(alloc, log, Way::Whole(&parts.turns), rest, watch)?;
     let clue = Clue {
@@ -141,6 +147,7 @@ fn explored_parts<W: Watch>(
     Ok(Judgment {
         outcome: found.outcome,
         states: parts.states + found.states,
+        work: found.work,
         clue,
     })
 }
@@ -168,10 +175,11 @@ fn explored<W: Watch>(
     ensures limit { IfOk result (λ r. r.outcome ≡ Outcome.Limit Bound.Choices → r.states ≡ bounds.choices) }
     ensures work { IfOk result (λ r. r.outcome ≡ Outcome.Limit Bound.Work → bounds.work < 18446744073709551615) }
     ensures less { IfOk result (λ r. r.outcome ≡ Outcome.Limit Bound.Work → r.states < bounds.choices) }
-    ensures saw { IfOk result (λ r. Saw W.sees r.states watch.old watch.new) }
+    ensures spent { IfOk result (λ r. r.outcome ≡ Outcome.Limit Bound.Work → r.work ≡ 0) }
+    ensures saw { IfOk result (λ r. Saw W.sees (IsPartOf log.now) r.states watch.old watch.new) }
 {
     match refuted_at(alloc, log)? {
-        Some(at) => Ok(dead(0, None, at)),
+        Some(at) => Ok(dead(0, bounds.work, None, at)),
         None => explored_parts(alloc, log, bounds, watch),
     }
 }
@@ -193,7 +201,8 @@ pub(crate) fn judged<W: Watch>(
     ensures limit { IfOk result (λ r. r.outcome ≡ Outcome.Limit Bound.Choices → r.states ≡ bounds.choices) }
     ensures work { IfOk result (λ r. r.outcome ≡ Outcome.Limit Bound.Work → bounds.work < 18446744073709551615) }
     ensures less { IfOk result (λ r. r.outcome ≡ Outcome.Limit Bound.Work → r.states < bounds.choices) }
-    ensures saw { IfOk result (λ r. Saw W.sees r.states watch.old watch.new) }
+    ensures spent { IfOk result (λ r. r.outcome ≡ Outcome.Limit Bound.Work → r.work ≡ 0) }
+    ensures saw { IfOk result (λ r. Saw W.sees (IsPartOf log.entry) r.states watch.old watch.new) }
 {
     explainable_has_a_run();
     let found = explored(alloc, &log, bounds, watch)?;

@@ -5,7 +5,8 @@ ghost use Rattle.log_runs.specs.Explainable.{SeenAlike, prefix};
 ghost use Rattle.log_runs.specs.Tasks.{AreAllEvents, IsWellFormed};
 ghost use Rattle.search_history.specs.Prepared.{IsLogOf, IsWholeLog};
 ghost use Rattle.search_history.specs.Prefixes.{IsUnexplained};
-ghost use Rattle.search_history.specs.Answers.{IsFound, IsNone};
+ghost use Rattle.search_history.specs.Answers.{IsFound, IsNone, Stops};
+ghost use Rattle.search_history.specs.Looks.{IsPartOf, SawOf};
 ghost use Rattle.search_history.specs.Runs.{IsAnswered, IsVerdictOf};
 ghost use Rattle.search_run.specs.Watched.{Saw};
 ghost use Rattle.trace_store.specs.Changes.{seen_by};
@@ -62,7 +63,7 @@ fn well_formed<W: Watch>(
     log: Log<'_>,
     bounds: Bounds,
     watch: &mut W,
-) -> Result<(Verdict, u64), AllocError>
+) -> Result<(Verdict, u64, u64), AllocError>
     requires log { IsLogOf records.seen.now records.count log }
     requires within { records.count ≤ length records.seen.now.records }
     ensures run { IfOk result (λ r. AreAllEvents (take records.entry.count records.entry.seen.now.records) log.entry.events →
@@ -72,16 +73,17 @@ fn well_formed<W: Watch>(
     ensures work { IfOk result (λ r. r.0 ≡ Verdict.Limit Bound.Work → bounds.work < 18446744073709551615) }
     ensures less { IfOk result (λ r. r.0 ≡ Verdict.Limit Bound.Work → r.1 < bounds.choices) }
     ensures states { IfOk result (λ r. r.1 ≤ bounds.choices) }
-    ensures saw { IfOk result (λ r. Saw W.sees r.1 watch.old watch.new) }
+    ensures spent { IfOk result (λ r. r.0 ≡ Verdict.Limit Bound.Work → r.2 ≡ 0) }
+    ensures saw { IfOk result (λ r. Saw W.sees (IsPartOf log.entry) r.1 watch.old watch.new) }
 {
     let Judgment {
         outcome,
         states,
+        work,
         clue,
-        ..
     } = judged(alloc, records, log, bounds, watch)?;
     match outcome {
-        Outcome::Run(steps) => Ok((Verdict::Run(steps), states)),
+        Outcome::Run(steps) => Ok((Verdict::Run(steps), states, work)),
         Outcome::Dead => {
             let First { seen, count } = records;
             let form = form_of(alloc, &seen.records().first(count))?;
@@ -91,9 +93,9 @@ fn well_formed<W: Watch>(
                 count,
             };
             let prefix = shortened(alloc, records, clue, bounds.choices)?;
-            Ok((Verdict::None(prefix), states))
+            Ok((Verdict::None(prefix), states, work))
         }
-        Outcome::Limit(bound) => Ok((Verdict::Limit(bound), states)),
+        Outcome::Limit(bound) => Ok((Verdict::Limit(bound), states, work)),
     }
 }
 
@@ -105,20 +107,20 @@ fn misformed<W: Watch>(
     log: Log<'_>,
     bounds: Bounds,
     watch: &mut W,
-) -> Result<(Verdict, u64), AllocError>
+) -> Result<(Verdict, u64, u64), AllocError>
     requires log { IsLogOf records.seen.now records.count log }
     requires misformed { MisformedAt records.seen.now.records records.count }
     ensures none { IfOk result (λ r. (n : ℕ) × (r.0 ≡ Verdict.None n) × IsUnexplained records.entry.seen.now n) }
     ensures states { IfOk result (λ r. r.1 ≤ bounds.choices) }
-    ensures saw { IfOk result (λ r. Saw W.sees r.1 watch.old watch.new) }
+    ensures saw { IfOk result (λ r. Saw W.sees (IsPartOf log.entry) r.1 watch.old watch.new) }
 {
     explainable_is_well_formed();
-    let (before, states) = well_formed(alloc, records, log, bounds, watch)?;
+    let (before, states, work) = well_formed(alloc, records, log, bounds, watch)?;
     if let Verdict::None(prefix) = before {
-        return Ok((Verdict::None(prefix), states));
+        return Ok((Verdict::None(prefix), states, work));
     }
     let prefix = up_to(records.seen, records.count);
-    Ok((Verdict::None(prefix), states))
+    Ok((Verdict::None(prefix), states, work))
 }
 
 /// The records up to the first one whose form is wrong, if there is one, as a search sees them.
@@ -159,14 +161,15 @@ fn searched<W: Watch>(
     seen: &RecordStore,
     bounds: Bounds,
     watch: &mut W,
-) -> Result<(Verdict, u64), AllocError>
+) -> Result<(Verdict, u64, u64), AllocError>
     ensures run { IfOk result (λ r. IsVerdictOf seen.now r.0) }
     ensures none { IfOk result (λ r. (prefix : ℕ) → r.0 ≡ Verdict.None prefix → IsUnexplained seen.now prefix) }
     ensures limit { IfOk result (λ r. r.0 ≡ Verdict.Limit Bound.Choices → r.1 ≡ bounds.choices) }
     ensures work { IfOk result (λ r. r.0 ≡ Verdict.Limit Bound.Work → bounds.work < 18446744073709551615) }
     ensures less { IfOk result (λ r. r.0 ≡ Verdict.Limit Bound.Work → r.1 < bounds.choices) }
     ensures states { IfOk result (λ r. r.1 ≤ bounds.choices) }
-    ensures saw { IfOk result (λ r. Saw W.sees r.1 watch.old watch.new) }
+    ensures spent { IfOk result (λ r. r.0 ≡ Verdict.Limit Bound.Work → r.2 ≡ 0) }
+    ensures saw { IfOk result (λ r. SawOf W.sees seen.now r.1 watch.old watch.new) }
 {
     let Formed { log, flaw } = prepared(alloc, seen)?;
     match flaw {
@@ -192,6 +195,7 @@ fn answered(alloc: Global, store: &mut TraceStore, verdict: Verdict) -> Result<S
     ensures alike { SeenAlike (seen_by store.old) (seen_by store.new) }
     ensures found { IfOk result (IsFound store.new) }
     ensures answered { IfOk result (IsAnswered verdict) }
+    ensures stops { IfOk result (Stops (seen_by store.old)) }
 {
     match verdict {
         Verdict::Run(steps) => {
@@ -205,9 +209,10 @@ fn answered(alloc: Global, store: &mut TraceStore, verdict: Verdict) -> Result<S
 
 /// Looks for a history that explains the log of the store, which has none: what requesters submitted and were
 /// answered, in the order of the records, whatever their n's are; an answer `Done` is met by any reply. Keeps within the
-/// bounds: `watch` sees each choice, and the second number is how many it saw. Where it isn't found out, it saw as many as
-/// the bounds allow, or fewer, if the work ended it. The searches for a shorter prefix have bounds of their own and aren't
-/// counted or seen.
+/// bounds: `watch` sees each choice, a state to which a run from the start leads, of the log or of a part of it. The second
+/// value is how many it saw, the third how much work is left. Where it isn't found out, it saw as many as the bounds allow; or
+/// fewer, if the work ended it: then none is left. The searches for a shorter prefix have bounds of their own and aren't counted
+/// or seen.
 ///
 /// Where a history is found, the store then has it, its n's, and its replies in place of `Done`. Fails where memory can't be
 /// allocated; nothing is known then.
@@ -216,21 +221,23 @@ pub fn search_watched<W: Watch>(
     store: &mut TraceStore,
     bounds: Bounds,
     watch: &mut W,
-) -> Result<(Sought, u64), AllocError>
+) -> Result<(Sought, u64, u64), AllocError>
     requires { store.old.memory.entries ≡ [] }
     ensures alike { SeenAlike (seen_by store.old) (seen_by store.new) }
     ensures found { IfOk result (λ r. IsFound store.new r.0) }
     ensures none { IfOk result (λ r. IsNone (seen_by store.old) r.0) }
+    ensures stops { IfOk result (λ r. Stops (seen_by store.old) r.0) }
     ensures limit { IfOk result (λ r. r.0 ≡ Sought.Limit Bound.Choices → r.1 ≡ bounds.choices) }
     ensures work { IfOk result (λ r. r.0 ≡ Sought.Limit Bound.Work → bounds.work < 18446744073709551615) }
     ensures less { IfOk result (λ r. r.0 ≡ Sought.Limit Bound.Work → r.1 < bounds.choices) }
     ensures states { IfOk result (λ r. r.1 ≤ bounds.choices) }
-    ensures saw { IfOk result (λ r. Saw W.sees r.1 watch.old watch.new) }
+    ensures spent { IfOk result (λ r. r.0 ≡ Sought.Limit Bound.Work → r.2 ≡ 0) }
+    ensures saw { IfOk result (λ r. SawOf W.sees (seen_by store.old) r.1 watch.old watch.new) }
 {
     prefix_is_explainable();
-    let (verdict, states) = searched(alloc, store.seen(), bounds, watch)?;
+    let (verdict, states, work) = searched(alloc, store.seen(), bounds, watch)?;
     let sought = answered(alloc, store, verdict)?;
-    Ok((sought, states))
+    Ok((sought, states, work))
 }
 
 /// [`search_watched`], at no more than `limit` choices, which nobody sees.
@@ -243,6 +250,7 @@ pub fn search(
     ensures alike { SeenAlike (seen_by store.old) (seen_by store.new) }
     ensures found { IfOk result (λ r. IsFound store.new r.0) }
     ensures none { IfOk result (λ r. IsNone (seen_by store.old) r.0) }
+    ensures stops { IfOk result (λ r. Stops (seen_by store.old) r.0) }
     ensures limit { IfOk result (λ r. r.0 ≡ Sought.Limit Bound.Choices → r.1 ≡ limit) }
     ensures work { IfOk result (λ r. r.0 ≡ Sought.Limit Bound.Work → ⊥) }
     ensures states { IfOk result (λ r. r.1 ≤ limit) }
@@ -251,5 +259,6 @@ pub fn search(
         choices: limit,
         work: u64::MAX,
     };
-    search_watched(alloc, store, bounds, &mut Unwatched)
+    let (sought, choices, _) = search_watched(alloc, store, bounds, &mut Unwatched)?;
+    Ok((sought, choices))
 }

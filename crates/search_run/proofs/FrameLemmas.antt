@@ -1,5 +1,6 @@
 -- The way through the frames.
-use Rattle.std.proofs.Common.{◌≡◌, ◌∙◌, suc, Bool, true, false, List, [], ◌∷◌, ◌++◌, Some, length, refl, sym, ap, subst, append_assoc, arith, length-append}
+use Rattle.std.proofs.Common.{◌≡◌, ◌∙◌, ℕ, suc, Bool, true, false, List, [], ◌∷◌, ◌++◌, Some, length, refl, sym, ap, subst, append_assoc, arith, length-append}
+use Rattle.std.proofs.lemmas.Bool.{false≢true}
 use Rattle.std.proofs.lemmas.List.{append-nil}
 use Rattle.std.specs.List.{All}
 use Rattle.std.proofs.lemmas.List.Elements.{All-push, All-append, All-nil, All-pop}
@@ -10,9 +11,9 @@ use Rattle.search_places.specs.declared.steps.Done.{Done}
 use Rattle.search_run.specs.StackView.{FrameView, StackView}
 use Rattle.search_places.specs.Undo.{MayCome, CameBy, LeadsBy}
 use Rattle.search_run.specs.Outcomes.{IsRun}
-use Rattle.search_run.specs.Watched.{IsReached}
+use Rattle.search_run.specs.Watched.{Is, IsReached, Saw}
 use Rattle.search_run.specs.declared.walk.Walk.{Walk}
-use Rattle.search_run.specs.Frames.{Path, PathFrom, Here, Back, LeadsNowhere, IsOpen, AreLost}
+use Rattle.search_run.specs.Frames.{Path, PathFrom, Here, Back, LeadsNowhere, IsAt, IsOpen, AreLost}
 use Rattle.search_run.specs.Stacked.{steps_of, Forgets, Reopens}
 use Rattle.search_run.specs.Trails.{steps_by}
 
@@ -200,6 +201,21 @@ module _ (log : LogView) where
   -- the search stands at a state that is reached
   pub reached : (fs : List FrameView) (ds : List Done) (t : State) → PathFrom log fs (Here log ds t) → (t.event ≡ length log.events → ⊥) → IsReached log t
   reached fs ds t h more = record { steps = steps_of fs ++ steps_by ds; leads = whole (Dead log (start log)) (start log) fs ds t h; more = more }
+
+-- one choice more was seen, where the search stands before the end
+pub sees_more : {A : Type 0} (sees : LogView → State → A → A → Type 0) (log : LogView) (w : Walk) (n : ℕ) (x y z : A) (over : Bool) → Saw sees (Is log) n x y → IsAt log w
+    → (w.here.state.event ≡ length log.events → over ≡ true) → over ≡ false → sees log w.here.state y z → Saw sees (Is log) (suc n) x z
+sees_more sees log w n x y z over saw at ends isnt seen = (
+  y,
+  saw,
+  record {
+    log = log;
+    of = refl;
+    place = w.here.state;
+    reached = reached log w.stack.frames w.stack.done w.here.state at.path (λ e. false≢true (sym isnt ∙ ends e));
+    saw = seen;
+  },
+)
 
 -- ---- steps that are lost
 

@@ -5,7 +5,7 @@ ghost use Rattle.search_forced.specs.Catalogs.{IsCatalog};
 ghost use Rattle.search_run.specs.Frames.{IsAt};
 ghost use Rattle.search_run.specs.Ends.{Ends};
 ghost use Rattle.search_run.specs.Outcomes.{IsRight};
-ghost use Rattle.search_run.specs.Watched.{Saw};
+ghost use Rattle.search_run.specs.Watched.{Is, Saw};
 
 use crate::walk::{Walk, advance, begin, settle};
 use crate::watching::{Spot, Unwatched, Watch};
@@ -116,7 +116,7 @@ fn choose<W: Watch>(
     ensures less { IfOk result (λ r. r.0 ≡ End.Limit Bound.Work → r.1 < course.entry.bounds.choices) }
     ensures spent { IfOk result (λ r. r.0 ≡ End.Limit Bound.Work → walk.new.work ≡ 0) }
     ensures cost { IfOk result (λ r. walk.new.work ≤ walk.old.work - 256 * r.1) }
-    ensures saw { IfOk result (λ r. Saw W.sees r.1 watch.old watch.new) }
+    ensures saw { IfOk result (λ r. Saw W.sees (Is course.entry.log.now) r.1 watch.old watch.new) }
 {
     let Course {
         log,
@@ -131,7 +131,7 @@ fn choose<W: Watch>(
         if walk.work == 0 && bounds.work < u64::MAX {
             return Ok((End::Limit(Bound::Work), states));
         }
-        watch.choice(spot_of(walk));
+        watch.choice(spot_of(walk), log, &walk.here);
         if !advance(walk, alloc, log, catalog)? {
             return Ok((End::Dead, states + 1));
         }
@@ -166,7 +166,7 @@ fn ended<W: Watch>(
     ensures less { IfOk result (λ r. r.0 ≡ End.Limit Bound.Work → r.1 < quest.entry.bounds.choices) }
     ensures spent { IfOk result (λ r. r.0 ≡ End.Limit Bound.Work → walk.new.work ≡ 0) }
     ensures cost { IfOk result (λ r. walk.new.work ≤ walk.old.work - 256 * r.1) }
-    ensures saw { IfOk result (λ r. Saw W.sees r.1 watch.old watch.new) }
+    ensures saw { IfOk result (λ r. Saw W.sees (Is quest.entry.log.now) r.1 watch.old watch.new) }
 {
     let Quest { log, way, bounds } = quest;
     let mut catalog = catalog_of(alloc, log, way)?;
@@ -200,8 +200,8 @@ fn outcome_of(alloc: Global, walk: &Walk, end: End) -> Result<Outcome, AllocErro
 }
 
 /// Looks for steps that lead from the start of the log to its end, within the bounds. `watch` sees each choice that is
-/// looked at. Each costs 256 of the work, and more. A bound ends the search at a state to which steps lead from the start,
-/// before the end; where the work ended it, none is left.
+/// looked at: it is at a state to which steps lead from the start, and not at the end. Each costs 256 of the work, and more.
+/// Where the work ended the search, none is left.
 pub fn explore_watched<W: Watch>(
     alloc: Global,
     log: &Log,
@@ -216,7 +216,7 @@ pub fn explore_watched<W: Watch>(
     ensures less { IfOk result (λ r. r.outcome ≡ Outcome.Limit Bound.Work → r.states < bounds.choices) }
     ensures spent { IfOk result (λ r. r.outcome ≡ Outcome.Limit Bound.Work → r.work ≡ 0) }
     ensures cost { IfOk result (λ r. r.work ≤ bounds.work - 256 * r.states) }
-    ensures saw { IfOk result (λ r. Saw W.sees r.states watch.old watch.new) }
+    ensures saw { IfOk result (λ r. Saw W.sees (Is log.now) r.states watch.old watch.new) }
 {
     let mut walk = begin(alloc, log, bounds.work)?;
     let (end, states) = ended(&mut walk, alloc, Quest { log, way, bounds }, watch)?;

@@ -1,4 +1,6 @@
 //! How far a search is, seen while it goes on.
+use log_runs::Log;
+use search_places::Place;
 
 /// How far a search is, at a choice.
 #[derive(Clone, Copy)]
@@ -16,13 +18,15 @@ pub struct Spot {
 /// Sees how far a search is.
 pub trait Watch {
     ghost use Rattle.std.specs.Prelude.{⊤};
+    ghost use Rattle.log_runs.specs.LogView.{LogView};
+    ghost use Rattle.log_runs.specs.Runs.{State};
 
-    /// It saw one choice more.
-    ghost sees: { Self → Self → Type 0 } = { λ _ _. ⊤ };
+    /// It saw one choice more, at that state of the log.
+    ghost sees: { LogView → State → Self → Self → Type 0 } = { λ _ _ _ _. ⊤ };
 
-    /// One choice more is looked at.
-    fn choice(&mut self, spot: Spot)
-        ensures { sees self.old self.new };
+    /// One choice more is looked at, at that place of the log, or of a part of it.
+    fn choice(&mut self, spot: Spot, log: &Log<'_>, place: &Place)
+        ensures { sees log.now place.now.state self.old self.new };
 }
 
 /// Sees nothing.
@@ -30,5 +34,5 @@ pub trait Watch {
 pub struct Unwatched;
 
 impl Watch for Unwatched {
-    fn choice(&mut self, _spot: Spot) {}
+    fn choice(&mut self, _spot: Spot, _log: &Log<'_>, _place: &Place) {}
 }
