@@ -1052,11 +1052,12 @@ static inline uint32_t pciex_check_clocked(const uint8_t *text, size_t length, u
 /*
  * Looks for a history that explains what requesters submitted and were answered: the text of a log, or of a trace,
  * whose counts n and history are ignored. What `pciex search --limit` prints is in the buffer: a trace with such a
- * history, and PCIEX_FOUND; `none 3`, or `flaw 6 Again 2` for a bookkeeping mistake of the log, or `fault 3 Line` if the
- * text can't be read, and PCIEX_NOT_FOUND; `limit 1000000` or `work 300000000`, and PCIEX_GIVEN_UP: nothing is known
- * then. `length` is the number of its bytes, also with PCIEX_SMALL_ROOM, for a buffer of fewer. Or PCIEX_NO_MEMORY:
- * nothing is known, and `length` stays as it was; a text whose first fault comes before its records needs no memory. At
- * most `limit` choices are looked at, and the work is that of `pciex search` without `--work` at most: about half a minute.
+ * history, and PCIEX_FOUND; `none 3`, or `flaw 6 Again 2` for a bookkeeping mistake of the log, or `fault 3 Line` if
+ * the text can't be read, and PCIEX_NOT_FOUND; `limit 1000000`, where so many choices were looked at, or
+ * `work 300000000`, where so much work was used up, and PCIEX_GIVEN_UP: nothing is known then. `length` is the number of
+ * its bytes, also with PCIEX_SMALL_ROOM, for a buffer of fewer. Or PCIEX_NO_MEMORY: nothing is known, and `length` stays
+ * as it was; a text whose first fault comes before its records needs no memory. At most `limit` choices are looked at,
+ * and the work is that of `pciex search` without `--work` at most: about half a minute.
  */
 static inline uint32_t pciex_search(const uint8_t *text, size_t text_length, uint64_t limit, uint8_t *room,
                                     size_t room_length, size_t *length)

@@ -2,6 +2,7 @@ mod KnownLemmas
 mod MemoryLemmas
 mod NoneLemmas
 mod SizeLemmas
+mod LookLemmas
 mod AnsweredLemmas
 mod CoreLemmas
 mod FlawLemmas

@@ -12,6 +12,7 @@ use Rattle.search_run.specs.declared.exploring.Bounds.{Bounds}
 use Rattle.search_engine.specs.declared.answering.Finding.{Finding}
 use Rattle.search_engine.specs.declared.answering.Finding.TheVariants as findings
 use Rattle.search_engine.specs.declared.granularity.Pieces.{Pieces}
+use Rattle.search_engine.specs.Bounded.{WasSearched}
 use Rattle.search_engine.specs.Findings.{AreUnexplained, IsFindingOf}
 
 -- what is seen in a store that was made of it
@@ -32,11 +33,14 @@ unexplained_in_whole t count l dead = record { within = l; unexplained = λ e. d
 pub unexplained : (t : TraceView) (count : ℕ) → AreUnexplained Whole t count → IsExplainable (first count t) → ⊥
 unexplained t count dead e = dead.unexplained (subst IsExplainable (sym (whole_is (first count t))) e)
 
+pub searched_in_whole : (t : TraceView) (n : ℕ) → WasSearched (in_pieces Whole t) n → WasSearched t n
+searched_in_whole t n h = subst (λ (u : TraceView). WasSearched u n) (whole_is t) h
+
 -- what is found of the log in pieces is found of the log, but for where it has none
 pub of_log : (size : Granularity) (bounds : Bounds) (t : TraceView) (f : Finding) → IsFindingOf Whole bounds (in_pieces size t) f
     → ((u : TraceView) (count : ℕ) (pieces : Option Pieces) → f ≡ findings.None u count pieces → ⊥) → IsFindingOf size bounds t f
 of_log size bounds t (findings.Found store) h none = (subst (λ (v : TraceView). SeenAlike v (seen_by store)) (whole_is (in_pieces size t)) h.0, h.1, h.2, h.3)
 of_log size bounds t (findings.None seen count pieces) h none = absurd (none seen count pieces refl)
-of_log size bounds t (findings.Limit seen ending far pieces) h none = h
+of_log size bounds t (findings.Limit seen ending far pieces) h none = (h.0, searched_in_whole (in_pieces size t) ending.choices h.1)
 of_log size bounds t (findings.Flaw seen flaw) h none = h
 of_log size bounds t (findings.Fault f) h none = h

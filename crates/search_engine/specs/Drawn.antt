@@ -55,7 +55,7 @@ pub record IsNoneDrawn (size : Granularity) (input : List ℕ) (t : TraceView) (
 -- what a search says of a log, and the exit status
 abbrev pub IsJudgmentDrawn : Granularity → Bounds → List ℕ → TraceView → List ℕ → ℕ → Type 0
 IsJudgmentDrawn size bounds input t text status =
-    IsHistoryDrawn (in_pieces size t) text status ⊎ IsNoneDrawn size input t text status ⊎ IsGivenUp bounds text status
+    IsHistoryDrawn (in_pieces size t) text status ⊎ IsNoneDrawn size input t text status ⊎ IsGivenUp size bounds t text status
 
 -- an answer to a text of which that was read: to a log whose form is wrong, and to what can't be read, as ever
 abbrev pub IsAnswerDrawn : Granularity → Bounds → List ℕ → Result TraceView ReadFault → List ℕ → ℕ → Type 0

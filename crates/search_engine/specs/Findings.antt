@@ -12,7 +12,7 @@ use Rattle.log_pieces.specs.declared.Granularity.{Granularity}
 use Rattle.log_pieces.specs.InPieces.{in_pieces, IsExplainableIn}
 use Rattle.log_events.specs.Formed.{AreFormed}
 use Rattle.search_run.specs.declared.exploring.Bounds.{Bounds}
-use Rattle.search_engine.specs.Bounded.{IsEnded}
+use Rattle.search_engine.specs.Bounded.{IsEnded, WasSearched}
 use Rattle.search_engine.specs.Flaws.{IsFirstFlaw}
 use Rattle.search_engine.specs.declared.answering.Finding.{Finding}
 use Rattle.search_engine.specs.declared.answering.Finding.TheVariants as findings
@@ -33,7 +33,8 @@ abbrev pub IsFindingOf : Granularity → Bounds → TraceView → Finding → Ty
 IsFindingOf size bounds t (findings.Found store) =
     SeenAlike (in_pieces size t) (seen_by store) × Explains store × IsClocked store × (length store.memory.entries < 2 ^ 64)
 IsFindingOf size bounds t (findings.None seen prefix pieces) = AreUnexplained size t prefix
-IsFindingOf size bounds t (findings.Limit seen ending far pieces) = IsEnded bounds ending.choices ending.bound
+IsFindingOf size bounds t (findings.Limit seen ending far pieces) =
+    IsEnded bounds ending.choices ending.work ending.bound × WasSearched (in_pieces size t) ending.choices
 IsFindingOf size bounds t (findings.Flaw seen flaw) = ⊥
 IsFindingOf size bounds t (findings.Fault f) = ⊥
 

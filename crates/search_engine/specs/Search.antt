@@ -65,7 +65,7 @@ pub record IsCoreIn (core : Bool) (size : Granularity) (t : TraceView) (text : L
 -- whether a log of few answers is asked for
 abbrev pub IsJudgmentOf : Bool → Granularity → Bounds → TraceView → List ℕ → ℕ → Type 0
 IsJudgmentOf core size bounds t text status =
-    IsFoundIn (in_pieces size t) text status ⊎ IsNoneIn size t text status ⊎ IsGivenUp bounds text status ⊎ IsCoreIn core size t text status
+    IsFoundIn (in_pieces size t) text status ⊎ IsNoneIn size t text status ⊎ IsGivenUp size bounds t text status ⊎ IsCoreIn core size t text status
 
 -- an answer to what was read, and its exit status: the first flaw of a log whose form is wrong, and what a search says of
 -- any other

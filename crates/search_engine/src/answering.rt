@@ -113,7 +113,7 @@ pub(crate) fn sought<C: Clock, E: Write>(
     let mut progress = Progress::new(demand, seen.len(), clock, errors);
     let bounds = demand.bounds();
     let mut store = TraceStore::of(alloc, seen);
-    let (sought, choices) = search_watched(alloc, &mut store, bounds, &mut progress)?;
+    let (sought, choices, work) = search_watched(alloc, &mut store, bounds, &mut progress)?;
     progress.end(choices);
     let far = progress.far();
     match sought {
@@ -127,7 +127,14 @@ pub(crate) fn sought<C: Clock, E: Write>(
             prefix,
             pieces: None,
         }),
-        Sought::Limit(bound) => Ok(given_up(store.into_seen(), Ending { bound, choices }, far)),
+        Sought::Limit(bound) => {
+            let ending = Ending {
+                bound,
+                choices,
+                work,
+            };
+            Ok(given_up(store.into_seen(), ending, far))
+        }
     }
 }
 
@@ -202,8 +209,8 @@ pub(crate) fn outcome_of(
 /// The answer to the text of a log or a trace: a trace with a history that explains what was seen, and
 /// status 0; `none` and the place of a record up to which no history explains it, `flaw` with the first
 /// bookkeeping mistake and its place, or `fault` with the line that can't be read and why, and status 1; or
-/// `limit` and the limit, or `work` and the work, and status 3, where it looked at that many choices, or before that the work
-/// ended it. It looks at no more choices; work of `u64::MAX` has no bound. Fails where memory can't be allocated; nothing is
+/// `limit` and the limit, or `work` and the work, and status 3, where it looked at that many choices, or before that used up
+/// the work. It looks at no more choices; work of `u64::MAX` has no bound. Fails where memory can't be allocated; nothing is
 /// known then. A text whose first fault comes before its records and entries needs none.
 pub fn answer_of(alloc: Global, text: &[u8], limit: u64, work: u64) -> Result<Outcome, AllocError>
     ensures ok { IfOk result (λ o. OutSearchFor false Granularity.Whole (within limit work) text.now (text_of o.text) o.status) }

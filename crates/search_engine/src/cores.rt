@@ -115,7 +115,7 @@ fn is_unexplained(alloc: Global, text: &[u8], demand: SearchDemand) -> Result<bo
     };
     let mut store = TraceStore::of(alloc, log);
     match search_watched(alloc, &mut store, demand.bounds(), &mut Unwatched)? {
-        (Sought::None { .. }, _) => Ok(true),
+        (Sought::None { .. }, _, _) => Ok(true),
         _ => Ok(false),
     }
 }

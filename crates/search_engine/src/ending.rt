@@ -7,4 +7,6 @@ use search_history::Bound;
 pub struct Ending {
     pub bound: Bound,
     pub choices: u64,
+    /// How much work was left: none, where that ended it.
+    pub work: u64,
 }

@@ -1,10 +1,12 @@
 //! What holds of all answers.
-ghost use Rattle.std.specs.Prelude.{◌≡◌, Bool, List, ℕ, codes};
+ghost use Rattle.std.specs.Prelude.{◌≡◌, Bool, List, [], ℕ, codes};
 ghost use Rattle.history_words.specs.TraceView.{TraceView};
+ghost use Rattle.log_pieces.specs.declared.Granularity.{Granularity};
 ghost use Rattle.log_pieces.specs.declared.Granularity.TheVariants.{Whole};
 ghost use Rattle.log_text.specs.Told.{IsToldLog};
 ghost use Rattle.search_run.specs.declared.exploring.Bounds.{Bounds};
 ghost use Rattle.trace_engine.specs.Check.{out_check, out_check_clocked};
+ghost use Rattle.search_engine.specs.Bounded.{IsGivenUp};
 ghost use Rattle.search_engine.specs.Search.{IsFoundIn, OutSearchFor};
 
 use log_text::{what_is_explained_can_be_told, what_is_seen_can_be_told};
@@ -37,3 +39,9 @@ pub fn what_is_answered_is_ok()
     what_is_seen_can_be_told();
     what_is_found_is_ok();
 }
+
+/// A search of a log without records isn't given up, whatever its bounds are.
+pub fn a_search_without_records_is_not_given_up()
+    ensures { (size : Granularity) (bounds : Bounds) (t : TraceView) (text : List ℕ) (status : ℕ) →
+        IsGivenUp size bounds t text status → t.records ≡ [] → ⊥ }
+{}

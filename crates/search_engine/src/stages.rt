@@ -1,6 +1,8 @@
 //! How far a search is, told while it goes on.
 use crate::options::SearchDemand;
+use log_runs::Log;
 use search_history::{Spot, Watch};
+use search_places::Place;
 use std::io;
 use std::io::Write;
 use std::time::{Clock, Duration};
@@ -165,7 +167,7 @@ impl<'e, E: Write, C: Clock> Progress<'e, E, C> {
 }
 
 impl<'e, E: Write, C: Clock> Watch for Progress<'e, E, C> {
-    fn choice(&mut self, spot: Spot) {
+    fn choice(&mut self, spot: Spot, _log: &Log<'_>, _place: &Place) {
         self.note(spot);
         self.choices = self.choices.saturating_add(1);
         if self.is_shown {

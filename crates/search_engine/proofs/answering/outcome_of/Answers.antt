@@ -6,6 +6,7 @@ use Rattle.log_events.specs.Formed.{AreFormed}
 use Rattle.search_engine.specs.declared.answering.Finding.{Finding}
 use Rattle.search_engine.specs.Findings.{AreUnexplained, IsFinding}
 use Rattle.search_engine.specs.Search.{IsAnswerTo, none_line}
+use Rattle.search_engine.proofs.LookLemmas.{limit_answers}
 use Rattle.search_engine.proofs.NoneLemmas.{some-records, up_to_last}
 use Rattle.search_engine.proofs.answering.outcome_of.Goals as goal
 
@@ -27,3 +28,9 @@ returns-in-None-clause-ok c = by
           })),
         )
     by size (Err f) h = absurd (let is : ⊥ = subst (λ (g : Finding). IsFinding size c.args.bounds (Err f) g) c.in-None.is h in is)
+
+pub returns-in-Limit-clause-ok : goal.returns-in-Limit-clause-ok
+returns-in-Limit-clause-ok c = λ size r h.
+    let limit = c.in-Limit in
+    limit_answers false size c.args.bounds r _ limit.ending _ _ _ _
+    (subst (λ (f : Finding). IsFinding size c.args.bounds r f) limit.is h) c.given_up_outcome.ensures.text c.given_up_outcome.ensures.status
