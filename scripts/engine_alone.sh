@@ -27,7 +27,7 @@ mark=$folder/made-by-engine-alone
 uses='' before='' more='' beside=seq_memory
 case $engine in
     tlp)
-        crate=packet_engine function=run_tlp_with_reasons more='
+        crate=packet_engine function=run_tlp more='
         extent,'
         uses='use seq_memory::Extent;'
         before='    let Some(extent) = Extent::new(0, 4096, 64) else {
@@ -35,7 +35,7 @@ case $engine in
     };'
         ;;
     endpoint)
-        crate=endpoint_engine function=run_endpoint_with_reasons beside=config_core more='
+        crate=endpoint_engine function=run_endpoint beside=config_core more='
         options,'
         uses='use config_core::Setup;
 use endpoint_engine::EndpointOptions;'
@@ -47,14 +47,18 @@ use endpoint_engine::EndpointOptions;'
         is_traced: false,
     };'
         ;;
-    decode) crate=packet_engine function=run_${engine}_with_reasons ;;
-    check | upgrade) crate=trace_engine function=run_${engine}_with_reasons ;;
+    decode) crate=packet_engine function=run_decode ;;
+    check)
+        crate=trace_engine function=run_check more='
+        false,'
+        ;;
+    upgrade) crate=trace_engine function=run_upgrade ;;
     search)
         crate=search_engine function=run_search_with_reasons more='
         1_000_000,'
         ;;
     step | trace)
-        crate=step_engine function=run_step_with_reasons
+        crate=step_engine function=run_step
         traced=false
         [ "$engine" = step ] || traced=true
         more='

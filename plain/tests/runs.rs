@@ -7,6 +7,7 @@ use history_words::{Claim, Record};
 use kit::HostRuntime;
 use lane_core::LaneCredits;
 use seq_memory::Reply;
+use std::io::sink;
 use tlp_core::{Op, Width, payload_of};
 use trace_engine::{run_check, tell_trace};
 use workers::{Gate, OpenGate, Report, RunHalt, RunPlan, run_workers};
@@ -93,7 +94,7 @@ fn is_ok_as_text(report: &Report) {
     let claim = Claim { trace: &report.trace, history: report.fabric.history() };
     tell_trace(alloc(), &claim, &mut text).unwrap();
     let mut answer = kit::Vec::new(alloc());
-    let status = run_check(alloc(), &mut text.as_slice(), &mut answer).unwrap();
+    let status = run_check(alloc(), false, &mut text.as_slice(), &mut answer, &mut sink()).unwrap();
     assert_eq!((status, answer.as_slice()), (0, &b"ok\n"[..]));
 }
 

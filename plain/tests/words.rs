@@ -5,6 +5,7 @@ use cli_commands::{Host, NoClock, Outcome, on_one_thread};
 use draw_engine::run_draw;
 use history_picture::Window;
 use kit::Vec;
+use std::io::sink;
 
 /// What becomes of the words, with what is told.
 fn done(words: &[&str]) -> (Outcome, String) {
@@ -41,7 +42,7 @@ fn a_file_is_no_argument() {
 fn a_window_from_behind_the_end_has_the_last_point() {
     let trace = "pciex-trace 2\nmemory 0 4096 64\nsub 1 0 0 add 40 07000000\nans 1 0 1 data 00000000\nhistory\nent 1 0 add 40 07000000\nend\n";
     let (mut reader, mut out) = (trace.as_bytes(), Vec::new(alloc()));
-    assert_eq!(run_draw(alloc(), Window { from: 9, to: 0 }, &mut reader, &mut out), Ok(0));
+    assert_eq!(run_draw(alloc(), Window { from: 9, to: 0 }, &mut reader, &mut out, &mut sink()), Ok(0));
     let picture = String::from_utf8(out.as_slice().to_vec()).unwrap();
     assert!(picture.contains(">points 0 to 0 of 1</text>"), "{picture}");
 }

@@ -7,12 +7,11 @@ ghost use Rattle.chart_engine.specs.Events.{WritesEvents};
 use crate::chart::Charter;
 use crate::laws::{charts_are_well_formed, charts_show_what_happened};
 use chart_links::ChartWindow;
-use diagnostics::{tell_long_line, tell_misfit, tell_refusal};
-use line_loop::{EngineFault, Responder, Verdict, run};
+use diagnostics::{Reason, ReasonLines, Reasoned, Reasons, refusal_reason};
+use line_loop::{EngineFault, run};
 use script_text::script_misfit;
 use std::alloc::{AllocError, Global};
-use std::io::{Read, Write, sink};
-use std::marker::Model;
+use std::io::{Read, Write};
 
 /// The refusal that ended a run, by the line that tells the end.
 fn refusal_in(ending: &str) -> Option<&str> {
@@ -20,57 +19,30 @@ fn refusal_in(ending: &str) -> Option<&str> {
     Some(refusal)
 }
 
-/// Tells why this line, the last one that was answered, ended the run.
-fn explain<E: Write>(charter: &Charter, line: &[u8], errors: &mut E) -> Result<(), EngineFault> {
-    let number = Some(charter.lines());
-    match refusal_in(charter.ending()) {
-        Some(refusal) => tell_refusal(line, refusal, number, errors),
-        None => tell_misfit(
-            line,
-            script_misfit(line, charter.has_fabric()),
-            number,
-            errors,
-        ),
+/// Why this line, the last one that was answered, ended the run.
+fn end_reason(charter: &Charter, line: &[u8]) -> Reason {
+    if let Some(refusal) = refusal_in(charter.ending()) {
+        return refusal_reason(line, refusal);
+    }
+    match script_misfit(line, charter.has_fabric()) {
+        Some(misfit) => Reason::of_misfit(line, &misfit),
+        None => refusal_reason(line, ""),
     }
 }
 
-/// A script that is charted, and the stream on which the reason of its end is told.
+/// Says why a line ended the run of a script.
 #[derive(Drop)]
-struct Explained<E> {
-    charter: Charter,
-    errors: E,
-}
+struct EndReasons {}
 
-impl<E> Model for Explained<E> {
-    ghost use Rattle.chart_engine.specs.Chart.{CharterView};
-
-    ghost Value = { CharterView };
-
-    ghost view = { λ e. e.charter };
-}
-
-impl<E: Write + Drop> Responder for Explained<E> {
-    ghost use Rattle.chart_engine.specs.Chart.{chart_responses};
-
-    ghost responses = { chart_responses };
-
-    fn on_line(&mut self, line: &[u8], out: &mut Vec<u8>) -> Result<Verdict, AllocError> {
-        let verdict = self.charter.on_line(line, out)?;
-        if verdict.is_fault() {
-            let _ = explain(&self.charter, line, &mut self.errors);
-        }
-        Ok(verdict)
-    }
-
-    fn on_long_line(&mut self, out: &mut Vec<u8>) -> Result<Verdict, AllocError> {
-        let verdict = self.charter.on_long_line(out)?;
-        let fault = verdict.is_fault().then_some(self.charter.lines());
-        let _ = tell_long_line(fault, &mut self.errors);
-        Ok(verdict)
-    }
-
-    fn on_end(&mut self, out: &mut Vec<u8>) -> Result<Verdict, AllocError> {
-        self.charter.on_end(out)
+impl Reasons<Charter> for EndReasons {
+    fn tell(
+        &self,
+        charter: &mut Charter,
+        line: &[u8],
+        _text: &[u8],
+        reasons: &mut ReasonLines,
+    ) -> Result<(), AllocError> {
+        reasons.tell(&end_reason(charter, line))
     }
 }
 
@@ -79,7 +51,7 @@ impl<E: Write + Drop> Responder for Explained<E> {
 /// that ended the run, in red, or that the script ran to its end. `Ok` is the exit status, 1 where a fault or a refusal
 /// ended the run. After an `Err` what was written is a prefix of the whole output. Why a line of the script ended the
 /// run is told on `errors`, in a line; a stream that fails there changes nothing.
-pub fn run_chart_with_reasons<R: Read, W: Write, E: Write>(
+pub fn run_chart<R: Read, W: Write, E: Write>(
     alloc: Global,
     window: ChartWindow,
     reader: &mut R,
@@ -97,24 +69,9 @@ pub fn run_chart_with_reasons<R: Read, W: Write, E: Write>(
     ensures events { OnOk result (WritesEvents window (W.contents writer.old) (W.contents writer.new)) }
 {
     let charter = Charter::new(alloc, window);
-    let explained = Explained { charter, errors };
-    let status = run(alloc, explained, reader, writer)?;
+    let reasoned = Reasoned::new(alloc, charter, EndReasons {}, errors);
+    let status = run(alloc, reasoned, reader, writer)?;
     charts_are_well_formed();
     charts_show_what_happened();
     Ok(status)
-}
-
-/// Does what [`run_chart_with_reasons`] does, and tells no reason.
-pub fn run_chart<R: Read, W: Write>(
-    alloc: Global,
-    window: ChartWindow,
-    reader: &mut R,
-    writer: &mut W,
-) -> Result<u8, EngineFault>
-    ensures ok { IfOk result (IsWhole (out_chart window) (R.remaining reader.old) (R.remaining reader.new) (W.contents writer.old) (W.contents writer.new)) }
-    ensures err { OnErr result (IsPart (out_chart window) (R.remaining reader.old) (R.remaining reader.new) (W.contents writer.old) (W.contents writer.new)) }
-    ensures document { OnOk result (WritesDocument (W.contents writer.old) (W.contents writer.new)) }
-    ensures events { OnOk result (WritesEvents window (W.contents writer.old) (W.contents writer.new)) }
-{
-    run_chart_with_reasons(alloc, window, reader, writer, &mut sink())
 }

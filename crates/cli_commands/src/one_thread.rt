@@ -11,17 +11,17 @@ use crate::hints::hint;
 use crate::noted::Fallible;
 use crate::plain::Plain;
 use crate::searching::{Search, run_search_as, stages_of};
-use chart_engine::run_chart_with_reasons;
+use chart_engine::run_chart;
 use chart_links::ChartWindow;
 use clap::error::ErrorKind;
 use cli_words::{Request, RequestFault, options};
-use draw_engine::run_draw_with_reasons;
-use endpoint_engine::{EndpointOptions, run_endpoint_with_reasons};
+use draw_engine::run_draw;
+use endpoint_engine::{EndpointOptions, run_endpoint};
 use generate_engine::run_generate;
 use history_picture::Window;
 use line_loop::EngineFault;
-use linked_engine::{LinkedOptions, run_linked_with_reasons};
-use packet_engine::{run_decode_with_reasons, run_encode_with_reasons, run_tlp_with_reasons};
+use linked_engine::{LinkedOptions, run_linked};
+use packet_engine::{run_decode, run_encode, run_tlp};
 use parameters::Counting;
 use search_engine::SearchOptions;
 use std::alloc::Global;
@@ -29,9 +29,9 @@ use std::convert::AsStr;
 use std::io;
 use std::io::{ErrorKind as IoErrorKind, Read, Write};
 use std::time::Clock;
-use step_engine::{StepOptions, run_step_with_reasons};
+use step_engine::{StepOptions, run_step};
 use sweep_engine::Sweep;
-use trace_engine::{run_check_with, run_upgrade_with_reasons};
+use trace_engine::{run_check, run_upgrade};
 
 /// Tells what stopped an engine and why, where that is known, and gives the exit status for that. Of an output that
 /// nobody reads any more nothing is told.
@@ -163,12 +163,12 @@ fn begin<C: Clock, R: Read + Fallible, W: Write + Fallible, E: Write>(
     let alloc = host.alloc;
     match request {
         Request::Tlp(extent) => {
-            let run = run_tlp_with_reasons(alloc, extent, reader, writer, errors);
+            let run = run_tlp(alloc, extent, reader, writer, errors);
             Outcome::Ended(ended(run, reader, writer, errors))
         }
         Request::Endpoint { setup, is_traced } => {
             let options = EndpointOptions { setup, is_traced };
-            let run = run_endpoint_with_reasons(alloc, options, reader, writer, errors);
+            let run = run_endpoint(alloc, options, reader, writer, errors);
             Outcome::Ended(ended(run, reader, writer, errors))
         }
         Request::Linked {
@@ -182,19 +182,19 @@ fn begin<C: Clock, R: Read + Fallible, W: Write + Fallible, E: Write>(
                 credits,
                 has_crc,
             };
-            let run = run_linked_with_reasons(alloc, options, reader, writer, errors);
+            let run = run_linked(alloc, options, reader, writer, errors);
             Outcome::Ended(ended(run, reader, writer, errors))
         }
         Request::Decode => {
-            let run = run_decode_with_reasons(alloc, reader, writer, errors);
+            let run = run_decode(alloc, reader, writer, errors);
             Outcome::Ended(ended(run, reader, writer, errors))
         }
         Request::Encode => {
-            let run = run_encode_with_reasons(alloc, reader, writer, errors);
+            let run = run_encode(alloc, reader, writer, errors);
             Outcome::Ended(ended(run, reader, writer, errors))
         }
         Request::Check { is_clocked } => {
-            let run = run_check_with(alloc, is_clocked, reader, writer, errors);
+            let run = run_check(alloc, is_clocked, reader, writer, errors);
             Outcome::Ended(ended(run, reader, writer, errors))
         }
         Request::Search {
@@ -220,11 +220,11 @@ fn begin<C: Clock, R: Read + Fallible, W: Write + Fallible, E: Write>(
         }
         Request::Draw { from, to } => {
             let window = Window { from, to };
-            let run = run_draw_with_reasons(alloc, window, reader, writer, errors);
+            let run = run_draw(alloc, window, reader, writer, errors);
             Outcome::Ended(ended(run, reader, writer, errors))
         }
         Request::Upgrade => {
-            let run = run_upgrade_with_reasons(alloc, reader, writer, errors);
+            let run = run_upgrade(alloc, reader, writer, errors);
             Outcome::Ended(ended(run, reader, writer, errors))
         }
         Request::Step {
@@ -237,7 +237,7 @@ fn begin<C: Clock, R: Read + Fallible, W: Write + Fallible, E: Write>(
                 keeps_going,
                 echoes,
             };
-            let run = run_step_with_reasons(alloc, options, reader, writer, errors);
+            let run = run_step(alloc, options, reader, writer, errors);
             Outcome::Ended(ended(run, reader, writer, errors))
         }
         Request::Chart {
@@ -254,7 +254,7 @@ fn begin<C: Clock, R: Read + Fallible, W: Write + Fallible, E: Write>(
                 is_brief: !has_all,
                 has_levels,
             };
-            let run = run_chart_with_reasons(alloc, window, reader, writer, errors);
+            let run = run_chart(alloc, window, reader, writer, errors);
             Outcome::Ended(ended(run, reader, writer, errors))
         }
         Request::Generate { storm } => {

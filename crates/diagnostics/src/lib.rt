@@ -5,15 +5,18 @@
 //! refusal and what it means. It is told beside the answer, of which it changes nothing, exactly where
 //! the answer is a fault: what it says is no promise, and where the stream fails, it is lost.
 //!
-//! [`ReasonCount`] ends the reasons of a run after the first thousand. In place of the next one it says once that no more
-//! are told.
+//! [`Reasoned`] stands around a responder and leaves its answers as they are; what it tells beside them is said by one that
+//! has [`Reasons`]. [`ReasonLines`] ends the reasons of a run after the first thousand. In place of the next one it says
+//! once that no more are told.
 #![tactic(auto)]
 
-mod count;
 mod lines;
+mod reason_lines;
+mod reasoned;
 mod shown;
 mod telling;
 
-pub use count::ReasonCount;
-pub use lines::{tell_long_line, tell_misfit, tell_refusal};
+pub use lines::{long_line_reason, refusal_reason};
+pub use reason_lines::ReasonLines;
+pub use reasoned::{Reasoned, Reasons};
 pub use telling::{Part, Reason};

@@ -1,11 +1,6 @@
 //! Why a line is refused.
-ghost use Rattle.std.specs.Prelude.{◌≡◌, IfErr, OnOk, OnErr};
-ghost use Rattle.diagnostics.specs.Told.{IsReasonTold, IsReasonBegun};
-
 use crate::telling::{Reason, Shown};
-use line_loop::EngineFault;
-use operation_text::{Misfit, next_word, split_word};
-use std::io::Write;
+use operation_text::{next_word, split_word};
 
 /// What refusals and faults mean, by their names.
 const MEANINGS: [(&str, &str); 13] = [
@@ -107,68 +102,18 @@ fn put_refused(line: &[u8], name: &[u8], reason: &mut Reason) {
     }
 }
 
-/// That the line is refused for what that name says.
-fn refusal_reason(line: &[u8], name: &[u8]) -> Reason {
+/// That the line is refused for what this name says, or, where the name is empty, as it stands.
+pub fn refusal_reason(line: &[u8], name: &str) -> Reason {
     let mut reason = Reason::new();
-    put_refused(line, name, &mut reason);
+    put_refused(line, name.as_bytes(), &mut reason);
     reason
 }
 
-/// Tells that the line is refused for what this name says, where it is told as a fault: this is its
-/// number then. After an `Err` a prefix of the reason was written.
-pub fn tell_refusal<E: Write>(
-    line: &[u8],
-    name: &str,
-    fault: Option<u64>,
-    errors: &mut E,
-) -> Result<(), EngineFault>
-    ensures ok { OnOk result (IsReasonTold fault (E.contents errors.old) (E.contents errors.new)) }
-    ensures fault { IfErr result (λ f. f ≡ EngineFault.Write) }
-    ensures part { OnErr result (IsReasonBegun fault (E.contents errors.old) (E.contents errors.new)) }
-{
-    match fault {
-        Some(number) => refusal_reason(line, name.as_bytes()).tell_at(number, errors),
-        None => Ok(()),
-    }
-}
-
-/// Tells what doesn't fit in the line, where it is told as a fault: this is its number then. Without a
-/// misfit the line is refused as it stands. After an `Err` a prefix of the reason was written.
-pub fn tell_misfit<E: Write>(
-    line: &[u8],
-    misfit: Option<Misfit>,
-    fault: Option<u64>,
-    errors: &mut E,
-) -> Result<(), EngineFault>
-    ensures ok { OnOk result (IsReasonTold fault (E.contents errors.old) (E.contents errors.new)) }
-    ensures fault { IfErr result (λ f. f ≡ EngineFault.Write) }
-    ensures part { OnErr result (IsReasonBegun fault (E.contents errors.old) (E.contents errors.new)) }
-{
-    match (fault, misfit) {
-        (Some(number), Some(misfit)) => Reason::of_misfit(line, &misfit).tell_at(number, errors),
-        (Some(number), None) => refusal_reason(line, b"").tell_at(number, errors),
-        (None, _) => Ok(()),
-    }
-}
-
-/// The reason of a line that is too long.
-fn long_line() -> Reason {
+/// That a line is too long.
+pub fn long_line_reason() -> Reason {
     let mut reason = Reason::new();
     reason.put(
         ", column 513: more where the line's end is expected (a line has 512 bytes at most)",
     );
     reason
-}
-
-/// Tells that a line is too long, where that is told as a fault: this is its number then. After an `Err`
-/// a prefix of the reason was written.
-pub fn tell_long_line<E: Write>(fault: Option<u64>, errors: &mut E) -> Result<(), EngineFault>
-    ensures ok { OnOk result (IsReasonTold fault (E.contents errors.old) (E.contents errors.new)) }
-    ensures fault { IfErr result (λ f. f ≡ EngineFault.Write) }
-    ensures part { OnErr result (IsReasonBegun fault (E.contents errors.old) (E.contents errors.new)) }
-{
-    match fault {
-        Some(number) => long_line().tell_at(number, errors),
-        None => Ok(()),
-    }
 }

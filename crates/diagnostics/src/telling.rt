@@ -121,7 +121,7 @@ fn text_begun(word: &[u8], expected: Expected) -> Option<&'static str> {
 }
 
 /// The line of a reason.
-fn line_of(number: u64, why: &[u8]) -> ArrayVec<u8, 1057>
+pub(crate) fn line_of(number: u64, why: &[u8]) -> ArrayVec<u8, 1057>
     requires { length why.now ≤ 1024 }
     ensures { result.items ≡ reason_line number why.now }
 {
@@ -220,7 +220,7 @@ impl Reason {
     }
 
     /// What is told: the text, if it is one line that says something.
-    fn said(&self) -> &[u8]
+    pub(crate) fn said(&self) -> &[u8]
         ensures reason { IsReason result.now }
         ensures len { length result.now ≤ 1024 }
     {

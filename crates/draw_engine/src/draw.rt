@@ -15,7 +15,7 @@ use history_words::{AsClaim, Claim, Flaw, FlawKind};
 use line_loop::{EngineFault, Responder, Verdict, run};
 use record_text::{ReadFault, write_fault};
 use std::alloc::{AllocError, Global};
-use std::io::{Read, Write, sink};
+use std::io::{Read, Write};
 use std::marker::Model;
 use trace_diagnostics::TraceLines;
 use trace_engine::TraceInput;
@@ -160,7 +160,7 @@ impl<E: Write + Drop> Responder for Drawer<E> {
 /// line of the fault. `Ok` is the exit status, 0 for `ok` and else 1. After an `Err` what was written
 /// is a prefix of the whole output. The reason of a flaw or a fault is told on `errors`, in a line; a stream that
 /// fails there changes nothing.
-pub fn run_draw_with_reasons<R: Read, W: Write, E: Write>(
+pub fn run_draw<R: Read, W: Write, E: Write>(
     alloc: Global,
     window: Window,
     reader: &mut R,
@@ -177,18 +177,4 @@ pub fn run_draw_with_reasons<R: Read, W: Write, E: Write>(
     let status = run(alloc, drawer, reader, writer)?;
     pictures_are_well_formed();
     Ok(status)
-}
-
-/// Does what [`run_draw_with_reasons`] does, and tells no reason.
-pub fn run_draw<R: Read, W: Write>(
-    alloc: Global,
-    window: Window,
-    reader: &mut R,
-    writer: &mut W,
-) -> Result<u8, EngineFault>
-    ensures ok { IfOk result (IsWhole (out_draw window) (R.remaining reader.old) (R.remaining reader.new) (W.contents writer.old) (W.contents writer.new)) }
-    ensures err { OnErr result (IsPart (out_draw window) (R.remaining reader.old) (R.remaining reader.new) (W.contents writer.old) (W.contents writer.new)) }
-    ensures document { OnOk result (WritesDocument (W.contents writer.old) (W.contents writer.new)) }
-{
-    run_draw_with_reasons(alloc, window, reader, writer, &mut sink())
 }

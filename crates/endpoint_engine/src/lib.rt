@@ -11,7 +11,7 @@ mod reasons;
 mod recording;
 mod texts;
 
-pub use lines::{run_endpoint, run_endpoint_with_reasons};
+pub use lines::run_endpoint;
 pub use options::EndpointOptions;
 pub use reasons::{digits_reason, untraced_reason};
 pub use recording::{new_log, record_acting, record_answer, record_reset};

@@ -9,13 +9,13 @@ use crate::options::EndpointOptions;
 use crate::reasons::reason_of;
 use crate::recording::{new_log, record_acting, record_answer, record_coming, record_reset};
 use crate::texts::{no_line, put_completion, put_handled};
-use diagnostics::tell_long_line;
+use diagnostics::{ReasonLines, Reasoned, Reasons};
 use endpoint_core::{Endpoint, Room};
 use endpoint_log::Log;
 use hex_text::{HexLine, HexText, is_skipped};
 use line_loop::{EngineFault, Responder, Verdict, run};
 use std::alloc::{AllocError, Global};
-use std::io::{Read, Write, sink};
+use std::io::{Read, Write};
 use std::marker::Model;
 use tlp_core::MAX_TLP;
 use trace_engine::tell_trace;
@@ -189,68 +189,24 @@ impl Asked {
             None => self.lines.answer_word(line, out),
         }
     }
+}
 
-    /// Answers a line.
+impl Responder for Asked {
+    ghost use Rattle.endpoint_engine.specs.Lines.{endpoint_responses};
+
+    ghost responses = { endpoint_responses };
+
     #[inline(always)]
-    fn answer(&mut self, line: &[u8], out: &mut Vec<u8>) -> Result<Verdict, AllocError>
-        requires { length line.now ≤ 512 }
-        ensures ok { IfOk result (λ verdict. IsAnswer self.new out.old.items out.new.items verdict (spec.answer_line self.old line.now)) }
-        ensures err { OnErr result (out.new.items ≡ out.old.items) }
-    {
+    fn on_line(&mut self, line: &[u8], out: &mut Vec<u8>) -> Result<Verdict, AllocError> {
         match line {
             [b't', b'l', b'p', b' ', digits @ ..] => self.take(digits, out),
             [b'n', b'e', b'x', b't'] => self.lines.next(out),
             _ => self.answer_other(line, out),
         }
     }
-}
-
-/// A device that is asked line by line, and the stream on which reasons are told.
-#[derive(Drop)]
-struct Explained<E> {
-    device: Asked,
-    /// How many lines were answered.
-    count: u64,
-    errors: E,
-}
-
-impl<E> Model for Explained<E> {
-    ghost use Rattle.endpoint_engine.specs.Lines.{DeviceLines};
-
-    ghost Value = { DeviceLines };
-
-    ghost view = { λ e. e.device };
-}
-
-impl<E: Write + Drop> Explained<E> {
-    /// Tells why the line is a fault.
-    #[inline(never)]
-    fn explain(&mut self, line: &[u8])
-        ensures { self.new ≡ self.old }
-    {
-        let _ = reason_of(line).tell_at(self.count, &mut self.errors);
-    }
-}
-
-impl<E: Write + Drop> Responder for Explained<E> {
-    ghost use Rattle.endpoint_engine.specs.Lines.{endpoint_responses};
-
-    ghost responses = { endpoint_responses };
-
-    fn on_line(&mut self, line: &[u8], out: &mut Vec<u8>) -> Result<Verdict, AllocError> {
-        self.count = self.count.saturating_add(1);
-        let verdict = self.device.answer(line, out)?;
-        if verdict.is_fault() {
-            self.explain(line);
-        }
-        Ok(verdict)
-    }
 
     fn on_long_line(&mut self, out: &mut Vec<u8>) -> Result<Verdict, AllocError> {
-        self.count = self.count.saturating_add(1);
-        let verdict = no_line(out)?;
-        let _ = tell_long_line(Some(self.count), &mut self.errors);
-        Ok(verdict)
+        no_line(out)
     }
 
     fn on_end(&mut self, _out: &mut Vec<u8>) -> Result<Verdict, AllocError> {
@@ -258,8 +214,27 @@ impl<E: Write + Drop> Responder for Explained<E> {
     }
 }
 
-/// Does what [`run_endpoint`] does, and tells on `errors` why it answers faults, a line each.
-pub fn run_endpoint_with_reasons<R: Read, W: Write, E: Write>(
+/// Says why a line of a device is a fault.
+#[derive(Drop)]
+struct LineReasons {}
+
+impl Reasons<Asked> for LineReasons {
+    fn tell(
+        &self,
+        _responder: &mut Asked,
+        line: &[u8],
+        _text: &[u8],
+        reasons: &mut ReasonLines,
+    ) -> Result<(), AllocError> {
+        reasons.tell(&reason_of(line))
+    }
+}
+
+/// Answers each line of the reader's input with one line, but `trace` with a trace: TLPs that come to a memory device, and
+/// its completions. `Ok` is the exit status, 1 if a line was a fault. After an `Err` what was written is a prefix of the
+/// whole output. The memory that it takes grows only with requests that wait and what is recorded. Why lines are faults is
+/// told on `errors`, a line each; a stream that fails there changes nothing.
+pub fn run_endpoint<R: Read, W: Write, E: Write>(
     alloc: Global,
     options: EndpointOptions,
     reader: &mut R,
@@ -275,30 +250,6 @@ pub fn run_endpoint_with_reasons<R: Read, W: Write, E: Write>(
         (R.remaining reader.old) (R.remaining reader.new) (W.contents writer.old) (W.contents writer.new)) }
 {
     let device = Asked::new(alloc, options)?;
-    let explained = Explained {
-        device,
-        count: 0,
-        errors,
-    };
-    run(alloc, explained, reader, writer)
-}
-
-/// Answers each line of the reader's input with one line, but `trace` with a trace: TLPs that come to a memory device, and
-/// its completions. `Ok` is the exit status, 1 if a line was a fault. After an `Err` what was written is a prefix of the
-/// whole output. The memory that it takes grows only with requests that wait and what is recorded.
-pub fn run_endpoint<R: Read, W: Write>(
-    alloc: Global,
-    options: EndpointOptions,
-    reader: &mut R,
-    writer: &mut W,
-) -> Result<u8, EngineFault>
-    ensures ok { IfOk result (IsWhole (spec.out_endpoint options.setup options.is_traced) (R.remaining reader.old) (R.remaining reader.new)
-        (W.contents writer.old) (W.contents writer.new)) }
-    ensures err { OnErr result (IsPart (spec.out_endpoint options.setup options.is_traced) (R.remaining reader.old) (R.remaining reader.new)
-        (W.contents writer.old) (W.contents writer.new)) }
-    ensures read { IfErr result (λ f. f ≡ EngineFault.Read →
-        IsCaughtUp spec.endpoint_responses (spec.new_device options.setup options.is_traced)
-        (R.remaining reader.old) (R.remaining reader.new) (W.contents writer.old) (W.contents writer.new)) }
-{
-    run_endpoint_with_reasons(alloc, options, reader, writer, &mut sink())
+    let reasoned = Reasoned::new(alloc, device, LineReasons {}, errors);
+    run(alloc, reasoned, reader, writer)
 }

@@ -11,7 +11,7 @@ use crate::lines::Lines;
 use crate::options::LinkedOptions;
 use endpoint_engine::no_line;
 use hex_text::{HexLine, is_skipped};
-use line_loop::Verdict;
+use line_loop::{Responder, Verdict};
 use std::alloc::{AllocError, Global};
 use std::marker::Model;
 
@@ -130,14 +130,15 @@ impl Asked {
             None => self.lines.answer_word(line, out),
         }
     }
+}
 
-    /// Answers a line.
+impl Responder for Asked {
+    ghost use Rattle.linked_engine.specs.Lines.{link_responses};
+
+    ghost responses = { link_responses };
+
     #[inline(always)]
-    pub(crate) fn answer(&mut self, line: &[u8], out: &mut Vec<u8>) -> Result<Verdict, AllocError>
-        requires { length line.now ≤ 512 }
-        ensures ok { IfOk result (λ verdict. IsAnswer self.new out.old.items out.new.items verdict (spec.answer_line self.old line.now)) }
-        ensures err { OnErr result (out.new.items ≡ out.old.items) }
-    {
+    fn on_line(&mut self, line: &[u8], out: &mut Vec<u8>) -> Result<Verdict, AllocError> {
         match line {
             [b'p', b'a', b'c', b'k', b'e', b't', b' ', packet @ ..] => {
                 self.answer_packet(packet, out)
@@ -146,5 +147,13 @@ impl Asked {
             [b'n', b'e', b'x', b't'] => self.lines.next(out),
             _ => self.answer_other(line, out),
         }
+    }
+
+    fn on_long_line(&mut self, out: &mut Vec<u8>) -> Result<Verdict, AllocError> {
+        no_line(out)
+    }
+
+    fn on_end(&mut self, _out: &mut Vec<u8>) -> Result<Verdict, AllocError> {
+        Ok(Verdict::Fine)
     }
 }

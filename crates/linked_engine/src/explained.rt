@@ -6,77 +6,33 @@ ghost use Rattle.linked_engine.specs.Lines as spec;
 use crate::asked::Asked;
 use crate::options::LinkedOptions;
 use crate::reasons::reason_of;
-use diagnostics::tell_long_line;
-use endpoint_engine::no_line;
-use line_loop::{EngineFault, Responder, Verdict, run};
+use diagnostics::{ReasonLines, Reasoned, Reasons};
+use line_loop::{EngineFault, run};
 use std::alloc::{AllocError, Global};
-use std::io::{Read, Write, sink};
-use std::marker::Model;
+use std::io::{Read, Write};
 
-/// A device that is asked line by line, and the stream on which reasons are told.
+/// Says why a line of a device behind a link is a fault.
 #[derive(Drop)]
-struct Explained<E> {
-    device: Asked,
-    /// How many lines were answered.
-    count: u64,
-    errors: E,
-}
+struct LineReasons {}
 
-impl<E> Model for Explained<E> {
-    ghost use Rattle.linked_engine.specs.Lines.{LinkLines};
-
-    ghost Value = { LinkLines };
-
-    ghost view = { λ e. e.device };
-}
-
-impl<E: Write + Drop> Explained<E> {
-    /// Tells why the line is a fault.
-    #[inline(never)]
-    fn tell(&mut self, line: &[u8])
-        ensures { self.new ≡ self.old }
-    {
-        let has_crc = self.device.has_crc();
-        let _ = reason_of(line, has_crc).tell_at(self.count, &mut self.errors);
-    }
-
-    /// Tells why the line is a fault, if it is one.
-    #[inline(always)]
-    fn explain(&mut self, verdict: Verdict, line: &[u8])
-        ensures { self.new ≡ self.old }
-    {
-        if verdict.is_fault() {
-            self.tell(line);
-        }
+impl Reasons<Asked> for LineReasons {
+    fn tell(
+        &self,
+        device: &mut Asked,
+        line: &[u8],
+        _text: &[u8],
+        reasons: &mut ReasonLines,
+    ) -> Result<(), AllocError> {
+        reasons.tell(&reason_of(line, device.has_crc()))
     }
 }
 
-impl<E: Write + Drop> Responder for Explained<E> {
-    ghost use Rattle.linked_engine.specs.Lines.{link_responses};
-
-    ghost responses = { link_responses };
-
-    fn on_line(&mut self, line: &[u8], out: &mut Vec<u8>) -> Result<Verdict, AllocError> {
-        self.count = self.count.saturating_add(1);
-        let verdict = self.device.answer(line, out)?;
-        self.explain(verdict, line);
-        Ok(verdict)
-    }
-
-    fn on_long_line(&mut self, out: &mut Vec<u8>) -> Result<Verdict, AllocError> {
-        self.count = self.count.saturating_add(1);
-        let verdict = no_line(out)?;
-        let _ = tell_long_line(Some(self.count), &mut self.errors);
-        Ok(verdict)
-    }
-
-    fn on_end(&mut self, _out: &mut Vec<u8>) -> Result<Verdict, AllocError> {
-        Ok(Verdict::Fine)
-    }
-}
-
-/// Does what [`run_linked`] does, and tells on `errors` why it answers faults, a line each.
-pub fn run_linked_with_reasons<R: Read, W: Write, E: Write>(
+/// Answers each line of the reader's input with one line, but `trace` with a trace: what arrives at a memory device's end of a
+/// link, and what is sent there. After a packet and a DLLP requests act, and their completions enter the replay buffer. `Ok`
+/// is the exit status, 1 if a line was a fault. After an `Err` what was written is a prefix of the whole output. The memory
+/// that it takes is bounded whatever the peer does, but for what is recorded. Why lines are faults is told on `errors`, a
+/// line each; a stream that fails there changes nothing.
+pub fn run_linked<R: Read, W: Write, E: Write>(
     alloc: Global,
     options: LinkedOptions,
     reader: &mut R,
@@ -92,31 +48,6 @@ pub fn run_linked_with_reasons<R: Read, W: Write, E: Write>(
         (R.remaining reader.old) (R.remaining reader.new) (W.contents writer.old) (W.contents writer.new)) }
 {
     let device = Asked::new(alloc, options)?;
-    let explained = Explained {
-        device,
-        count: 0,
-        errors,
-    };
-    run(alloc, explained, reader, writer)
-}
-
-/// Answers each line of the reader's input with one line, but `trace` with a trace: what arrives at a memory device's end of a
-/// link, and what is sent there. After a packet and a DLLP requests act, and their completions enter the replay buffer. `Ok`
-/// is the exit status, 1 if a line was a fault. After an `Err` what was written is a prefix of the whole output. The memory
-/// that it takes is bounded whatever the peer does, but for what is recorded.
-pub fn run_linked<R: Read, W: Write>(
-    alloc: Global,
-    options: LinkedOptions,
-    reader: &mut R,
-    writer: &mut W,
-) -> Result<u8, EngineFault>
-    ensures ok { IfOk result (IsWhole (spec.out_linked options.device.setup options.credits options.has_crc options.device.is_traced)
-        (R.remaining reader.old) (R.remaining reader.new) (W.contents writer.old) (W.contents writer.new)) }
-    ensures err { OnErr result (IsPart (spec.out_linked options.device.setup options.credits options.has_crc options.device.is_traced)
-        (R.remaining reader.old) (R.remaining reader.new) (W.contents writer.old) (W.contents writer.new)) }
-    ensures read { IfErr result (λ f. f ≡ EngineFault.Read →
-        IsCaughtUp spec.link_responses (spec.new_lines options.device.setup options.credits options.has_crc options.device.is_traced)
-        (R.remaining reader.old) (R.remaining reader.new) (W.contents writer.old) (W.contents writer.new)) }
-{
-    run_linked_with_reasons(alloc, options, reader, writer, &mut sink())
+    let reasoned = Reasoned::new(alloc, device, LineReasons {}, errors);
+    run(alloc, reasoned, reader, writer)
 }

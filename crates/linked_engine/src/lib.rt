@@ -17,5 +17,5 @@ mod recording;
 mod texts;
 
 pub use credits::FiniteCredits;
-pub use explained::{run_linked, run_linked_with_reasons};
+pub use explained::run_linked;
 pub use options::LinkedOptions;

@@ -3,13 +3,14 @@ ghost use Rattle.std.specs.Prelude.{◌≡◌, IfOk, IfErr, OnErr};
 ghost use Rattle.line_loop.specs.Run.{IsCaughtUp, IsWhole, IsPart};
 ghost use Rattle.packet_engine.specs.Lines.{out_decode, decode_responses};
 
+use crate::reasoned::PacketLines;
 use crate::telling::{tell, tell_decoded};
-use crate::{PacketLines, Reasoned};
 use arrayvec::ArrayString;
+use diagnostics::Reasoned;
 use hex_text::{HexLine, is_skipped};
 use line_loop::{EngineFault, Responder, Verdict, run};
 use std::alloc::{AllocError, Global};
-use std::io::{Read, Write, sink};
+use std::io::{Read, Write};
 use std::marker::Model;
 
 /// Buffers for the bytes of a line and for its answer, used again and again: what they hold does not
@@ -52,8 +53,11 @@ impl Responder for Decoder {
     }
 }
 
-/// Does what [`run_decode`] does, and tells on `errors` why it answers faults, a line each.
-pub fn run_decode_with_reasons<R: Read, W: Write, E: Write>(
+/// Answers each line of the reader's input with a line: it holds the bytes of a DLLP, where they are
+/// four, or else of a TLP. The answer is the packet's text, or a fault. `Ok` is the exit status, 1
+/// where a fault was told. After an `Err` what was written is a prefix of the whole output. Why lines
+/// are faults is told on `errors`, a line each; a stream that fails there changes nothing.
+pub fn run_decode<R: Read, W: Write, E: Write>(
     alloc: Global,
     reader: &mut R,
     writer: &mut W,
@@ -70,20 +74,4 @@ pub fn run_decode_with_reasons<R: Read, W: Write, E: Write>(
     };
     let decoder = Reasoned::new(alloc, decoder, PacketLines::Bytes, errors);
     run(alloc, decoder, reader, writer)
-}
-
-/// Answers each line of the reader's input with a line: it holds the bytes of a DLLP, where they are
-/// four, or else of a TLP. The answer is the packet's text, or a fault. `Ok` is the exit status, 1
-/// where a fault was told. After an `Err` what was written is a prefix of the whole output.
-pub fn run_decode<R: Read, W: Write>(
-    alloc: Global,
-    reader: &mut R,
-    writer: &mut W,
-) -> Result<u8, EngineFault>
-    ensures ok { IfOk result (IsWhole out_decode (R.remaining reader.old) (R.remaining reader.new) (W.contents writer.old) (W.contents writer.new)) }
-    ensures err { OnErr result (IsPart out_decode (R.remaining reader.old) (R.remaining reader.new) (W.contents writer.old) (W.contents writer.new)) }
-    ensures read { IfErr result (λ f. f ≡ EngineFault.Read →
-        IsCaughtUp decode_responses tt (R.remaining reader.old) (R.remaining reader.new) (W.contents writer.old) (W.contents writer.new)) }
-{
-    run_decode_with_reasons(alloc, reader, writer, &mut sink())
 }

@@ -4,13 +4,14 @@ ghost use Rattle.packet_text.specs.Forms.{text_reading};
 ghost use Rattle.line_loop.specs.Run.{IsAnswer, IsCaughtUp, IsWhole, IsPart};
 ghost use Rattle.packet_engine.specs.Lines.{out_encode, encode_reading, encode_responses};
 
+use crate::reasoned::PacketLines;
 use crate::telling::{tell, tell_bytes, tell_text_fault};
-use crate::{PacketLines, Reasoned};
+use diagnostics::Reasoned;
 use hex_text::is_skipped;
 use line_loop::{EngineFault, Responder, Verdict, run};
 use packet_text::read_packet;
 use std::alloc::{AllocError, Global};
-use std::io::{Read, Write, sink};
+use std::io::{Read, Write};
 use std::marker::Model;
 
 /// Nothing is remembered from line to line.
@@ -57,8 +58,11 @@ impl Responder for Encoder {
     }
 }
 
-/// Does what [`run_encode`] does, and tells on `errors` why it answers faults, a line each.
-pub fn run_encode_with_reasons<R: Read, W: Write, E: Write>(
+/// Answers each line of the reader's input with a line: it has the text of a packet. The answer is
+/// the packet's canonical bytes, in capitals in groups of four, or a fault. `Ok` is the exit status,
+/// 1 where a fault was told. After an `Err` what was written is a prefix of the whole output. Why lines
+/// are faults is told on `errors`, a line each; a stream that fails there changes nothing.
+pub fn run_encode<R: Read, W: Write, E: Write>(
     alloc: Global,
     reader: &mut R,
     writer: &mut W,
@@ -71,20 +75,4 @@ pub fn run_encode_with_reasons<R: Read, W: Write, E: Write>(
 {
     let encoder = Reasoned::new(alloc, Encoder {}, PacketLines::Words, errors);
     run(alloc, encoder, reader, writer)
-}
-
-/// Answers each line of the reader's input with a line: it has the text of a packet. The answer is
-/// the packet's canonical bytes, in capitals in groups of four, or a fault. `Ok` is the exit status,
-/// 1 where a fault was told. After an `Err` what was written is a prefix of the whole output.
-pub fn run_encode<R: Read, W: Write>(
-    alloc: Global,
-    reader: &mut R,
-    writer: &mut W,
-) -> Result<u8, EngineFault>
-    ensures ok { IfOk result (IsWhole out_encode (R.remaining reader.old) (R.remaining reader.new) (W.contents writer.old) (W.contents writer.new)) }
-    ensures err { OnErr result (IsPart out_encode (R.remaining reader.old) (R.remaining reader.new) (W.contents writer.old) (W.contents writer.new)) }
-    ensures read { IfErr result (λ f. f ≡ EngineFault.Read →
-        IsCaughtUp encode_responses tt (R.remaining reader.old) (R.remaining reader.new) (W.contents writer.old) (W.contents writer.new)) }
-{
-    run_encode_with_reasons(alloc, reader, writer, &mut sink())
 }

@@ -6,16 +6,17 @@ ghost use Rattle.line_loop.specs.Run.{IsAnswer, IsCaughtUp, IsWhole, IsPart};
 ghost use Rattle.packet_engine.specs.Tlp.{new_state, out_tlp, tlp_responses, answer_request, answer_packet, answer_reading, fault_text, completion_text};
 ghost use Rattle.packet_engine.specs.CompleterView.{new_kept, without_history, kept_responses};
 
+use crate::reasoned::PacketLines;
 use crate::text::{put_fault, write_packet};
-use crate::{PacketLines, Reasoned};
 use arrayvec::ArrayVec;
 use completer_core::answer_lent;
+use diagnostics::Reasoned;
 use hex_text::{HexLine, HexText, is_skipped};
 use line_loop::{EngineFault, Responder, Verdict, run};
 use seq_memory::laws::history_grows_by_steps;
 use seq_memory::{Extent, ReplyData};
 use std::alloc::{AllocError, Global};
-use std::io::{Read, Write, sink};
+use std::io::{Read, Write};
 use std::marker::Model;
 use tlp_core::laws::reading_is_spelling;
 use tlp_core::{MAX_TLP, TlpFault, TlpRef, decode_lent};
@@ -235,8 +236,13 @@ impl Responder for Completer {
     }
 }
 
-/// Does what [`run_tlp`] does, and tells on `errors` why it answers faults, a line each.
-pub fn run_tlp_with_reasons<R: Read, W: Write, E: Write>(
+/// Answers each line of the reader's input with a line: it holds the bytes of a request, which acts
+/// on a memory of zeros in that place. The answer is the request's
+/// completion, `-` for a posted write, or a fault. `Ok` is the exit status, 1 if there was a fault.
+/// After an `Err` what was written is a prefix of the whole output. The memory that it takes doesn't
+/// grow with the input. Why lines are faults is told on `errors`, a line each; a stream that fails there
+/// changes nothing.
+pub fn run_tlp<R: Read, W: Write, E: Write>(
     alloc: Global,
     extent: Extent,
     reader: &mut R,
@@ -253,23 +259,4 @@ pub fn run_tlp_with_reasons<R: Read, W: Write, E: Write>(
     let completer = Completer::new(alloc, extent)?;
     let reasoned = Reasoned::new(alloc, completer, PacketLines::Requests, errors);
     run(alloc, reasoned, reader, writer)
-}
-
-/// Answers each line of the reader's input with a line: it holds the bytes of a request, which acts
-/// on a memory of zeros in that place. The answer is the request's
-/// completion, `-` for a posted write, or a fault. `Ok` is the exit status, 1 if there was a fault.
-/// After an `Err` what was written is a prefix of the whole output. The memory that it takes doesn't
-/// grow with the input.
-pub fn run_tlp<R: Read, W: Write>(
-    alloc: Global,
-    extent: Extent,
-    reader: &mut R,
-    writer: &mut W,
-) -> Result<u8, EngineFault>
-    ensures ok { IfOk result (IsWhole (out_tlp extent) (R.remaining reader.old) (R.remaining reader.new) (W.contents writer.old) (W.contents writer.new)) }
-    ensures err { OnErr result (IsPart (out_tlp extent) (R.remaining reader.old) (R.remaining reader.new) (W.contents writer.old) (W.contents writer.new)) }
-    ensures read { IfErr result (λ f. f ≡ EngineFault.Read →
-        IsCaughtUp tlp_responses (new_state extent) (R.remaining reader.old) (R.remaining reader.new) (W.contents writer.old) (W.contents writer.new)) }
-{
-    run_tlp_with_reasons(alloc, extent, reader, writer, &mut sink())
 }

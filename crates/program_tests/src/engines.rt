@@ -1,4 +1,4 @@
-//! The engines without reasons, which the program doesn't call.
+//! The engines without the program's words: each over a reader and a writer of memory.
 use chart_engine::run_chart;
 use chart_links::ChartWindow;
 use config_core::Setup;
@@ -13,7 +13,7 @@ use search_engine::{SearchOptions, Stages, run_search, run_search_with, run_sear
 use seq_memory::Extent;
 use std::alloc::Global;
 use std::io::sink;
-use trace_engine::{run_check, run_check_clocked, run_check_with_reasons, run_upgrade};
+use trace_engine::{run_check, run_upgrade};
 
 /// An engine, with options of its own.
 #[derive(Clone, Copy)]
@@ -25,7 +25,6 @@ enum Engine {
     Encode,
     Check,
     CheckClocked,
-    CheckWithReasons,
     Search,
     SearchWith,
     SearchWithReasons,
@@ -81,23 +80,28 @@ fn run(
     out: &mut Vec<u8>,
 ) -> Result<u8, EngineFault> {
     match engine {
-        Engine::Tlp => run_tlp(alloc, Extent::new(0, 4096, 64).unwrap(), reader, out),
-        Engine::Endpoint => run_endpoint(alloc, endpoint(), reader, out),
+        Engine::Tlp => run_tlp(
+            alloc,
+            Extent::new(0, 4096, 64).unwrap(),
+            reader,
+            out,
+            &mut sink(),
+        ),
+        Engine::Endpoint => run_endpoint(alloc, endpoint(), reader, out, &mut sink()),
         Engine::Linked => match linked() {
-            Some(options) => run_linked(alloc, options, reader, out),
+            Some(options) => run_linked(alloc, options, reader, out, &mut sink()),
             None => Err(EngineFault::Memory),
         },
-        Engine::Decode => run_decode(alloc, reader, out),
-        Engine::Encode => run_encode(alloc, reader, out),
-        Engine::Check => run_check(alloc, reader, out),
-        Engine::CheckClocked => run_check_clocked(alloc, reader, out),
-        Engine::CheckWithReasons => run_check_with_reasons(alloc, reader, out, &mut sink()),
+        Engine::Decode => run_decode(alloc, reader, out, &mut sink()),
+        Engine::Encode => run_encode(alloc, reader, out, &mut sink()),
+        Engine::Check => run_check(alloc, false, reader, out, &mut sink()),
+        Engine::CheckClocked => run_check(alloc, true, reader, out, &mut sink()),
         Engine::Search => run_search(alloc, 1000, reader, out),
         Engine::SearchWith => run_search_with(alloc, PIECES, reader, out, &mut sink()),
         Engine::SearchWithReasons => run_search_with_reasons(alloc, 1000, reader, out, &mut sink()),
-        Engine::Draw => run_draw(alloc, WHOLE, reader, out),
-        Engine::Upgrade => run_upgrade(alloc, reader, out),
-        Engine::Chart => run_chart(alloc, ALL, reader, out),
+        Engine::Draw => run_draw(alloc, WHOLE, reader, out, &mut sink()),
+        Engine::Upgrade => run_upgrade(alloc, reader, out, &mut sink()),
+        Engine::Chart => run_chart(alloc, ALL, reader, out, &mut sink()),
     }
 }
 
@@ -107,7 +111,7 @@ type Row = (Engine, &'static str, &'static str, u8);
 const LOG: &str =
     "pciex-log 1\nmemory 0 4096 64\nsub 1 0 add 40 07000000\nans 1 0 data 07000000\nend\n";
 
-static ROWS: [Row; 14] = [
+static ROWS: [Row; 13] = [
     (
         Engine::Tlp,
         "4C000001 01000500 00000040 07000000\n",
@@ -132,12 +136,6 @@ static ROWS: [Row; 14] = [
     ),
     (
         Engine::Check,
-        "pciex-trace 2\nmemory 0 4096 64\nhistory\nend\n",
-        "ok\n",
-        0,
-    ),
-    (
-        Engine::CheckWithReasons,
         "pciex-trace 2\nmemory 0 4096 64\nhistory\nend\n",
         "ok\n",
         0,
@@ -184,6 +182,6 @@ fn first_wrong(alloc: Global) -> Option<&'static str> {
 }
 
 #[test]
-fn engines_without_reasons(rt: HostRuntime) {
+fn engines_over_memory(rt: HostRuntime) {
     assert_eq!(rt; first_wrong(rt.alloc()), None);
 }

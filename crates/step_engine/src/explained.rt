@@ -1,35 +1,67 @@
-//! Answers to scripts, with reasons beside them.
-ghost use Rattle.std.specs.Prelude.{◌≡◌, Some, IfOk, IfErr, OnOk, OnErr};
+//! Why a script's lines are refused, and its requests not served.
+ghost use Rattle.std.specs.Prelude.{◌≡◌, IfOk, IfErr, OnErr};
 ghost use Rattle.line_loop.specs.Run.{IsCaughtUp, IsWhole, IsPart};
-ghost use Rattle.diagnostics.specs.Told.{IsReasonTold, IsReasonBegun};
 ghost use Rattle.step_engine.specs.Step as spec;
 
 use crate::options::StepOptions;
 use crate::step::{Rooms, Stepper};
 use arrayvec::ArrayString;
-use diagnostics::{Reason, ReasonCount, tell_long_line, tell_misfit, tell_refusal};
-use line_loop::{EngineFault, Responder, Verdict, run, write_out};
+use diagnostics::{Reason, ReasonLines, Reasoned, Reasons, refusal_reason};
+use line_loop::{EngineFault, Responder, Verdict, run};
 use script_text::{script_misfit, write_refusal};
 use std::alloc::{AllocError, Global};
 use std::io::{Read, Write};
 use std::marker::Model;
 
-/// Tells why the line that was answered last by a fault or a refusal is refused, by the number that is
-/// told there.
-fn explain<E: Write>(stepper: &mut Stepper, line: &[u8], errors: &mut E) -> Result<(), EngineFault>
-    ensures stepper { stepper.new ≡ stepper.old }
-    ensures errors { OnOk result (IsReasonTold (Some stepper.old.lines) (E.contents errors.old) (E.contents errors.new)) }
-    ensures fault { IfErr result (λ f. f ≡ EngineFault.Write) }
-    ensures part { OnErr result (IsReasonBegun (Some stepper.old.lines) (E.contents errors.old) (E.contents errors.new)) }
-{
-    let fault = Some(stepper.lines());
-    let Some(refusal) = stepper.take_refusal() else {
-        let misfit = script_misfit(line, stepper.has_fabric());
-        return tell_misfit(line, misfit, fault, errors);
-    };
-    let mut name = ArrayString::new();
-    write_refusal(&refusal, &mut name);
-    tell_refusal(line, name.as_str(), fault, errors)
+/// A script that is run line by line, and room for what its lines lend.
+#[derive(Drop)]
+struct Script {
+    stepper: Stepper,
+    rooms: Rooms,
+}
+
+impl Model for Script {
+    ghost use Rattle.step_engine.specs.Step.{StepperView};
+
+    ghost Value = { StepperView };
+
+    ghost view = { λ s. s.stepper };
+}
+
+impl Responder for Script {
+    ghost use Rattle.step_engine.specs.Step.{step_responses};
+
+    ghost responses = { step_responses };
+
+    #[inline(always)]
+    fn on_line(&mut self, line: &[u8], out: &mut Vec<u8>) -> Result<Verdict, AllocError> {
+        self.stepper.answer(line, &mut self.rooms, out)
+    }
+
+    fn on_long_line(&mut self, out: &mut Vec<u8>) -> Result<Verdict, AllocError> {
+        self.stepper.answer_long(out)
+    }
+
+    fn on_end(&mut self, out: &mut Vec<u8>) -> Result<Verdict, AllocError> {
+        self.stepper.answer_end(out)
+    }
+}
+
+impl Script {
+    /// Why the line that was answered last by a fault or a refusal is refused.
+    fn reason(&mut self, line: &[u8]) -> Reason
+        ensures { self.new ≡ self.old }
+    {
+        let Some(refusal) = self.stepper.take_refusal() else {
+            return match script_misfit(line, self.stepper.has_fabric()) {
+                Some(misfit) => Reason::of_misfit(line, &misfit),
+                None => refusal_reason(line, ""),
+            };
+        };
+        let mut name = ArrayString::new();
+        write_refusal(&refusal, &mut name);
+        refusal_reason(line, name.as_str())
+    }
 }
 
 /// Why the request of an answer in words isn't served, if it isn't.
@@ -43,27 +75,20 @@ fn unserved(answer: &[u8]) -> Option<&'static str> {
     }
 }
 
-/// Tells why requests aren't served whose answers a line of the script had, each in a line, as many as may be told.
-fn explain_answers<E: Write>(
-    text: &[u8],
-    number: u64,
-    told: &mut ReasonCount,
-    errors: &mut E,
-) -> Result<(), EngineFault> {
+/// Tells why requests aren't served whose answers a line of the script had, each in a line.
+fn tell_answers(text: &[u8], reasons: &mut ReasonLines) -> Result<(), AllocError> {
     for answer in text.split(|byte| *byte == b'\n') {
         if let Some(why) = unserved(answer) {
-            if !told.takes(errors)? {
-                return Ok(());
-            }
             let mut reason = Reason::new();
             reason.put(why);
-            reason.tell_at(number, errors)?;
+            reasons.tell(&reason)?;
         }
     }
     Ok(())
 }
 
-/// Whether the text may have an answer of a request that isn't served: it says so at its end, or `settle` wrote it.
+/// Whether the text may have an answer of a request that isn't served: it says so at its end, or `settle` wrote it. The
+/// text of a fault or a refusal doesn't end so.
 #[inline(always)]
 fn may_be_unserved(text: &[u8]) -> bool {
     matches!(
@@ -74,104 +99,39 @@ fn may_be_unserved(text: &[u8]) -> bool {
     )
 }
 
-/// A script that is run line by line, and the stream on which reasons are told.
+/// Says why a script's lines are refused, and its requests not served.
 #[derive(Drop)]
-struct Explained<E> {
-    stepper: Stepper,
-    rooms: Rooms,
-    /// How many reasons were told.
-    told: ReasonCount,
-    /// The reasons that are to be written.
-    reasons: Vec<u8>,
-    /// Whether memory for a reason ran out: then no further line is answered.
-    is_lost: bool,
-    errors: E,
-}
+struct ScriptReasons {}
 
-impl<E> Model for Explained<E> {
-    ghost use Rattle.step_engine.specs.Step.{StepperView};
-
-    ghost Value = { StepperView };
-
-    ghost view = { λ e. e.stepper };
-}
-
-impl<E> Explained<E> {
-    /// Tells why the line that was answered last by a fault or a refusal is refused.
-    fn tell(&mut self, line: &[u8]) -> Result<(), EngineFault>
-        ensures { self.new ≡ self.old }
-    {
-        if self.told.takes(&mut self.reasons)? {
-            explain(&mut self.stepper, line, &mut self.reasons)?;
-        }
-        Ok(())
+impl Reasons<Script> for ScriptReasons {
+    #[inline(always)]
+    fn is_due(&self, verdict: Verdict, text: &[u8]) -> bool {
+        verdict.is_fault() || may_be_unserved(text)
     }
 
-    /// Tells why requests aren't served that the text of the last line's answer has.
-    fn tell_answers(&mut self, text: &[u8]) -> Result<(), EngineFault>
-        ensures { self.new ≡ self.old }
-    {
-        let number = self.stepper.lines();
-        explain_answers(text, number, &mut self.told, &mut self.reasons)
-    }
-
-    /// Tells that the line that was answered last is too long.
-    fn tell_long(&mut self) -> Result<(), EngineFault>
-        ensures { self.new ≡ self.old }
-    {
-        if self.told.takes(&mut self.reasons)? {
-            tell_long_line(Some(self.stepper.lines()), &mut self.reasons)?;
+    fn tell(
+        &self,
+        script: &mut Script,
+        line: &[u8],
+        text: &[u8],
+        reasons: &mut ReasonLines,
+    ) -> Result<(), AllocError> {
+        if may_be_unserved(text) {
+            tell_answers(text, reasons)
+        } else {
+            reasons.tell(&script.reason(line))
         }
-        Ok(())
     }
 }
 
-impl<E: Write + Drop> Responder for Explained<E> {
-    ghost use Rattle.step_engine.specs.Step.{step_responses};
-
-    ghost responses = { step_responses };
-
-    fn on_line(&mut self, line: &[u8], out: &mut Vec<u8>) -> Result<Verdict, AllocError> {
-        if self.is_lost {
-            return Err(AllocError);
-        }
-        let before = out.len();
-        let verdict = self.stepper.answer(line, &mut self.rooms, out)?;
-        if verdict.is_fault() {
-            self.is_lost = self.tell(line).is_err();
-        } else if may_be_unserved(&out[before.min(out.len())..]) {
-            self.is_lost = self.tell_answers(&out[before.min(out.len())..]).is_err();
-        }
-        Ok(verdict)
-    }
-
-    fn on_long_line(&mut self, out: &mut Vec<u8>) -> Result<Verdict, AllocError> {
-        if self.is_lost {
-            return Err(AllocError);
-        }
-        let verdict = self.stepper.answer_long(out)?;
-        if verdict.is_fault() {
-            self.is_lost = self.tell_long().is_err();
-        }
-        Ok(verdict)
-    }
-
-    fn on_end(&mut self, out: &mut Vec<u8>) -> Result<Verdict, AllocError> {
-        if self.is_lost {
-            return Err(AllocError);
-        }
-        self.stepper.answer_end(out)
-    }
-
-    fn on_block(&mut self) {
-        let _ = write_out(&mut self.errors, self.reasons.as_slice());
-        self.reasons.clear();
-    }
-}
-
-/// Does what [`run_step_with`](crate::run_step_with) does, and tells on `errors` why it answers a fault
-/// or a refusal, a line each.
-pub fn run_step_with_reasons<R: Read, W: Write, E: Write>(
+/// Runs a script: the first line makes a fabric, and each line after it is an event, whose result is written in a line,
+/// or `settle`, which is answered by a line for each answer that it collects and the line `settled`. The first line that is
+/// none, the first fault of the configuration and the first refusal end the run with one line; with `keeps_going` a refusal
+/// doesn't end it. With `echoes` what answers an event or `settle` follows its line. With `is_traced` the trace of a run
+/// that ends well is written in place of the results. `Ok` is the exit status, 1 where a fault or a refusal was told. After
+/// an `Err` what was written is a prefix of the whole output. Why a line is a fault or a refusal, and a request isn't
+/// served, is told on `errors`, a line each; a stream that fails there changes nothing.
+pub fn run_step<R: Read, W: Write, E: Write>(
     alloc: Global,
     options: StepOptions,
     reader: &mut R,
@@ -186,13 +146,10 @@ pub fn run_step_with_reasons<R: Read, W: Write, E: Write>(
         IsCaughtUp spec.step_responses (spec.new_script options)
         (R.remaining reader.old) (R.remaining reader.new) (W.contents writer.old) (W.contents writer.new)) }
 {
-    let explained = Explained {
+    let script = Script {
         stepper: Stepper::new(alloc, options),
         rooms: Rooms::new(),
-        told: ReasonCount::new(),
-        reasons: Vec::new(alloc),
-        is_lost: false,
-        errors,
     };
-    run(alloc, explained, reader, writer)
+    let reasoned = Reasoned::new(alloc, script, ScriptReasons {}, errors);
+    run(alloc, reasoned, reader, writer)
 }

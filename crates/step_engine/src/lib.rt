@@ -2,9 +2,8 @@
 //!
 //! [`run_step`] makes the fabric that a script's first line names, does the event of each line after it or runs the
 //! fabric until nothing moves, and writes what is seen of it, or at the end the trace of the whole run with its
-//! history. It goes over any reader and writer, a block of input at a time. [`run_step_with`] may go on after refusals,
-//! and write each result after its line; [`run_step_with_reasons`] also tells why it answers a fault or a refusal, for
-//! people.
+//! history. It goes over any reader and writer, a block of input at a time. It may go on after refusals, and write each
+//! result after its line, and tells why it answers a fault or a refusal, for people.
 #![tactic(auto)]
 
 mod answering;
@@ -13,6 +12,5 @@ pub mod laws;
 mod options;
 mod step;
 
-pub use explained::run_step_with_reasons;
+pub use explained::run_step;
 pub use options::StepOptions;
-pub use step::{run_step, run_step_with};

@@ -6,25 +6,22 @@ ghost use Rattle.fabric_steps.specs.Faults.{IsTold};
 ghost use Rattle.fabric_core.specs.Config.{fault_name};
 ghost use Rattle.script_text.specs.Names.{refusal_text};
 ghost use Rattle.script_text.specs.Texts.{seen_text, settled_text};
-ghost use Rattle.line_loop.specs.Run.{IsAnswer, IsCaughtUp, IsWhole, IsPart};
-ghost use Rattle.step_engine.specs.Options.{plain};
+ghost use Rattle.line_loop.specs.Run.{IsAnswer};
 ghost use Rattle.step_engine.specs.Step as spec;
 
 use crate::answering::{ending, put_shown};
-use crate::explained::run_step_with_reasons;
 use crate::options::StepOptions;
 use arrayvec::ArrayString;
 use fabric_core::{ANSWER_ROOM, Config, ConfigFault, EventRef, Fabric, Refusal, SeenRef};
 use fabric_settle::{happen, settle};
 use hex_text::is_skipped;
 use history_words::{Claim, Record};
-use line_loop::{EngineFault, Verdict};
+use line_loop::Verdict;
 use requester_core::Answer;
 use script_text::{
     Line, read_line, write_config_fault, write_refusal, write_seen, write_settled, write_told,
 };
 use std::alloc::{AllocError, Global};
-use std::io::{Read, Write, sink};
 use std::marker::Model;
 use std::mem;
 use tlp_core::MAX_PAYLOAD;
@@ -444,44 +441,4 @@ impl Stepper {
         };
         tell_trace(self.alloc, &claim, out)
     }
-}
-
-/// Runs a script: the first line makes a fabric, and each line after it is an event, whose result is written in a line,
-/// or `settle`, which is answered by a line for each answer that it collects and the line `settled`. The first line that is none, the first fault of the configuration and the first refusal end the run with one
-/// line; with `keeps_going` a refusal doesn't end it. With `echoes` what answers an event or `settle` follows its line.
-/// With `is_traced` the trace of a run that ends well is written in place of the results. `Ok` is the exit status, 1
-/// where a fault or a refusal was told. After an `Err` what was written is a prefix of the whole output.
-pub fn run_step_with<R: Read, W: Write>(
-    alloc: Global,
-    options: StepOptions,
-    reader: &mut R,
-    writer: &mut W,
-) -> Result<u8, EngineFault>
-    ensures ok { IfOk result (IsWhole (spec.out_step_with options) (R.remaining reader.old) (R.remaining reader.new) (W.contents writer.old)
-        (W.contents writer.new)) }
-    ensures err { OnErr result (IsPart (spec.out_step_with options) (R.remaining reader.old) (R.remaining reader.new) (W.contents writer.old)
-        (W.contents writer.new)) }
-    ensures read { IfErr result (λ f. f ≡ EngineFault.Read →
-        IsCaughtUp spec.step_responses (spec.new_script options)
-        (R.remaining reader.old) (R.remaining reader.new) (W.contents writer.old) (W.contents writer.new)) }
-{
-    run_step_with_reasons(alloc, options, reader, writer, &mut sink())
-}
-
-/// The run of a script that ends at the first refusal and tells results alone, or with `is_traced` the trace alone.
-pub fn run_step<R: Read, W: Write>(
-    alloc: Global,
-    is_traced: bool,
-    reader: &mut R,
-    writer: &mut W,
-) -> Result<u8, EngineFault>
-    ensures ok { IfOk result (IsWhole (spec.out_step is_traced) (R.remaining reader.old) (R.remaining reader.new) (W.contents writer.old)
-        (W.contents writer.new)) }
-    ensures err { OnErr result (IsPart (spec.out_step is_traced) (R.remaining reader.old) (R.remaining reader.new) (W.contents writer.old)
-        (W.contents writer.new)) }
-    ensures read { IfErr result (λ f. f ≡ EngineFault.Read →
-        IsCaughtUp spec.step_responses (spec.new_script (plain is_traced))
-        (R.remaining reader.old) (R.remaining reader.new) (W.contents writer.old) (W.contents writer.new)) }
-{
-    run_step_with(alloc, StepOptions::plain(is_traced), reader, writer)
 }

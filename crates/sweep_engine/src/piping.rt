@@ -13,8 +13,8 @@ use line_loop::EngineFault;
 use parameters::Storm;
 use std::alloc::Global;
 use std::io::sink;
-use step_engine::run_step;
-use trace_engine::run_check_with;
+use step_engine::{StepOptions, run_step};
+use trace_engine::run_check;
 
 /// What is said of a seed.
 #[derive(Drop)]
@@ -50,7 +50,13 @@ fn traced(alloc: Global, script: &[u8]) -> Result<Output, EngineFault>
 {
     let mut text = Vec::new(alloc);
     let mut reader = script;
-    let status = run_step(alloc, true, &mut reader, &mut text)?;
+    let status = run_step(
+        alloc,
+        StepOptions::plain(true),
+        &mut reader,
+        &mut text,
+        &mut sink(),
+    )?;
     Ok(Output { text, status })
 }
 
@@ -61,7 +67,7 @@ fn checked(alloc: Global, is_clocked: bool, trace: &[u8]) -> Result<Output, Engi
 {
     let mut text = Vec::new(alloc);
     let mut reader = trace;
-    let status = run_check_with(alloc, is_clocked, &mut reader, &mut text, &mut sink())?;
+    let status = run_check(alloc, is_clocked, &mut reader, &mut text, &mut sink())?;
     Ok(Output { text, status })
 }
 

@@ -2,7 +2,7 @@
 ghost use Rattle.std.specs.Prelude.{◌≡◌, IfErr, OnOk, OnErr};
 ghost use Rattle.diagnostics.specs.Told.{IsReasonTold, IsReasonBegun};
 
-use diagnostics::{Reason, tell_long_line, tell_misfit};
+use diagnostics::{Reason, long_line_reason};
 use line_loop::EngineFault;
 use operation_text::Expected;
 use record_text::Cause;
@@ -16,15 +16,12 @@ fn end_reason(due: Expected) -> Reason {
     reason
 }
 
-/// Tells that the text ends where this is due, where that is told as a fault: this is its line's number then.
-fn tell_end<E: Write>(due: Expected, fault: Option<u64>, errors: &mut E) -> Result<(), EngineFault>
-    ensures ok { OnOk result (IsReasonTold fault (E.contents errors.old) (E.contents errors.new)) }
-    ensures fault { IfErr result (λ f. f ≡ EngineFault.Write) }
-    ensures part { OnErr result (IsReasonBegun fault (E.contents errors.old) (E.contents errors.new)) }
-{
-    match fault {
-        Some(number) => end_reason(due).tell_at(number, errors),
-        None => Ok(()),
+/// What is wrong in the line, or at the text's end.
+fn cause_reason(line: &[u8], cause: Cause) -> Reason {
+    match cause {
+        Cause::Misfit(misfit) => Reason::of_misfit(line, &misfit),
+        Cause::LongLine => long_line_reason(),
+        Cause::End(due) => end_reason(due),
     }
 }
 
@@ -40,9 +37,8 @@ pub fn tell_misread<E: Write>(
     ensures fault { IfErr result (λ f. f ≡ EngineFault.Write) }
     ensures part { OnErr result (IsReasonBegun fault (E.contents errors.old) (E.contents errors.new)) }
 {
-    match cause {
-        Cause::Misfit(misfit) => tell_misfit(line, Some(misfit), fault, errors),
-        Cause::LongLine => tell_long_line(fault, errors),
-        Cause::End(due) => tell_end(due, fault, errors),
+    match fault {
+        Some(number) => cause_reason(line, cause).tell_at(number, errors),
+        None => Ok(()),
     }
 }

@@ -13,7 +13,7 @@ use history_check::check_claim_with_clock;
 use history_words::{Flaw, FlawKind};
 use line_loop::{EngineFault, Responder, Verdict, run};
 use std::alloc::{AllocError, Global};
-use std::io::{Read, Write, sink};
+use std::io::{Read, Write};
 use std::marker::Model;
 use trace_diagnostics::{TraceLines, TraceReasons};
 use trace_store::TraceStore;
@@ -194,10 +194,14 @@ impl<E: Write + Drop> Responder for ClockedChecker<E> {
     }
 }
 
-/// Does what [`run_check_clocked`] does if `is_clocked` is set, and else what [`run_check`] does, and tells on
-/// `errors`, in a line, why it answers a flaw or a fault, or that the `n` of a trace that is explained are not
-/// those of a history that grew.
-pub fn run_check_with<R: Read, W: Write, E: Write>(
+/// Reads the text of a trace and writes one line: `ok` where its history explains its records, else `flaw` with the
+/// number, the name and the place of the first flaw; or `fault` with the line that can't be read and why. If `is_clocked`
+/// is set, it asks also that the `n` are those of a history that grew: they never fall, none is above the history's
+/// length, and no request acted before the `n` of its submission. Where only that is wrong, the line is `flaw 13 Clock`
+/// with the place of the first such record. `Ok` is the exit status, 0 for `ok` and else 1. After an `Err` what was
+/// written is a prefix of the whole output. Why it answers a flaw or a fault, or that the `n` of a trace that is explained
+/// are not those of a history that grew, is told on `errors`, in a line; a stream that fails there changes nothing.
+pub fn run_check<R: Read, W: Write, E: Write>(
     alloc: Global,
     is_clocked: bool,
     reader: &mut R,
@@ -215,47 +219,4 @@ pub fn run_check_with<R: Read, W: Write, E: Write>(
     } else {
         run(alloc, checker, reader, writer)
     }
-}
-
-/// Does what [`run_check`] does, and tells on `errors`, in a line, why it answers a flaw or a fault, or that the
-/// `n` of a trace that is explained are not those of a history that grew.
-pub fn run_check_with_reasons<R: Read, W: Write, E: Write>(
-    alloc: Global,
-    reader: &mut R,
-    writer: &mut W,
-    errors: &mut E,
-) -> Result<u8, EngineFault>
-    ensures ok { IfOk result (IsWhole out_check (R.remaining reader.old) (R.remaining reader.new) (W.contents writer.old) (W.contents writer.new)) }
-    ensures err { OnErr result (IsPart out_check (R.remaining reader.old) (R.remaining reader.new) (W.contents writer.old) (W.contents writer.new)) }
-{
-    run_check_with(alloc, false, reader, writer, errors)
-}
-
-/// Reads the text of a trace and writes one line: `ok` where its history explains its records, else
-/// `flaw` with the number, the name and the place of the first flaw; or `fault` with the line that
-/// can't be read and why. `Ok` is the exit status, 0 for `ok` and else 1. After an `Err` what was
-/// written is a prefix of the whole output.
-pub fn run_check<R: Read, W: Write>(
-    alloc: Global,
-    reader: &mut R,
-    writer: &mut W,
-) -> Result<u8, EngineFault>
-    ensures ok { IfOk result (IsWhole out_check (R.remaining reader.old) (R.remaining reader.new) (W.contents writer.old) (W.contents writer.new)) }
-    ensures err { OnErr result (IsPart out_check (R.remaining reader.old) (R.remaining reader.new) (W.contents writer.old) (W.contents writer.new)) }
-{
-    run_check_with(alloc, false, reader, writer, &mut sink())
-}
-
-/// Does what [`run_check`] does, and asks also that the `n` are those of a history that grew: they never
-/// fall, none is above the history's length, and no request acted before the `n` of its submission. Where
-/// only that is wrong, the line is `flaw 13 Clock` with the place of the first such record.
-pub fn run_check_clocked<R: Read, W: Write>(
-    alloc: Global,
-    reader: &mut R,
-    writer: &mut W,
-) -> Result<u8, EngineFault>
-    ensures ok { IfOk result (IsWhole out_check_clocked (R.remaining reader.old) (R.remaining reader.new) (W.contents writer.old) (W.contents writer.new)) }
-    ensures err { OnErr result (IsPart out_check_clocked (R.remaining reader.old) (R.remaining reader.new) (W.contents writer.old) (W.contents writer.new)) }
-{
-    run_check_with(alloc, true, reader, writer, &mut sink())
 }

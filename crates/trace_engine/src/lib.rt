@@ -1,11 +1,10 @@
 //! The engines of `check` and `upgrade`: the text of a trace in, a verdict or the text in its second
 //! version out.
 //!
-//! [`run_check`] tells whether a trace's history explains its records, [`run_check_clocked`] also whether
-//! the `n` are those of a history that grew, [`run_upgrade`] writes a trace of
-//! either version in the second one, unchecked. Both go over any reader and writer, a block of input at
-//! a time, and answer at the end of the input. Beside each stands one that also tells the reason of its
-//! answer, for people.
+//! [`run_check`] tells whether a trace's history explains its records and, if that is asked, whether the `n` are those of a
+//! history that grew; [`run_upgrade`] writes a trace of either version in the second one, unchecked. Both go over any
+//! reader and writer, a block of input at a time, answer at the end of the input, and tell the reason of a fault or a flaw,
+//! for people.
 #![tactic(auto)]
 
 mod check;
@@ -13,6 +12,6 @@ pub mod laws;
 mod traces;
 mod upgrade;
 
-pub use check::{run_check, run_check_clocked, run_check_with, run_check_with_reasons};
+pub use check::run_check;
 pub use traces::{TraceInput, tell_trace};
-pub use upgrade::{run_upgrade, run_upgrade_with_reasons};
+pub use upgrade::run_upgrade;

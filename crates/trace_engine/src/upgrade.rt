@@ -10,7 +10,7 @@ use crate::traces::{hand_over, tell_fault};
 use line_loop::{EngineFault, Responder, Verdict, run};
 use record_text::ReadFault;
 use std::alloc::{AllocError, Global};
-use std::io::{Read, Write, sink};
+use std::io::{Read, Write};
 use std::marker::Model;
 use std::mem;
 use trace_diagnostics::TraceReasons;
@@ -109,8 +109,12 @@ impl<E: Write + Drop> Responder for Upgrader<E> {
     }
 }
 
-/// Does what [`run_upgrade`] does, and tells on `errors` why it answers a fault, in a line.
-pub fn run_upgrade_with_reasons<R: Read, W: Write, E: Write>(
+/// Reads the text of a trace, of version 1 or 2, and writes it in version 2, unchecked; or `fault`
+/// with the line that can't be read and why. `Ok` is the exit status, 1 where a fault was told. After
+/// an `Err` what was written is a prefix of the whole output. It keeps the text that it is to write,
+/// and neither records nor entries. Why it answers a fault is told on `errors`, in a line; a stream that
+/// fails there changes nothing.
+pub fn run_upgrade<R: Read, W: Write, E: Write>(
     alloc: Global,
     reader: &mut R,
     writer: &mut W,
@@ -122,19 +126,4 @@ pub fn run_upgrade_with_reasons<R: Read, W: Write, E: Write>(
     a_rewriting_is_a_reading();
     let upgrader = Upgrader::new(alloc, errors);
     run(alloc, upgrader, reader, writer)
-}
-
-/// Reads the text of a trace, of version 1 or 2, and writes it in version 2, unchecked; or `fault`
-/// with the line that can't be read and why. `Ok` is the exit status, 1 where a fault was told. After
-/// an `Err` what was written is a prefix of the whole output. It keeps the text that it is to write,
-/// and neither records nor entries.
-pub fn run_upgrade<R: Read, W: Write>(
-    alloc: Global,
-    reader: &mut R,
-    writer: &mut W,
-) -> Result<u8, EngineFault>
-    ensures ok { IfOk result (IsWhole out_upgrade (R.remaining reader.old) (R.remaining reader.new) (W.contents writer.old) (W.contents writer.new)) }
-    ensures err { OnErr result (IsPart out_upgrade (R.remaining reader.old) (R.remaining reader.new) (W.contents writer.old) (W.contents writer.new)) }
-{
-    run_upgrade_with_reasons(alloc, reader, writer, &mut sink())
 }

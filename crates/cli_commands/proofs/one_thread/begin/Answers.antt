@@ -31,25 +31,25 @@ searched output size limit work (Err fault) input rest out out' exit ok err whol
 
 pub returns-in-Tlp : goal.returns-in-Tlp
 returns-in-Tlp g c = record {
-  begun = rw c.in-Tlp.is (run_done _ c.run_tlp_with_reasons-run.result _ _ _ _ _ c.ended.ensures.ok c.ended.ensures.err c.run_tlp_with_reasons-run.ensures.ok c.run_tlp_with_reasons-run.ensures.err);
+  begun = rw c.in-Tlp.is (run_done _ c.run_tlp-run.result _ _ _ _ _ c.ended.ensures.ok c.ended.ensures.err c.run_tlp-run.ensures.ok c.run_tlp-run.ensures.err);
   right = tt;
 }
 
 pub returns-in-Endpoint : goal.returns-in-Endpoint
 returns-in-Endpoint g c = record {
-  begun = rw c.in-Endpoint.is (run_done _ c.run_endpoint_with_reasons-run.result _ _ _ _ _ c.ended-in-Endpoint.ensures.ok c.ended-in-Endpoint.ensures.err c.run_endpoint_with_reasons-run.ensures.ok c.run_endpoint_with_reasons-run.ensures.err);
+  begun = rw c.in-Endpoint.is (run_done _ c.run_endpoint-run.result _ _ _ _ _ c.ended-in-Endpoint.ensures.ok c.ended-in-Endpoint.ensures.err c.run_endpoint-run.ensures.ok c.run_endpoint-run.ensures.err);
   right = tt;
 }
 
 pub returns-in-Linked : goal.returns-in-Linked
 returns-in-Linked g c = record {
-  begun = rw c.in-Linked.is (run_done _ c.run_linked_with_reasons-run.result _ _ _ _ _ c.ended-in-Linked.ensures.ok c.ended-in-Linked.ensures.err c.run_linked_with_reasons-run.ensures.ok c.run_linked_with_reasons-run.ensures.err);
+  begun = rw c.in-Linked.is (run_done _ c.run_linked-run.result _ _ _ _ _ c.ended-in-Linked.ensures.ok c.ended-in-Linked.ensures.err c.run_linked-run.ensures.ok c.run_linked-run.ensures.err);
   right = tt;
 }
 
 pub returns-in-Check : goal.returns-in-Check
 returns-in-Check g c = record {
-  begun = rw c.in-Check.is (run_done _ c.run_check_with-run.result _ _ _ _ _ c.ended-in-Check.ensures.ok c.ended-in-Check.ensures.err c.run_check_with-run.ensures.ok c.run_check_with-run.ensures.err);
+  begun = rw c.in-Check.is (run_done _ c.run_check-run.result _ _ _ _ _ c.ended-in-Check.ensures.ok c.ended-in-Check.ensures.err c.run_check-run.ensures.ok c.run_check-run.ensures.err);
   right = tt;
 }
 
@@ -61,19 +61,19 @@ returns-in-Search g c = record {
 
 pub returns-in-Draw : goal.returns-in-Draw
 returns-in-Draw g c = record {
-  begun = rw c.in-Draw.is (run_done _ c.run_draw_with_reasons-run.result _ _ _ _ _ c.ended-in-Draw.ensures.ok c.ended-in-Draw.ensures.err c.run_draw_with_reasons-run.ensures.ok c.run_draw_with_reasons-run.ensures.err);
+  begun = rw c.in-Draw.is (run_done _ c.run_draw-run.result _ _ _ _ _ c.ended-in-Draw.ensures.ok c.ended-in-Draw.ensures.err c.run_draw-run.ensures.ok c.run_draw-run.ensures.err);
   right = tt;
 }
 
 pub returns-in-Step : goal.returns-in-Step
 returns-in-Step g c = record {
-  begun = rw c.in-Step.is (run_done _ c.run_step_with_reasons-run.result _ _ _ _ _ c.ended-in-Step.ensures.ok c.ended-in-Step.ensures.err c.run_step_with_reasons-run.ensures.ok c.run_step_with_reasons-run.ensures.err);
+  begun = rw c.in-Step.is (run_done _ c.run_step-run.result _ _ _ _ _ c.ended-in-Step.ensures.ok c.ended-in-Step.ensures.err c.run_step-run.ensures.ok c.run_step-run.ensures.err);
   right = tt;
 }
 
 pub returns-in-Chart : goal.returns-in-Chart
 returns-in-Chart g c = record {
-  begun = rw c.in-Chart.is (run_done _ c.run_chart_with_reasons-run.result _ _ _ _ _ c.ended-in-Chart.ensures.ok c.ended-in-Chart.ensures.err c.run_chart_with_reasons-run.ensures.ok c.run_chart_with_reasons-run.ensures.err);
+  begun = rw c.in-Chart.is (run_done _ c.run_chart-run.result _ _ _ _ _ c.ended-in-Chart.ensures.ok c.ended-in-Chart.ensures.err c.run_chart-run.ensures.ok c.run_chart-run.ensures.err);
   right = tt;
 }
 

@@ -6,7 +6,7 @@ use Rattle.line_loop.specs.Run.{Run, IsBeginning, IsPart}
 use Rattle.packet_engine.specs.Tlp.{out_tlp}
 use Rattle.std.proofs.lemmas.Result.{IfOk-weaker, IfErr-weaker}
 use Rattle.packet_engine.proofs.Simulation.{same-runs, whole, part, caught-up}
-use Rattle.packet_engine.proofs.tlp.run_tlp_with_reasons.Goals as goal
+use Rattle.packet_engine.proofs.tlp.run_tlp.Goals as goal
 
 -- nothing read and nothing written
 nothing-done : {S : Type 0} (run : List ℕ → Run S) (u w : Option (List ℕ)) → IsPart run u u w w

@@ -1,6 +1,6 @@
 use Rattle.trace_engine.proofs.Rewritten.{OnErr-weaker}
 use Rattle.trace_engine.proofs.Ended.{part_clocked, part_plain}
-use Rattle.trace_engine.proofs.check.run_check_with.Goals as goal
+use Rattle.trace_engine.proofs.check.run_check.Goals as goal
 
 pub returns-then-is_clocked-clause-err : goal.returns-then-is_clocked-clause-err
 returns-then-is_clocked-clause-err g c =

@@ -1,6 +1,6 @@
 use Rattle.std.proofs.lemmas.Result.{IfOk-weaker}
 use Rattle.trace_engine.proofs.Rewritten.{whole, part, OnErr-weaker}
-use Rattle.trace_engine.proofs.upgrade.run_upgrade_with_reasons.Goals as goal
+use Rattle.trace_engine.proofs.upgrade.run_upgrade.Goals as goal
 
 pub returns-clause-ok : goal.returns-clause-ok
 returns-clause-ok g c =

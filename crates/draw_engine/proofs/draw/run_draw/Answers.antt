@@ -1,5 +1,5 @@
 use Rattle.draw_engine.proofs.Drawn.{document-written}
-use Rattle.draw_engine.proofs.draw.run_draw_with_reasons.Goals as goal
+use Rattle.draw_engine.proofs.draw.run_draw.Goals as goal
 
 pub returns-clause-document : goal.returns-clause-document
 returns-clause-document g c =
