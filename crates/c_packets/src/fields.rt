@@ -2,11 +2,11 @@
 ghost use Rattle.std.specs.Prelude.{◌≡◌, ◌≤◌, take, drop, Ok, IsOk, IsErr};
 ghost use Rattle.tlp_core.specs.TlpView.{TlpView};
 ghost use Rattle.tlp_core.specs.Faults.{reading};
-ghost use Rattle.tlp_core.specs.Layout.{short_code, status_code};
+ghost use Rattle.tlp_core.specs.Layout.{status_code};
 ghost use Rattle.c_packets.specs.Fields.{fields_of, in_fields};
 
 use c_buffer::Failure;
-use tlp_core::{Body, Kind, Status, TlpRef, decode_lent};
+use tlp_core::{Body, Status, TlpRef, decode_lent, short_code};
 
 /// The fields of a TLP. Those that its kind lacks are 0.
 #[repr(C)]
@@ -43,21 +43,6 @@ pub struct TlpFields {
     pub lower: u8,
 }
 
-/// Fmt and Type.
-fn kind_code(kind: Kind) -> u8
-    ensures { result ≡ short_code kind }
-{
-    match kind {
-        Kind::MemoryRead => 0x00,
-        Kind::MemoryWrite => 0x40,
-        Kind::FetchAdd => 0x4C,
-        Kind::Swap => 0x4D,
-        Kind::Cas => 0x4E,
-        Kind::Completion => 0x0A,
-        Kind::CompletionData => 0x4A,
-    }
-}
-
 /// Completion Status.
 fn status_code(status: Status) -> u8
     ensures { result ≡ status_code status }
@@ -83,7 +68,7 @@ fn fields_of(tlp: &TlpRef<'_>, payload_start: usize) -> TlpFields
         requester: header.requester,
         completer: 0,
         byte_count: 0,
-        kind: kind_code(header.kind),
+        kind: short_code(header.kind),
         tc: header.tc,
         attr: header.attr,
         tag: header.tag,

@@ -7,33 +7,7 @@ ghost use Rattle.cli_values.specs.Lanes.{WritesLane};
 
 use cli_options::{RefusedValue, ValueOption};
 use fabric_steps::LaneName;
-
-/// The port of a lane's name.
-fn port(digits: &[u8]) -> Option<u8>
-    ensures { result ≡ forms.port_digit digits.now }
-{
-    match digits {
-        [digit] if *digit >= b'1' && *digit <= b'7' => Some(*digit - b'0'),
-        _ => None,
-    }
-}
-
-/// The lane of that name.
-fn lane_named(word: &[u8]) -> Option<LaneName>
-    ensures { result ≡ forms.lane word.now }
-{
-    if word == b"in".as_slice() {
-        return Some(LaneName::Inward);
-    }
-    if word == b"out".as_slice() {
-        return Some(LaneName::Outward);
-    }
-    match word {
-        [b'u', b'p', digits @ ..] => Some(LaneName::Up(port(digits)?)),
-        [b'd', b'o', b'w', b'n', digits @ ..] => Some(LaneName::Down(port(digits)?)),
-        _ => None,
-    }
-}
+use script_text::lane_named;
 
 /// The lane that the text names, none where no text is given.
 pub fn lane_of<'a>(text: Option<&'a str>) -> Result<Option<LaneName>, RefusedValue<'a>>

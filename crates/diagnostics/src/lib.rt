@@ -10,12 +10,14 @@
 //! once that no more are told.
 #![tactic(auto)]
 
+mod digits;
 mod lines;
 mod reason_lines;
 mod reasoned;
 mod shown;
 mod telling;
 
+pub use digits::digits_reason;
 pub use lines::{long_line_reason, refusal_reason};
 pub use reason_lines::ReasonLines;
 pub use reasoned::{Reasoned, Reasons};

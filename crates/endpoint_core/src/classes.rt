@@ -124,7 +124,8 @@ fn of_packet(poisoned: bool, bytes: &[u8]) -> Received<'_>
     by_kind(packet)
 }
 
-fn descriptor_for(request: &CfgRequest) -> Descriptor
+/// A request's descriptor: TC and attributes are 0.
+pub(crate) fn descriptor_for(request: &CfgRequest) -> Descriptor
     ensures { result ≡ spec.descriptor_for request.now }
 {
     Descriptor {

@@ -7,6 +7,7 @@ ghost use Rattle.endpoint_core.specs.Steps as spec;
 ghost use Rattle.endpoint_core.specs.Blocks as blocks;
 
 use crate::Descriptor;
+use crate::classes::descriptor_for;
 use crate::completions::{Place, answer_first, refused, with_word, without_data};
 use crate::requests::{act_all, block_bytes, dw_in_front};
 use crate::waiting::Waiting;
@@ -74,18 +75,6 @@ fn zeros(alloc: Global, size: u32) -> Result<Vec<u8>, AllocError>
     ensures { IfOk result (λ v. v.items ≡ replicate size 0) }
 {
     vec![in alloc; 0u8; size as usize]
-}
-
-/// A request's descriptor: TC and attributes are 0.
-fn descriptor_for(request: &CfgRequest) -> Descriptor
-    ensures { result ≡ classes.descriptor_for request.now }
-{
-    Descriptor {
-        tc: 0,
-        attr: 0,
-        requester: request.requester,
-        tag: request.tag,
-    }
 }
 
 /// Of Type 0, to function 0.

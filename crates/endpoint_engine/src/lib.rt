@@ -13,6 +13,6 @@ mod texts;
 
 pub use lines::run_endpoint;
 pub use options::EndpointOptions;
-pub use reasons::{digits_reason, untraced_reason};
+pub use reasons::untraced_reason;
 pub use recording::{new_log, record_acting, record_answer, record_reset};
 pub use texts::{no_line, put_handled};

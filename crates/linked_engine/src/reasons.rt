@@ -1,21 +1,26 @@
 //! Why a line of `endpoint --link` is a fault, for people.
-use diagnostics::Reason;
-use endpoint_engine::{digits_reason, untraced_reason};
-use operation_text::Expected;
+use diagnostics::{Reason, digits_reason};
+use endpoint_engine::untraced_reason;
+use operation_text::{Expected, split_word};
 
 const LINE: Expected = Expected::Of(
     "a line",
     "packet <bytes>, dllp <bytes>, next, up, down, refresh, replay, retrained, state, trace",
 );
 
+/// Why what stands behind the line's first word is no digits of bytes.
+fn frame_digits_reason(line: &[u8]) -> Reason {
+    digits_reason(line, split_word(line).1.unwrap_or(b""))
+}
+
 /// Why the line of a packet or a DLLP is a fault.
 fn frame_reason(line: &[u8], has_crc: bool) -> Reason {
     if has_crc {
-        return digits_reason(line);
+        return frame_digits_reason(line);
     }
     for word in [b" good".as_slice(), b" failed".as_slice()] {
         if let Some(front) = line.strip_suffix(word) {
-            return digits_reason(front);
+            return frame_digits_reason(front);
         }
     }
     let mut reason = Reason::new();

@@ -2,37 +2,10 @@
 ghost use Rattle.std.specs.Prelude.{◌≤◌, length};
 
 use config_core::CfgFault;
-use diagnostics::Reason;
+use diagnostics::{Reason, digits_reason};
 use hex_text::HexLine;
-use operation_text::Expected;
 use packet_text::{BytesFault, decode};
 use tlp_core::{TlpFault, decode_lent};
-
-const DIGITS: Expected = Expected::Of("a word of hexadecimal digits", "two a byte, no prefix");
-
-/// The line from its first word on that has a byte which is no digit.
-fn wrong_word(line: &[u8]) -> Option<&[u8]> {
-    let mut start = 0;
-    for (place, byte) in line.iter().enumerate() {
-        if *byte == b' ' {
-            start = place.saturating_add(1);
-        } else if !byte.is_ascii_hexdigit() {
-            return line.get(start..);
-        }
-    }
-    None
-}
-
-/// Why the line has no bytes.
-fn digits_reason(line: &[u8]) -> Reason {
-    let wrong = wrong_word(line);
-    if wrong.is_some() {
-        return Reason::of_misfit(line, &DIGITS.at(wrong));
-    }
-    let mut reason = Reason::new();
-    reason.put(": an odd number of hexadecimal digits (two a byte)");
-    reason
-}
 
 /// What the fault's name means, nothing where it depends on the bytes.
 fn meaning_of(fault: TlpFault) -> &'static str {
@@ -173,7 +146,7 @@ pub(crate) fn packet_reason(line: &[u8]) -> Reason
 {
     let mut hex = HexLine::new();
     if !hex.read(line) {
-        return digits_reason(line);
+        return digits_reason(line, line);
     }
     match decode(hex.bytes()) {
         Err(BytesFault::Tlp(TlpFault::Kind)) => kind_reason(),
@@ -195,7 +168,7 @@ pub(crate) fn request_reason(line: &[u8]) -> Reason
 {
     let mut hex = HexLine::new();
     if !hex.read(line) {
-        return digits_reason(line);
+        return digits_reason(line, line);
     }
     match decode_lent(hex.bytes()) {
         Err(fault) => fault_reason(fault, hex.bytes()),

@@ -50,7 +50,7 @@ fn port(digits: &[u8]) -> Option<u8>
 }
 
 /// The lane of that name.
-fn lane_in(word: &[u8]) -> Option<LaneName>
+pub fn lane_named(word: &[u8]) -> Option<LaneName>
     ensures { result ≡ forms.lane word.now }
 {
     if word == b"in".as_slice() {
@@ -72,7 +72,7 @@ fn any_lane(rest: Option<&[u8]>) -> Result<(LaneName, Option<&[u8]>), Misfit>
     ensures { first_field forms.lane (words_behind rest.entry) ≡ option_map (λ s. (s.0, words_behind s.1)) (result_ok result) }
 {
     let (word, behind) = word(rest, LANE)?;
-    let lane = lane_in(word).ok_or(LANE.at(rest))?;
+    let lane = lane_named(word).ok_or(LANE.at(rest))?;
     Ok((lane, behind))
 }
 

@@ -40,6 +40,7 @@ mod line_writing;
 mod names;
 mod writing;
 
+pub use fields::lane_named;
 pub use line::{Line, read_line, script_misfit};
 pub use line_writing::{write_event, write_fabric};
 pub use names::{write_config_fault, write_refusal};

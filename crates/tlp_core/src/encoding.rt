@@ -46,7 +46,8 @@ fn put_address(out: &mut ArrayVec<u8, MAX_HEADER>, address: u64)
     }
 }
 
-fn short(kind: Kind) -> u8
+/// Fmt and Type of a header with a 32-bit address.
+pub fn short_code(kind: Kind) -> u8
     ensures value { result ≡ short_code kind }
     ensures range { result < 0x60 }
 {
@@ -64,7 +65,7 @@ fn short(kind: Kind) -> u8
 fn first_byte(kind: Kind, body: Body) -> u8
     ensures { result ≡ code_of kind body }
 {
-    let code = short(kind);
+    let code = short_code(kind);
     match body {
         Body::Request { address, .. } if address >= 0x1_0000_0000 => code + 32,
         _ => code,

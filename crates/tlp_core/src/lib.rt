@@ -19,7 +19,9 @@ mod packet;
 mod payload;
 
 pub use decoding::{decode, decode_lent};
-pub use encoding::{COMPLETION_HEADER, MAX_TLP, encode, encode_lent, put_completion_header};
+pub use encoding::{
+    COMPLETION_HEADER, MAX_TLP, encode, encode_lent, put_completion_header, short_code,
+};
 pub use fault::TlpFault;
 pub use lent::{OpRef, op_lent, operand_of};
 pub use operation::{Op, OpOf, Width, copy_of, op_fault, op_of};
