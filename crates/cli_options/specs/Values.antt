@@ -2,7 +2,7 @@
 use Rattle.std.specs.Prelude.{◌≡◌, ◌≤◌, ◌%◌, ℕ, Bool, false, List, length, Option, Some, None, IfSome, codes, bytes_eq}
 use Rattle.std.specs.Str.Parse.{IsNumeral, digits_value}
 use Rattle.seq_memory.specs.declared.limits.TheConstants.{MIN_SIZE, MAX_SIZE, ALIGNMENT}
-use Rattle.switch_core.specs.declared.routing.TheConstants.{REQUESTERS}
+use Rattle.tlp_core.specs.declared.packet.TheConstants.{REQUESTERS}
 use Rattle.parameters.specs.declared.plan.TheConstants.{MOST}
 use Rattle.parameters.specs.declared.counting.TheConstants.{MOST_ADDITIONS, MOST_TURNS, MOST_WORKERS}
 use Rattle.parameters.specs.declared.storm.TheConstants.{MOST_EVENTS}

@@ -5,7 +5,7 @@ ghost use Rattle.cli_options.specs.Values.{allowed_of, name_of, IsAmong};
 use parameters::{MOST_ADDITIONS, MOST_EVENTS, MOST_TURNS, MOST_WORKERS};
 use seq_memory::{ALIGNMENT, MAX_SIZE, MIN_SIZE};
 use std::fmt;
-use switch_core::REQUESTERS;
+use tlp_core::REQUESTERS;
 
 /// The most choices that a search may be asked to look at.
 pub const MOST_CHOICES: u64 = 1_000_000_000;

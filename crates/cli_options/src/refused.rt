@@ -2,7 +2,7 @@
 use crate::options::{Allowed, ValueOption};
 use crate::shown::Shown;
 use std::fmt;
-use switch_core::REQUESTERS;
+use tlp_core::REQUESTERS;
 
 /// An option whose value is refused.
 #[derive(Clone, Copy)]

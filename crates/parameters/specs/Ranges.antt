@@ -1,7 +1,7 @@
 -- The ranges of what `run` and `generate` are asked for.
 use Rattle.std.specs.Prelude.{◌≤◌, IfSome}
 use Rattle.seq_memory.specs.Limits.{IsBlock}
-use Rattle.switch_core.specs.declared.routing.TheConstants.{REQUESTERS}
+use Rattle.tlp_core.specs.declared.packet.TheConstants.{REQUESTERS}
 use Rattle.parameters.specs.declared.plan.TheConstants.{MOST}
 use Rattle.parameters.specs.declared.counting.TheConstants.{MOST_ADDITIONS, MOST_TURNS, MOST_WORKERS}
 use Rattle.parameters.specs.declared.counting.Counting.{Counting}

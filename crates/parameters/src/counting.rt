@@ -2,7 +2,7 @@
 ghost use Rattle.std.specs.Prelude.{◌↔◌, IsTrue};
 ghost use Rattle.parameters.specs.Ranges.{IsCounting};
 
-use switch_core::REQUESTERS;
+use tlp_core::REQUESTERS;
 
 /// The most additions of each requester.
 pub const MOST_ADDITIONS: u64 = 100_000;

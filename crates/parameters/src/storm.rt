@@ -2,7 +2,7 @@
 ghost use Rattle.std.specs.Prelude.{◌↔◌, IsTrue};
 ghost use Rattle.parameters.specs.Ranges.{IsStorm};
 
-use switch_core::REQUESTERS;
+use tlp_core::REQUESTERS;
 
 /// The most events of a storm.
 pub const MOST_EVENTS: u64 = 1_000_000_000;

@@ -7,8 +7,7 @@ ghost use Rattle.script_text.specs.Forms as forms;
 use crate::fields::{count, fate, kind, lane, octet};
 use fabric_core::EventRef;
 use operation_text::{Expected, Misfit, alone, op_behind};
-use switch_core::REQUESTERS;
-use tlp_core::MAX_PAYLOAD;
+use tlp_core::{MAX_PAYLOAD, REQUESTERS};
 
 /// A line behind the fabric's, by its first word.
 pub(crate) const EVENT: Expected = Expected::Of(

@@ -11,7 +11,7 @@ use fabric_core::Config;
 use flow_control::{LaneCredits, MAX_DATA, MAX_HEADERS, MIN_ATOMIC_DATA, MIN_DATA};
 use operation_text::{BASE, BLOCK, Expected, Misfit, SIZE, alone, next_word, number, split_word};
 use seq_memory::{is_base, is_block, is_size};
-use switch_core::REQUESTERS;
+use tlp_core::REQUESTERS;
 
 /// The bytes of a block where the line doesn't tell them.
 const DEFAULT_BLOCK: u16 = 64;

@@ -10,4 +10,4 @@ mod routing;
 pub use fault::ForwardRefusal;
 pub use forwarding::{forward, forward_ends};
 pub use route_fault::RouteFault;
-pub use routing::{Port, REQUESTERS, route};
+pub use routing::{Port, route};

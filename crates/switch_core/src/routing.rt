@@ -4,10 +4,7 @@ ghost use Rattle.switch_core.specs.Routing as spec;
 
 use crate::route_fault::RouteFault;
 use std::marker::Model;
-use tlp_core::Tlp;
-
-/// How many requesters the switch can have, at the ports 1 to 7.
-pub const REQUESTERS: u8 = 7;
+use tlp_core::{REQUESTERS, Tlp};
 
 /// A port of the switch: 0 is the memory's, 1 to 7 the requesters'. The ID of port n is 256 n.
 #[derive(Clone, Copy)]

@@ -1,3 +1,4 @@
+pub mod Limits
 pub mod Ops
 pub mod Bits
 pub mod Enables

@@ -9,7 +9,7 @@ ghost use Rattle.tlp_core.specs.Faults.{first_of, first_fault, header_faults, ki
 
 use crate::fault::TlpFault;
 use crate::field;
-use crate::packet::{Header, Kind, Tlp, TlpRef};
+use crate::packet::{Header, Kind, MAX_PAYLOAD, Tlp, TlpRef};
 use byteorder::{BigEndian, ByteOrder};
 
 /// The kind, or the first fault of any header.
@@ -134,7 +134,7 @@ fn kind_fault(kind: Kind, bytes: &[u8]) -> Option<TlpFault>
     if bytes.len() - field::header_len(bytes) != promised {
         return Some(TlpFault::LengthMismatch);
     }
-    if field::carries_data(kind) && dw > 32 {
+    if field::carries_data(kind) && usize::from(dw) > MAX_PAYLOAD / 4 {
         return Some(TlpFault::PayloadTooLong);
     }
     if wrong_enables(kind, dw, address, bytes[7]) {

@@ -3,15 +3,16 @@ ghost use Rattle.std.specs.Prelude.{◌≡◌, ◌+◌, ◌*◌, ◌/◌, ◌%�
 ghost use Rattle.arrayvec.specs.ArrayVec.{array_vec_len};
 ghost use Rattle.byteorder.specs.Endian.{big_bytes};
 ghost use Rattle.tlp_core.specs.Layout.{canonical, short_code, code_of, status_code, rest_of_header, Spells};
+ghost use Rattle.tlp_core.specs.Limits.{max_payload};
 ghost use Rattle.tlp_core.specs.Operation.{is_completion};
 ghost use Rattle.tlp_core.specs.TlpView.{FitsFields, IsBodyInRange};
 
-use crate::packet::{Body, Header, Kind, Status, Tlp, TlpRef};
+use crate::packet::{Body, Header, Kind, MAX_PAYLOAD, Status, Tlp, TlpRef};
 use arrayvec::ArrayVec;
 use byteorder::{BigEndian, ByteOrder};
 
-/// The most bytes that a packet has: a header of 16 and a payload of 128.
-pub const MAX_TLP: usize = 144;
+/// The most bytes that a packet has: a header of 16 and the greatest payload.
+pub const MAX_TLP: usize = MAX_HEADER + MAX_PAYLOAD;
 
 /// The most bytes that a header has.
 const MAX_HEADER: usize = 16;
@@ -175,7 +176,7 @@ pub const COMPLETION_HEADER: usize = 12;
 pub fn put_completion_header(packet: &TlpRef<'_>, room: &mut [u8; COMPLETION_HEADER]) -> bool
     ensures value { result ≡ is_completion packet.now.kind }
     ensures bytes { result ≡ true → canonical packet.now ≡ room.new ++ packet.now.payload }
-    ensures few { result ≡ true → length packet.now.payload ≤ 128 }
+    ensures few { result ≡ true → length packet.now.payload ≤ max_payload }
     ensures kept { result ≡ false → room.new ≡ room.old }
 {
     let header = packet.header;

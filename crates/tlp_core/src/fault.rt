@@ -29,7 +29,7 @@ pub enum TlpFault {
     /// The bytes behind the header are not those that Length promises. For an operation: a read of
     /// 0 or more than 1024 DW, or a write of no bytes or of a part of a DW.
     LengthMismatch,
-    /// More than 128 bytes of payload, the Max_Payload_Size of this profile.
+    /// More bytes of payload than [`MAX_PAYLOAD`](crate::MAX_PAYLOAD), the Max_Payload_Size of this profile.
     PayloadTooLong,
     /// Byte enables against section 2.2.5.
     ByteEnables,

@@ -25,5 +25,5 @@ pub use encoding::{
 pub use fault::TlpFault;
 pub use lent::{OpRef, op_lent, operand_of};
 pub use operation::{Op, OpOf, Width, copy_of, op_fault, op_of};
-pub use packet::{Body, Header, Kind, MAX_PAYLOAD, Status, Tlp, TlpRef};
+pub use packet::{Body, Header, Kind, MAX_PAYLOAD, REQUESTERS, Status, Tlp, TlpRef};
 pub use payload::{Payload, PayloadRef, payload_of};

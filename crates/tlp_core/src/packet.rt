@@ -13,6 +13,9 @@ use std::marker::Model;
 /// Max_Payload_Size, in bytes.
 pub const MAX_PAYLOAD: usize = 128;
 
+/// How many requesters there can be. Their numbers, and the ports of the switch where they are, are 1 to 7.
+pub const REQUESTERS: u8 = 7;
+
 /// What a packet asks or answers (section 2.2.1, Fmt and Type), whatever the size of its header.
 #[derive(Clone, Copy, Debug, PartialEq)]
 pub enum Kind {

@@ -3,12 +3,13 @@ ghost use Rattle.std.specs.Prelude.{◌≡◌, ◌≤◌, length, nat_eq};
 ghost use Rattle.std.specs.Cmp.{on_per, partial_equiv_from_equiv};
 ghost use Rattle.std.specs.Cmp.Lexicographic.{pointwise, nat_list_eq_equiv};
 ghost use Rattle.arrayvec.specs.ArrayVec.{array_vec_len};
+ghost use Rattle.tlp_core.specs.Limits.{max_payload};
 
 use crate::packet::MAX_PAYLOAD;
 use arrayvec::ArrayVec;
 use std::marker::Model;
 
-/// The bytes of a payload, at most 128, in rising address order.
+/// The bytes of a payload, at most [`MAX_PAYLOAD`], in rising address order.
 pub type Payload = ArrayVec<u8, MAX_PAYLOAD>;
 
 /// The bytes of a payload where they stand. Its value is that of a [`Payload`].
@@ -20,19 +21,20 @@ pub struct PayloadRef<'a> {
 impl<'a> Model for PayloadRef<'a> {
     ghost use Rattle.std.specs.Prelude.{ℕ, ◌≤◌, length};
     ghost use Rattle.arrayvec.specs.ArrayVec.{ArrayVec};
+    ghost use Rattle.tlp_core.specs.Limits.{max_payload};
 
     ghost Value = { ArrayVec ℕ };
 
     ghost view = { λ p. record { items = p.bytes.now } };
 
-    ghost invariant = { λ p. length p.bytes.now ≤ 128 };
+    ghost invariant = { λ p. length p.bytes.now ≤ max_payload };
 }
 
 impl<'a> PayloadRef<'a> {
     /// These bytes, lent.
     #[inline(always)]
     pub fn new(bytes: &'a [u8]) -> PayloadRef<'a>
-        requires { length bytes.now ≤ 128 }
+        requires { length bytes.now ≤ max_payload }
         ensures { result.items ≡ bytes.now }
     {
         PayloadRef { bytes }
@@ -52,7 +54,7 @@ impl<'a> PayloadRef<'a> {
     #[inline(always)]
     pub fn as_slice(&self) -> &'a [u8]
         ensures value { result.now ≡ self.now.items }
-        ensures few { length result.now ≤ 128 }
+        ensures few { length result.now ≤ max_payload }
     {
         self.bytes
     }
@@ -79,7 +81,7 @@ impl<'a> PartialEq for PayloadRef<'a> {
 
 /// The bytes as a payload of its own. Takes no memory.
 pub fn payload_of(bytes: &[u8]) -> Payload
-    requires { length bytes.now ≤ 128 }
+    requires { length bytes.now ≤ max_payload }
     ensures items { result.items ≡ bytes.now }
     ensures len { array_vec_len result ≡ length bytes.now }
 {
