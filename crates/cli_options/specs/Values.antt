@@ -1,7 +1,7 @@
 -- What the options of a command line are called, which numbers they may have, and what their values write.
 use Rattle.std.specs.Prelude.{◌≡◌, ◌≤◌, ◌%◌, ℕ, Bool, false, List, length, Option, Some, None, IfSome, codes, bytes_eq}
 use Rattle.std.specs.Str.Parse.{IsNumeral, digits_value}
-use Rattle.seq_memory.specs.declared.limits.TheConstants.{MIN_SIZE, MAX_SIZE, ALIGNMENT}
+use Rattle.seq_memory.specs.declared.limits.TheConstants.{MIN_SIZE, MAX_SIZE, SMALL_BLOCK, LARGE_BLOCK}
 use Rattle.tlp_core.specs.declared.packet.TheConstants.{REQUESTERS}
 use Rattle.parameters.specs.declared.plan.TheConstants.{MOST}
 use Rattle.parameters.specs.declared.counting.TheConstants.{MOST_ADDITIONS, MOST_TURNS, MOST_WORKERS}
@@ -42,9 +42,9 @@ multiples unit least most = record { least = least; most = most; unit = unit }
 
 -- the numbers that an option may have; for a lane, a granularity, what an endpoint is made with and a flag no number counts
 abbrev pub allowed_of : ValueOption → Allowed
-allowed_of Base = multiples ALIGNMENT 0 18446744073709551615
-allowed_of Size = multiples ALIGNMENT MIN_SIZE MAX_SIZE
-allowed_of Block = multiples 64 64 128
+allowed_of Base = multiples LARGE_BLOCK 0 18446744073709551615
+allowed_of Size = multiples LARGE_BLOCK MIN_SIZE MAX_SIZE
+allowed_of Block = multiples SMALL_BLOCK SMALL_BLOCK LARGE_BLOCK
 allowed_of Requesters = multiples 1 1 REQUESTERS
 allowed_of Each = multiples 1 0 MOST_ADDITIONS
 allowed_of Lose = multiples 1 0 MOST

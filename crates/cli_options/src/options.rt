@@ -3,7 +3,7 @@ ghost use Rattle.std.specs.Prelude.{◌≡◌, ◌≢◌, ◌↔◌, IsTrue};
 ghost use Rattle.cli_options.specs.Values.{allowed_of, name_of, IsAmong};
 
 use parameters::{MOST_ADDITIONS, MOST_EVENTS, MOST_TURNS, MOST_WORKERS};
-use seq_memory::{ALIGNMENT, MAX_SIZE, MIN_SIZE};
+use seq_memory::{LARGE_BLOCK, MAX_SIZE, MIN_SIZE, SMALL_BLOCK};
 use std::fmt;
 use tlp_core::REQUESTERS;
 
@@ -147,17 +147,17 @@ impl ValueOption {
             ValueOption::Base => Allowed {
                 least: 0,
                 most: u64::MAX,
-                unit: ALIGNMENT as u64,
+                unit: u64::from(LARGE_BLOCK),
             },
             ValueOption::Size => Allowed {
                 least: MIN_SIZE as u64,
                 most: MAX_SIZE as u64,
-                unit: ALIGNMENT as u64,
+                unit: u64::from(LARGE_BLOCK),
             },
             ValueOption::Block => Allowed {
-                least: 64,
-                most: 128,
-                unit: 64,
+                least: u64::from(SMALL_BLOCK),
+                most: u64::from(LARGE_BLOCK),
+                unit: u64::from(SMALL_BLOCK),
             },
             ValueOption::Requesters => from_to(1, u64::from(REQUESTERS)),
             ValueOption::Each => from_to(0, MOST_ADDITIONS),

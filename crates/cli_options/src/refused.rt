@@ -1,6 +1,7 @@
 //! Which option's value is refused, for people.
 use crate::options::{Allowed, ValueOption};
 use crate::shown::Shown;
+use seq_memory::MAX_SIZE;
 use std::fmt;
 use tlp_core::REQUESTERS;
 
@@ -48,7 +49,7 @@ impl fmt::Display for RefusedValue<'_> {
                 "up1 to up{REQUESTERS}, down1 to down{REQUESTERS}, in or out"
             ),
             ValueOption::Granularity => f.write_str("4, 8, 16, 64 or whole"),
-            ValueOption::EndpointSize => f.write_str("a power of two from 4096 to 1048576"),
+            ValueOption::EndpointSize => write!(f, "a power of two from 4096 to {MAX_SIZE}"),
             ValueOption::Id => f.write_str("four hexadecimal digits, ':' and four more"),
             ValueOption::Credits => f.write_str(
                 "with --link PH,PD,NPH,NPD: 1 to 127, 8 to 2047, 1 to 127 and 2 to 2047",

@@ -1,5 +1,6 @@
 //! The part of a log on some bytes of the memory.
 ghost use Rattle.std.specs.Prelude.{◌≡◌, ◌<◌, ◌≤◌, ℕ, IfOk, IfSome, IsTrue, List, Some, slice_get, length, map};
+ghost use Rattle.seq_memory.specs.declared.limits.TheConstants as limits;
 ghost use Rattle.log_runs.specs.EventView.{EventView, part_event};
 ghost use Rattle.log_runs.specs.Headers.{header_of};
 ghost use Rattle.log_runs.specs.Runs.{Live, start};
@@ -12,7 +13,7 @@ use crate::names::{name_of, names_in};
 use crate::places::Place;
 use log_runs::laws::headers_are_of_events;
 use log_runs::{EventHeader, Log, PartEvent};
-use seq_memory::{ALIGNMENT, Extent, MAX_SIZE};
+use seq_memory::{Extent, LARGE_BLOCK, MAX_SIZE};
 use std::alloc::{AllocError, Global};
 
 /// The event with the name at that place, as the part has it. `header` is the event's.
@@ -80,17 +81,17 @@ fn events_in(
 
 /// How many bytes there are in whole blocks, at least one.
 fn in_blocks(count: usize) -> usize
-    requires few { count ≤ 1048576 }
+    requires few { count ≤ limits.MAX_SIZE }
     ensures { count ≤ result }
 {
-    (count / ALIGNMENT + 1) * ALIGNMENT
+    (count / usize::from(LARGE_BLOCK) + 1) * usize::from(LARGE_BLOCK)
 }
 
 /// Whole blocks with the bytes from `low` up to `high`, if a memory can have them.
 fn extent_for(log: &Log<'_>, low: u64, high: u64) -> Option<Extent>
     ensures { IfSome result (λ x. (x.block ≡ log.now.extent.block) × Holds x low high) }
 {
-    let base = low - low % ALIGNMENT as u64;
+    let base = low - low % u64::from(LARGE_BLOCK);
     if high <= base || high - base > MAX_SIZE as u64 {
         return None;
     }

@@ -1,5 +1,5 @@
 //! What keeps a line from being read.
-use seq_memory::{ALIGNMENT, MAX_SIZE, MIN_SIZE};
+use seq_memory::{LARGE_BLOCK, MAX_SIZE, MIN_SIZE};
 
 /// What is expected next in a line, by its name.
 #[derive(Clone, Copy, PartialEq)]
@@ -34,7 +34,7 @@ pub const SIZE: Expected = Expected::Multiple(
     "a size",
     MIN_SIZE as u64,
     MAX_SIZE as u64,
-    ALIGNMENT as u64,
+    LARGE_BLOCK as u64,
 );
 
 /// The bytes of a block.

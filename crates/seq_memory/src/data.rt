@@ -1,6 +1,7 @@
 //! Room for the data of one reply.
 ghost use Rattle.std.specs.Prelude.{◌≡◌, ◌/◌, ◌%◌, ◌≤◌, [], length, replicate};
 ghost use Rattle.tlp_core.specs.Enables.{enables};
+ghost use Rattle.tlp_core.specs.Limits.{max_payload};
 ghost use Rattle.seq_memory.specs.Step.{merged, data_of};
 
 use crate::ReplyRef;
@@ -18,12 +19,13 @@ pub struct ReplyData {
 
 impl Model for ReplyData {
     ghost use Rattle.std.specs.Prelude.{List, ℕ, take, ◌≤◌};
+    ghost use Rattle.tlp_core.specs.Limits.{max_payload};
 
     ghost Value = { List ℕ };
 
     ghost view = { λ d. take d.len d.bytes };
 
-    ghost invariant = { λ d. d.len ≤ 128 };
+    ghost invariant = { λ d. d.len ≤ max_payload };
 }
 
 impl ReplyData {
@@ -40,7 +42,7 @@ impl ReplyData {
     /// Puts these bytes in place of those that it holds.
     #[inline(always)]
     pub(crate) fn set(&mut self, bytes: &[u8])
-        requires { length bytes.now ≤ 128 }
+        requires { length bytes.now ≤ max_payload }
         ensures { self.new ≡ bytes.now }
     {
         let end = bytes.len();
@@ -51,7 +53,7 @@ impl ReplyData {
     /// Puts the data of a read of that place there: its enabled bytes, and 0 for the others.
     pub(crate) fn set_enabled(&mut self, place: &[u8], first: u8, last: u8)
         requires some { 4 ≤ length place.now }
-        requires few { length place.now ≤ 128 }
+        requires few { length place.now ≤ max_payload }
         requires whole { length place.now % 4 ≡ 0 }
         ensures items { self.new ≡ merged (enables (length place.now / 4) first last) place.now (replicate (length place.now) 0) }
         ensures len { length self.new ≡ length place.now }
@@ -75,11 +77,11 @@ impl ReplyData {
         ReplyRef::Data(PayloadRef::new(&self.bytes[..self.len]))
     }
 
-    /// The bytes, at most 128.
+    /// The bytes, at most [`MAX_PAYLOAD`].
     #[inline(always)]
     pub fn as_slice(&self) -> &[u8]
         ensures value { result.now ≡ self.now }
-        ensures few { length result.now ≤ 128 }
+        ensures few { length result.now ≤ max_payload }
     {
         &self.bytes[..self.len]
     }

@@ -29,7 +29,7 @@ pub use atomics::{AtomicOp, apply};
 pub use data::ReplyData;
 pub use entry::{Entry, EntryOf, EntryRef};
 pub use extent::Extent;
-pub use limits::{ALIGNMENT, MAX_SIZE, MIN_SIZE, is_base, is_block, is_size};
+pub use limits::{LARGE_BLOCK, MAX_SIZE, MIN_SIZE, SMALL_BLOCK, is_base, is_block, is_size};
 pub use memory::Memory;
 pub use place::refusal_lent;
 pub use reply::{Reply, ReplyOf, ReplyRef};

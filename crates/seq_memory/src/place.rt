@@ -2,9 +2,11 @@
 ghost use Rattle.std.specs.Prelude.{◌≡◌, ◌+◌, ◌%◌, ◌≤◌, if◌then◌else◌, not, Some, None, IfNone};
 ghost use Rattle.tlp_core.specs.Operation.{op_fault, address_of, count_of};
 ghost use Rattle.seq_memory.specs.Limits.{IsBlock};
+ghost use Rattle.seq_memory.specs.declared.limits.TheConstants as limits;
 ghost use Rattle.seq_memory.specs.Step.{is_in_block, is_inside, refusal};
 
 use crate::Refusal;
+use crate::limits::{LARGE_BLOCK, SMALL_BLOCK};
 use tlp_core::{Op, OpRef, op_fault};
 
 /// Whether `count` bytes from `address` on lie in one block.
@@ -14,9 +16,10 @@ fn lies_in_block(block: u16, address: u64, count: u32) -> bool
     requires some { 1 ≤ count }
     ensures { result ≡ is_in_block block address count }
 {
-    let before = match block {
-        64 => address % 64,
-        _ => address % 128,
+    let before = if block == SMALL_BLOCK {
+        address % u64::from(SMALL_BLOCK)
+    } else {
+        address % u64::from(LARGE_BLOCK)
     };
     before + u64::from(count) <= u64::from(block)
 }
@@ -47,7 +50,7 @@ pub(crate) fn refusal_at(
     ensures value { result ≡
         (if not (is_in_block block address count) then Some Refusal.Aborted
         else (if is_inside base size address count then None else Some Refusal.Unsupported)) }
-    ensures few { IfNone result (count ≤ 128) }
+    ensures few { IfNone result (count ≤ limits.LARGE_BLOCK) }
     ensures low { IfNone result (base ≤ address) }
     ensures high { IfNone result (address + count ≤ base + size) }
 {
@@ -65,7 +68,7 @@ pub(crate) fn refusal_of(base: u64, block: u16, size: usize, op: &Op) -> Option<
     requires { IsBlock block }
     ensures value { result ≡ refusal base size block op.now }
     ensures sound { IfNone result (op_fault op.now ≡ None) }
-    ensures few { IfNone result (count_of op.now ≤ 128) }
+    ensures few { IfNone result (count_of op.now ≤ limits.LARGE_BLOCK) }
     ensures low { IfNone result (base ≤ address_of op.now) }
     ensures high { IfNone result (address_of op.now + count_of op.now ≤ base + size) }
 {
@@ -81,7 +84,7 @@ pub fn refusal_lent(base: u64, block: u16, size: usize, op: &OpRef<'_>) -> Optio
     requires { IsBlock block }
     ensures value { result ≡ refusal base size block op.now }
     ensures sound { IfNone result (op_fault op.now ≡ None) }
-    ensures few { IfNone result (count_of op.now ≤ 128) }
+    ensures few { IfNone result (count_of op.now ≤ limits.LARGE_BLOCK) }
     ensures low { IfNone result (base ≤ address_of op.now) }
     ensures high { IfNone result (address_of op.now + count_of op.now ≤ base + size) }
 {

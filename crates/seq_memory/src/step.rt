@@ -4,6 +4,7 @@ ghost use Rattle.byteorder.specs.Endian.{little_number, little_bytes};
 ghost use Rattle.arrayvec.specs.ArrayVec.{array_vec_len};
 ghost use Rattle.tlp_core.specs.Operation.{size_of, count_of, op_fault};
 ghost use Rattle.tlp_core.specs.Enables.{enables, dw_enables};
+ghost use Rattle.tlp_core.specs.Limits.{max_payload};
 ghost use Rattle.seq_memory.specs.NewValue.{FitsWidth};
 ghost use Rattle.seq_memory.specs.Limits.{IsBlock};
 ghost use Rattle.seq_memory.specs.Step.{merged, changed, place_after, read_back, read_over, after, answer, data_of, IsSizedFor};
@@ -138,7 +139,7 @@ pub(crate) const ZEROS: [u8; MAX_PAYLOAD] = [0; MAX_PAYLOAD];
 /// Last DW BE, have none (section 2.2.5).
 pub fn enabled_bytes(place: &[u8], first: u8, last: u8) -> Payload
     requires some { 4 ≤ length place.now }
-    requires few { length place.now ≤ 128 }
+    requires few { length place.now ≤ max_payload }
     requires whole { length place.now % 4 ≡ 0 }
     ensures items { result.items ≡ read_over first last place.now place.now }
     ensures len { array_vec_len result ≡ length place.now }
@@ -156,7 +157,7 @@ pub fn enabled_bytes(place: &[u8], first: u8, last: u8) -> Payload
 fn serve<'r>(place: &mut [u8], op: &OpRef<'_>, room: &'r mut ReplyData) -> ReplyRef<'r>
     requires sound { op_fault op.now ≡ None }
     requires size { length place.old ≡ count_of op.now }
-    requires few { length place.old ≤ 128 }
+    requires few { length place.old ≤ max_payload }
     ensures place { place.new ≡ place_after op.now place.old }
     ensures reply { result ≡ read_back op.now place.old }
     ensures size { IsSizedFor op.now result }
