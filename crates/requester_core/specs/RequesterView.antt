@@ -1,5 +1,6 @@
 -- A requester as contracts see it: the next number, and what is open under each of its 256 tags.
 use Rattle.std.specs.Prelude.{◌≡◌, ℕ, ◌+◌, ◌*◌, ◌<◌, ◌≤◌, ◌==◌, Bool, true, false, not, ◌&&◌, if◌then◌else◌, List, length, replicate, slice_set, get_or, Option, Some, None, is_none, Result, Ok, Err}
+use Rattle.tlp_core.specs.Limits.{most_requesters}
 use Rattle.std.specs.List.{position_or_len}
 use Rattle.tlp_core.specs.Ops.{Op}
 use Rattle.tlp_core.specs.declared.packet.Kind.{Kind}
@@ -126,7 +127,7 @@ after_finish s t = closes (finished s t) s t.tag
 -- each open number was given, and to one tag
 pub record IsSound (s : RequesterView) : Type 0 where
   pub some_port : 1 ≤ s.port
-  pub few_ports : s.port ≤ 7
+  pub few_ports : s.port ≤ most_requesters
   pub numbers : s.next ≤ 4294967295
   pub tags : length s.open_tags ≡ 256
   pub given : (tag : ℕ) (o : OpenRequest) → open_at s tag ≡ Some o → o.number < s.next

@@ -1,5 +1,6 @@
 //! The request for an operation.
 ghost use Rattle.std.specs.Prelude.{◌≡◌, ◌*◌, ◌<◌, ◌≤◌, ◌++◌, ◌+◌, None, Some, IfOk, length};
+ghost use Rattle.tlp_core.specs.Limits.{max_payload};
 ghost use Rattle.byteorder.specs.Endian.{little_bytes};
 ghost use Rattle.arrayvec.specs.ArrayVec.{array_vec_len};
 ghost use Rattle.tlp_core.specs.Operation.{size_of, op_fault, op_of};
@@ -67,7 +68,7 @@ fn put_operand(payload: &mut Payload, width: Width, operand: u128)
 
 fn payload_for(op: &OpRef<'_>) -> Payload
     ensures items { result.items ≡ requests.payload_for op.now }
-    ensures range { length result.items ≤ 128 }
+    ensures range { length result.items ≤ max_payload }
 {
     let mut payload = ArrayVec::new();
     match op {

@@ -1,5 +1,6 @@
 //! Numbers and tags.
 ghost use Rattle.std.specs.Prelude.{◌≡◌, ◌+◌, ◌*◌, ◌<◌, ◌≤◌, ◌==◌, if◌then◌else◌, Some, None, length};
+ghost use Rattle.tlp_core.specs.Limits.{most_requesters};
 ghost use Rattle.seq_memory.specs.declared.reply.ReplyOf.TheVariants as Reply;
 
 use crate::answer::Answer;
@@ -53,7 +54,7 @@ impl Requester {
     /// The requester of a port, 1 to 7, that has asked for nothing.
     pub fn new(port: u8) -> Requester
         requires some { 1 ≤ port }
-        requires few { port ≤ 7 }
+        requires few { port ≤ most_requesters }
         ensures { result ≡ fresh port }
     {
         Requester {
