@@ -1,5 +1,6 @@
 -- An operation in pieces: reads and writes in naturally aligned pieces of so many bytes, in rising order of their addresses.
 use Rattle.std.specs.Prelude.{ℕ, suc, zero, ◌≡◌, ◌+◌, ◌-◌, ◌*◌, ◌/◌, ◌%◌, ◌==◌, Bool, nat_le, if◌then◌else◌, List, [], ◌∷◌, ◌++◌, length, take, drop, is_none}
+use Rattle.seq_memory.specs.declared.limits.TheConstants.{LARGE_BLOCK}
 use Rattle.tlp_core.specs.Ops.{Op}
 use Rattle.tlp_core.specs.declared.operation.OpOf.TheVariants as ops
 use Rattle.tlp_core.specs.Enables.{enables}
@@ -105,10 +106,10 @@ all_bytes (op ∷ ops) = bytes_of op ++ all_bytes ops
 
 -- its place lies in one aligned block of 128 bytes
 abbrev pub is_in_one_block : Op → Bool
-is_in_one_block op = is_in_block 128 (address_of op) (count_of op)
+is_in_one_block op = is_in_block LARGE_BLOCK (address_of op) (count_of op)
 
 abbrev pub begins_a_block : Op → Bool
-begins_a_block op = address_of op % 128 == 0
+begins_a_block op = address_of op % LARGE_BLOCK == 0
 
 abbrev pub is_faultless : Op → Bool
 is_faultless op = is_none (op_fault op)

@@ -1,5 +1,6 @@
 //! All pieces of an operation.
 ghost use Rattle.std.specs.Prelude.{◌≡◌, ◌+◌, ◌≤◌, ◌^◌, IfOk};
+ghost use Rattle.seq_memory.specs.declared.limits.TheConstants as limits;
 ghost use Rattle.tlp_core.specs.Operation.{address_of, count_of};
 ghost use Rattle.op_pieces.specs.Pieces as spec;
 
@@ -11,7 +12,7 @@ use tlp_core::OpRef;
 /// Fails if memory can't be allocated.
 pub fn cut<'a>(alloc: Global, bytes: u64, op: &OpRef<'a>) -> Result<Vec<OpRef<'a>>, AllocError>
     requires some { 4 ≤ bytes }
-    requires few { bytes ≤ 128 }
+    requires few { bytes ≤ limits.LARGE_BLOCK }
     requires fits { address_of op.now + count_of op.now ≤ 2 ^ 64 }
     ensures { IfOk result (λ v. v.items ≡ spec.cut bytes (spec.dw_of op.now) op.now) }
 {

@@ -1,5 +1,6 @@
 //! Two parts of a read or a write: its first DW, and the others.
 ghost use Rattle.std.specs.Prelude.{◌≡◌, ◌+◌, ◌*◌, ◌<◌, ◌≤◌, ◌^◌};
+ghost use Rattle.seq_memory.specs.declared.limits.TheConstants as limits;
 ghost use Rattle.tlp_core.specs.Operation.{address_of, count_of};
 ghost use Rattle.op_pieces.specs.Pieces as spec;
 
@@ -16,10 +17,10 @@ pub fn dw_of(op: &OpRef<'_>) -> u16
     }
 }
 
-/// How many DW there are from the address to the next multiple of `bytes`, which are at most 128.
+/// How many DW there are from the address to the next multiple of `bytes`, which are at most a large block.
 pub fn dw_to(bytes: u64, address: u64) -> u16
     requires some { 4 ≤ bytes }
-    requires few { bytes ≤ 128 }
+    requires few { bytes ≤ limits.LARGE_BLOCK }
     ensures value { result ≡ spec.dw_to bytes address }
     ensures range { result ≤ 32 }
 {

@@ -1,5 +1,6 @@
 //! Laws of pieces: together they are the request.
 ghost use Rattle.std.specs.Prelude.{ℕ, ◌≡◌, ◌+◌, ◌≤◌, List, None, Some, [], ◌∷◌, length, fold, map, take, drop, slice_get, true, false, is_none};
+ghost use Rattle.seq_memory.specs.declared.limits.TheConstants.{LARGE_BLOCK};
 ghost use Rattle.std.specs.List.{list_all};
 ghost use Rattle.tlp_core.specs.Ops.{Op};
 ghost use Rattle.tlp_core.specs.declared.operation.OpOf.TheVariants as ops;
@@ -34,12 +35,12 @@ pub fn pieces_act_as_their_request()
 /// its byte enables, and the bytes of a write in turn are its bytes.
 #[tactic(auto, using(crate::proofs::Blocks::adjacent_blocks, crate::proofs::Blocks::inside_blocks, crate::proofs::Blocks::begun_blocks, crate::proofs::Blocks::faultless_blocks, crate::proofs::Blocks::enabled_blocks, crate::proofs::Blocks::written_blocks))]
 pub fn blocks_are_the_request()
-    ensures adjacent { (op : Op) → op_fault op ≡ None → AreAdjacent (address_of op) (address_of op + count_of op) (cut 128 (dw_of op) op) }
-    ensures inside { (op : Op) → op_fault op ≡ None → list_all is_in_one_block (cut 128 (dw_of op) op) ≡ true }
-    ensures begun { (op : Op) → op_fault op ≡ None → list_all begins_a_block (drop 1 (cut 128 (dw_of op) op)) ≡ true }
-    ensures faultless { (op : Op) → op_fault op ≡ None → list_all is_faultless (cut 128 (dw_of op) op) ≡ true }
-    ensures enables { (op : Op) → op_fault op ≡ None → all_enables (cut 128 (dw_of op) op) ≡ enables_of op }
-    ensures bytes { (op : Op) → op_fault op ≡ None → all_bytes (cut 128 (dw_of op) op) ≡ bytes_of op }
+    ensures adjacent { (op : Op) → op_fault op ≡ None → AreAdjacent (address_of op) (address_of op + count_of op) (cut LARGE_BLOCK (dw_of op) op) }
+    ensures inside { (op : Op) → op_fault op ≡ None → list_all is_in_one_block (cut LARGE_BLOCK (dw_of op) op) ≡ true }
+    ensures begun { (op : Op) → op_fault op ≡ None → list_all begins_a_block (drop 1 (cut LARGE_BLOCK (dw_of op) op)) ≡ true }
+    ensures faultless { (op : Op) → op_fault op ≡ None → list_all is_faultless (cut LARGE_BLOCK (dw_of op) op) ≡ true }
+    ensures enables { (op : Op) → op_fault op ≡ None → all_enables (cut LARGE_BLOCK (dw_of op) op) ≡ enables_of op }
+    ensures bytes { (op : Op) → op_fault op ≡ None → all_bytes (cut LARGE_BLOCK (dw_of op) op) ≡ bytes_of op }
 {}
 
 /// If a memory with larger blocks serves a request, a memory with blocks of 128 bytes serves each of its pieces. The data of
@@ -47,7 +48,7 @@ pub fn blocks_are_the_request()
 #[tactic(auto, using(crate::proofs::Blocks::served_blocks, crate::proofs::Blocks::read_blocks))]
 pub fn a_read_of_blocks_is_a_read()
     ensures served { (x : Extent) (op : Op) → is_served x op ≡ true →
-        list_all (is_served (record { base = x.base; size = x.size; block = 128 })) (cut 128 (dw_of op) op) ≡ true }
+        list_all (is_served (record { base = x.base; size = x.size; block = LARGE_BLOCK })) (cut LARGE_BLOCK (dw_of op) op) ≡ true }
     ensures whole { (x : Extent) (m : List ℕ) (a dw f l : ℕ) → length m ≡ x.size → is_served x (ops.Read a dw f l) ≡ true →
-        returned (map (answer x.base 128 m) (cut 128 dw (ops.Read a dw f l))) ≡ returned (answer x.base x.block m (ops.Read a dw f l) ∷ []) }
+        returned (map (answer x.base LARGE_BLOCK m) (cut LARGE_BLOCK dw (ops.Read a dw f l))) ≡ returned (answer x.base x.block m (ops.Read a dw f l) ∷ []) }
 {}
