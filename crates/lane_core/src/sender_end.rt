@@ -162,9 +162,10 @@ impl SenderEnd {
         ensures err_sender { OnErr result (self.new ≡ self.old) }
         ensures err_wire { OnErr result (wire.new ≡ wire.old) }
     {
-        let Some((number, cargo)) = self.sender.next_packet() else {
+        let Some((number, kept)) = self.sender.next_packet() else {
             return Ok(None);
         };
+        let cargo = kept.copied();
         if wire
             .packets
             .push_back(WirePacket { number, cargo })

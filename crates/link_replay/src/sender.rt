@@ -1,6 +1,7 @@
 //! The sender: numbers, replay buffer, sending place and replay counter.
 ghost use Rattle.std.specs.Prelude.{◌≡◌, false, ◌+◌, ◌-◌, ◌<◌, ◌≤◌, ◌↔◌, [], length, drop, is_some, IsTrue, IsOk, IfOk, OnOk, OnErr};
 ghost use Rattle.std.specs.VecDeque.{deque_len, deque_capacity};
+ghost use Rattle.std.specs.Option.{option_map};
 
 use crate::cargo::Cargo;
 use crate::fault::{AckFault, SendRefusal};
@@ -168,18 +169,16 @@ impl Sender {
         !self.stopped && self.place < self.kept.len()
     }
 
-    /// A copy of the packet at the place, under its number. None where all were sent, and while the sender is stopped.
-    /// It takes no memory.
-    pub fn next_packet(&self) -> Option<(Seq12, Cargo)>
-        ensures packet { result ≡ sent_from self.now }
+    /// The packet at the place, under its number. None where all were sent, and while the sender is stopped.
+    pub fn next_packet(&self) -> Option<(Seq12, &Cargo)>
+        ensures packet { option_map (λ sent. (sent.0, sent.1.now)) result ≡ sent_from self.now }
         ensures some { is_some result ≡ is_some (next_item self.now) }
     {
         if !self.can_transmit() {
             return None;
         }
-        let cargo = self.kept[self.place].copied();
         let number = self.acked.plus(self.place as u16 + 1);
-        Some((number, cargo))
+        Some((number, &self.kept[self.place]))
     }
 
     /// The place moves on: the packet that [`next_packet`](Self::next_packet) gives was sent.
@@ -196,9 +195,12 @@ impl Sender {
         ensures packet { result ≡ sent_from self.old }
         ensures state { self.new ≡ after_transmit self.old }
     {
-        let sent = self.next_packet()?;
+        let Some((number, cargo)) = self.next_packet() else {
+            return None;
+        };
+        let cargo = cargo.copied();
         self.advance();
-        Some(sent)
+        Some((number, cargo))
     }
 
     /// An Ack: all packets through its number are dropped. Gives how many; takes time in their number, and no memory.

@@ -158,11 +158,12 @@ impl OutgoingEnd {
         ensures bytes { out.new.items ≡ spec.packet_bytes self.old }
         ensures state { self.new ≡ after_transmission self.old }
     {
-        let Some((number, cargo)) = self.sender.transmit() else {
+        let Some((number, cargo)) = self.sender.next_packet() else {
             out.clear();
             return None;
         };
-        put_packet(number, &cargo, out);
+        put_packet(number, cargo, out);
+        self.sender.advance();
         Some(number)
     }
 
