@@ -115,7 +115,7 @@ no_first m e =
 
 -- ---- `get` of the class's queue
 
-got_lent : (list : List Arrived) (k : ℕ) (x : Arrived) (m : List Arrived) (n : ℕ) (got : Option (Bor Arrived)) → IsItemAt list k got → slice_get list k ≡ Some x → slice_get m n ≡ Some x →
+pub got_lent : (list : List Arrived) (k : ℕ) (x : Arrived) (m : List Arrived) (n : ℕ) (got : Option (Bor Arrived)) → IsItemAt list k got → slice_get list k ≡ Some x → slice_get m n ≡ Some x →
     MatchOption got (slice_get m n ≡ None) (λ y. slice_get m n ≡ Some y.now)
 got_lent list k x m n (Some y) i e f = f ∙ ap (λ (z : Arrived). Some z) (sym (i.1 ∙ get_or_from_slice_get list k x y.now e))
 got_lent list k x m n None i e f = let no = i.2 (slice_get_within list k x e) in cc

@@ -4,6 +4,7 @@ use Rattle.std.specs.Prelude.{◌&&◌, nat_lt, slice_get, slice_index_or, remov
 use Rattle.std.specs.Option.{IsSome, option_map}
 use Rattle.std.specs.Prelude.{MatchOption, is_some}
 use Rattle.std.specs.Borrow.{Bor}
+use Rattle.std.specs.Slice.{IsItemAt}
 use Rattle.std.proofs.lemmas.Option.{slice_get-map}
 use Rattle.std.proofs.lemmas.List.{map-append}
 use Rattle.std.specs.List.{list_all}
@@ -26,7 +27,7 @@ use Rattle.flow_control.specs.Queue.{Item, passes_each, first_passes, is_takeabl
 use Rattle.flow_control.specs.Arrivals.{item_of, class_in, IsSplit, IsCut, IsRising, list_of, count_in, past, keep, of_class, first_class, Rises, smaller, numbered, AreItemsOf}
 use Rattle.flow_control.proofs.Places.{drop_read, takeable_is_there, takeable_from, non_posted_is_passed, request_goes, nothing_passes_posted}
 use Rattle.flow_control.proofs.Merged.{same_class, keep_mine, keep_other, of_list, of_cut, of_append, first_of_some, first_of_none, nothing_left, left, split_at, TellsFirst}
-use Rattle.flow_control.proofs.Taken.{found_class, got_of_drop}
+use Rattle.flow_control.proofs.Taken.{found_class, got_of_drop, got_lent}
 
 -- ---- classes
 
@@ -316,3 +317,17 @@ may_be_taken m n None t h =
 pub is_some_if : {X : Type 0} (P : X → Type 0) (got : Option X) (b : Bool) → MatchOption got (b ≡ false) (λ x. (b ≡ true) × P x) → is_some got ≡ b
 is_some_if P (Some x) b h = sym h.0
 is_some_if P None b h = sym h
+
+-- the oldest may be taken, and is lent
+pub first_lent : (m : List Arrived) (q : Classes) (c : Class) (got : Option (Bor Arrived)) → IsSplit m q → first_class m ≡ Some c → IsItemAt (list_of c q) 0 got →
+    MatchOption got (is_takeable (map item_of m) 0 ≡ false) (λ y. (is_takeable (map item_of m) 0 ≡ true) × (slice_get m 0 ≡ Some y.now))
+first_lent m q c got s e i =
+    let first = first_of_some m c e in
+    let list : list_of c q ≡ first.0 ∷ of_class c first.1 =
+    of_list c m q s ∙ (ap (of_class c) first.2 ∙ keep_mine c first.0 first.0 (of_class c first.1) first.3) in
+    let may : is_takeable (map item_of m) 0 ≡ true = ap (λ (l : List Arrived). is_takeable (map item_of l) 0) first.2 in
+    may_be_taken m 0 got may
+    (got_lent (list_of c q) 0 first.0 m 0 got i (ap (λ (l : List Arrived). slice_get l 0) list) (ap (λ (l : List Arrived). slice_get l 0) first.2))
+
+pub no_first_lent : (m : List Arrived) → first_class m ≡ None → is_takeable (map item_of m) 0 ≡ false
+no_first_lent m e = ap (λ (l : List Arrived). is_takeable (map item_of l) 0) (first_of_none m e)

@@ -164,6 +164,7 @@ impl Classes {
     }
 
     /// Takes the packet at a place of the queue of a class out, with its mark: that queue closes up.
+    #[inline(always)]
     fn take_of(&mut self, class: Class, place: usize) -> Option<(Tlp, u32)>
         ensures item { result ≡ option_map item_of (slice_get (list_of class self.old) place) }
         ensures queue { HasInstead class (remove (list_of class self.old) place) self.old self.new }
@@ -177,6 +178,7 @@ impl Classes {
     }
 
     /// Takes the oldest packet out, with its mark.
+    #[inline(always)]
     fn take_first(&mut self) -> Option<(Tlp, u32)>
         ensures item { (all : List _) → IsSplit all self.old → result ≡ slice_get (map item_of all) 0 }
         ensures rest { (all : List _) → IsSplit all self.old → IsSplit (remove all 0) self.new }
@@ -186,6 +188,7 @@ impl Classes {
     }
 
     /// Takes the packet at a place of all out, with its mark.
+    #[inline(always)]
     pub(crate) fn take(&mut self, place: usize) -> Option<(Tlp, u32)>
         ensures item { (all : List _) → IsSplit all self.old → result ≡ slice_get (map item_of all) place }
         ensures rest { (all : List _) → IsSplit all self.old → IsSplit (remove all place) self.new }
@@ -227,12 +230,26 @@ impl Classes {
         true
     }
 
+    /// The oldest packet, before which there is none to pass.
+    fn lend_first(&self) -> Option<&Arrived>
+        ensures { (all : List _) → IsSplit all self.now →
+            MatchOption result (is_takeable (map item_of all) 0 ≡ false) (λ x. (is_takeable (map item_of all) 0 ≡ true) × (slice_get all 0 ≡ Some x.now)) }
+    {
+        let Some(class) = self.first() else {
+            return None;
+        };
+        self.of(class).get(0)
+    }
+
     /// The packet at a place of all that may pass every earlier one; none otherwise.
     pub(crate) fn peek(&self, place: usize) -> Option<&Arrived>
         ensures { (all : List _) → IsSplit all self.now →
             MatchOption result (is_takeable (map item_of all) place ≡ false) (λ x. (is_takeable (map item_of all) place ≡ true) ×
             (slice_get all place ≡ Some x.now)) }
     {
+        if place == 0 {
+            return self.lend_first();
+        }
         let Some(cut) = self.cut_free(place) else {
             return None;
         };

@@ -66,6 +66,7 @@ pub(crate) fn renumber(queue: &mut VecDeque<Arrived>, place: usize, arrival: u64
 }
 
 /// Takes the packet at a place of one queue out, with its mark.
+#[inline(always)]
 pub(crate) fn take_item(queue: &mut VecDeque<Arrived>, place: usize) -> Option<(Tlp, u32)>
     ensures item { result ≡ option_map item_of (slice_get queue.old.items place) }
     ensures rest { queue.new.items ≡ remove queue.old.items place }

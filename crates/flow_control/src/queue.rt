@@ -94,6 +94,7 @@ impl OrderedQueue {
     }
 
     /// Takes the packet at this place out, with its mark.
+    #[inline(always)]
     pub fn take(&mut self, place: usize) -> (Tlp, u32)
         requires { IsTrue (is_takeable self.old place) }
         ensures item { slice_get self.old place ≡ Some result }

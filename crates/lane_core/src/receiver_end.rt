@@ -179,6 +179,7 @@ impl ReceiverEnd {
     }
 
     /// Takes the accepted packet of a place, with its mark, and gives its credits back.
+    #[inline(always)]
     pub fn take(&mut self, place: usize) -> (Tlp, u32)
         requires { IsTrue (is_takeable self.old.queue place) }
         ensures item { slice_get self.old.queue place ≡ Some result }
