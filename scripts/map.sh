@@ -4,6 +4,7 @@
 #     names functions, clauses, types and modules that the crate's src/ declares
 #   crates/README.md has each heading as the name of a layer
 #   where a layer's row in crates/README.md begins with names, each crate of the layer begins or ends with one of them
+#   the recipe of an operation in CONTRIBUTING.md names each crate, but tests, that has an arm for CAS
 #   docs/promises.md names clauses that their functions have, definitions with their number of lines, and wrong bodies
 #     that exist, in at most 25 rows, and has above its table, word for word, each sentence that README.md says is proved
 #   each contract and definition quoted in docs/reading-proofs.md stands in the file that is named last above it
@@ -64,6 +65,17 @@ awk -F ' [|] ' '
 while read -r crate; do fail "another name than its layer's crates: $crate"; done < "$room/strangers"
 awk -F ' [|] ' '/^[|] `/ && split($2, words, " ") > 12 { print $1 }' docs/crates.md > "$room/long"
 while read -r row; do fail "more than 12 words: $row"; done < "$room/long"
+
+# Where an operation has arms of its own: in code, and in definitions.
+grep '^[*][*]An operation' CONTRIBUTING.md > "$room/recipe"
+{
+    grep -rlE '(Op|OpOf|OpRef|Kind)::Cas' crates/*/src
+    grep -rlE '(ops|kinds)[.]Cas' crates/*/specs
+} | cut -d / -f 2 | grep -v '_tests$' | sort -u > "$room/arms"
+[ -s "$room/arms" ] || fail "no crate has an arm for CAS"
+while read -r crate; do
+    grep -q "\`$crate\`" "$room/recipe" || fail "the recipe of an operation lacks $crate"
+done < "$room/arms"
 
 # The last column's words in backquotes, as lines of a crate and a name.
 awk -F ' [|] ' '/^[|] `/ {
