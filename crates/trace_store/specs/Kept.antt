@@ -1,5 +1,6 @@
 -- Operations and replies whose bytes stand in their fields, or in a list with those of others.
 use Rattle.std.specs.Prelude.{ℕ, ◌≡◌, ◌+◌, ◌<◌, ◌≤◌, ◌⊎◌, nat_le, if◌then◌else◌, List, length, take, drop}
+use Rattle.tlp_core.specs.Limits.{max_payload}
 use Rattle.byteorder.specs.Endian.{little_number}
 use Rattle.tlp_core.specs.Ops.{Op}
 use Rattle.tlp_core.specs.declared.operation.OpOf.TheVariants as ops
@@ -56,14 +57,14 @@ Holds bytes room size = 8 < size → little_number 8 room + size ≤ length byte
 -- the operation's bytes are there
 abbrev pub HasOp : List ℕ → OpKind → Fields → Type 0
 HasOp bytes op_kinds.Read f = Unit {0}
-HasOp bytes op_kinds.Write f = (f.count ≤ 128) × Holds bytes f.room f.count
+HasOp bytes op_kinds.Write f = (f.count ≤ max_payload) × Holds bytes f.room f.count
 HasOp bytes (op_kinds.FetchAdd w) f = IsSize f.count × Holds bytes f.room f.count
 HasOp bytes (op_kinds.Swap w) f = IsSize f.count × Holds bytes f.room f.count
 HasOp bytes (op_kinds.Cas w) f = IsSize f.count × Holds bytes f.room (f.count + f.count)
 
 -- the reply's bytes are there
 abbrev pub HasReply : List ℕ → ReplyKind → Fields → Type 0
-HasReply bytes reply_kinds.Data f = (f.count ≤ 128) × Holds bytes f.room f.count
+HasReply bytes reply_kinds.Data f = (f.count ≤ max_payload) × Holds bytes f.room f.count
 HasReply bytes _ f = Unit {0}
 
 -- bytes stand behind the old ones
