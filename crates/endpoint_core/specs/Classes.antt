@@ -1,5 +1,6 @@
 -- What becomes of the bytes of a TLP, whatever the state of the device (PCI Express Base 4.0, sections 2.2, 2.3.1 and 2.7).
 use Rattle.std.specs.Prelude.{ℕ, ◌+◌, ◌-◌, ◌*◌, ◌/◌, ◌%◌, ◌==◌, ◌||◌, Bool, false, not, nat_lt, if◌then◌else◌, List, length, take, drop, slice_index, slice_set, Result, Ok, Err}
+use Rattle.tlp_core.specs.Limits.{max_payload}
 use Rattle.byteorder.specs.Endian.{big_number}
 use Rattle.tlp_core.specs.declared.fault.TlpFault.{TlpFault}
 use Rattle.tlp_core.specs.declared.fault.TlpFault.TheVariants as faults
@@ -123,7 +124,7 @@ abbrev pub of_message : Bool → List ℕ → Received
 of_message poisoned b =
     if nat_lt (length b) 16 then received.Malformed (malformed.Packet faults.Short)
     else (if not (length b - 16 == message_data b) then received.Malformed (malformed.Packet faults.LengthMismatch)
-    else (if nat_lt 128 (message_data b) then received.Malformed (malformed.Packet faults.PayloadTooLong)
+    else (if nat_lt max_payload (message_data b) then received.Malformed (malformed.Packet faults.PayloadTooLong)
     else (if poisoned then received.Unsupported noted.ParityError
     else (if is_ignored (slice_index b 7) then received.Ignored else received.Unsupported noted.UnsupportedRequest))))
 

@@ -1,5 +1,6 @@
 -- Lists of calls of a device: the requests that come, wait, act and are completed, and what is done to the registers.
 use Rattle.std.specs.Prelude.{ℕ, List, [], ◌∷◌, ◌++◌, fold, map, flat_map, Option, Some, None, ◌%◌, ◌==◌, not, if◌then◌else◌}
+use Rattle.seq_memory.specs.declared.limits.TheConstants.{LARGE_BLOCK}
 use Rattle.tlp_core.specs.Ops.{Op}
 use Rattle.tlp_core.specs.Operation.{op_of}
 use Rattle.seq_memory.specs.Step.{after}
@@ -125,7 +126,7 @@ all_effects e cs = all_of effects e cs
 
 -- the bytes after all of them
 abbrev pub bytes_by : List ℕ → List Effect → List ℕ
-bytes_by m es = fold (λ m x. after x.base 128 m x.op) m es
+bytes_by m es = fold (λ m x. after x.base LARGE_BLOCK m x.op) m es
 
 -- ---- which requests are completed
 

@@ -1,5 +1,6 @@
 -- What TLPs do to a device: those that come, and those that wait (PCI Express Base 4.0, sections 2.2.9, 2.3.1 and 2.4.1).
 use Rattle.std.specs.Prelude.{ℕ, ◌+◌, ◌-◌, ◌*◌, ◌%◌, ◌^◌, ◌==◌, ◌&&◌, Bool, true, not, nat_le, if◌then◌else◌, List, [], ◌∷◌, ◌++◌, drop, fold, replicate, Option, Some, None, is_some, option_map}
+use Rattle.seq_memory.specs.declared.limits.TheConstants.{LARGE_BLOCK}
 use Rattle.byteorder.specs.Endian.{little_bytes}
 use Rattle.tlp_core.specs.Ops.{Op}
 use Rattle.tlp_core.specs.declared.operation.OpOf.TheVariants as ops
@@ -51,11 +52,11 @@ base_of_op d op = base_for d (address_of op) (count_of op)
 
 -- the block requests of a request: one for each naturally aligned block of 128 bytes that it touches, in rising order
 abbrev pub blocks_of : Op → List Op
-blocks_of op = cut 128 (dw_of op) op
+blocks_of op = cut LARGE_BLOCK (dw_of op) op
 
 -- the bytes after these requests, where the first byte has the address base
 abbrev pub after_all : ℕ → List ℕ → List Op → List ℕ
-after_all base m ops = fold (λ m op. after base 128 m op) m ops
+after_all base m ops = fold (λ m op. after base LARGE_BLOCK m op) m ops
 
 -- a posted request that is claimed acts, block by block
 abbrev pub posted_at : DeviceView → Op → Option ℕ → DeviceView
@@ -68,7 +69,7 @@ posted d None = d
 
 -- of a read that goes on in the next block the DW in its first block, and else 0
 abbrev pub dw_before_end : ℕ → ℕ → ℕ
-dw_before_end a dw = if nat_le dw (dw_to 128 a) then 0 else dw_to 128 a
+dw_before_end a dw = if nat_le dw (dw_to LARGE_BLOCK a) then 0 else dw_to LARGE_BLOCK a
 
 abbrev pub dw_in_front : Op → ℕ
 dw_in_front (ops.Read a dw f l) = dw_before_end a dw
@@ -88,7 +89,7 @@ behind n t = record t { length = t.length - n; body = body_behind n t.length t.b
 
 -- the first block request of a claimed request acts
 abbrev pub acted_at : DeviceView → Op → Option ℕ → DeviceView
-acted_at d op (Some base) = record d { bytes = after base 128 d.bytes (first_block op) }
+acted_at d op (Some base) = record d { bytes = after base LARGE_BLOCK d.bytes (first_block op) }
 acted_at d op None = noting d noted.UnsupportedRequest
 
 abbrev pub memory_acted : DeviceView → Option Op → DeviceView
@@ -125,7 +126,7 @@ refused_count _ body dw = 4
 -- the completion carries the reply of the block request; Byte Count and Lower Address are those of all that is left of the
 -- request (section 2.2.9)
 abbrev pub completion_at : DeviceView → TlpView → Op → Option ℕ → Option TlpView
-completion_at d t op (Some base) = option_map (from d.completer) (completion_of t (answer base 128 d.bytes (first_block op)))
+completion_at d t op (Some base) = option_map (from d.completer) (completion_of t (answer base LARGE_BLOCK d.bytes (first_block op)))
 completion_at d t op None = Some (completion_without (descriptor_of t) d.completer statuses.Unsupported (refused_count t.kind t.body t.length))
 
 abbrev pub memory_completion : DeviceView → TlpView → Option Op → Option TlpView

@@ -8,7 +8,7 @@ ghost use Rattle.endpoint_core.specs.Classes as spec;
 use crate::received::{Descriptor, LONGEST, Malformed, PacketRoom, Received};
 use byteorder::{BigEndian, ByteOrder};
 use config_core::{CfgRequest, Noted};
-use tlp_core::{Body, Kind, TlpFault, TlpRef};
+use tlp_core::{Body, Kind, MAX_PAYLOAD, TlpFault, TlpRef};
 
 /// The bytes without TD and EP, and without a digest.
 fn plain<'r>(bytes: &'r [u8], room: &'r mut PacketRoom) -> &'r [u8]
@@ -211,7 +211,7 @@ fn of_message<'a>(poisoned: bool, bytes: &[u8]) -> Received<'a>
     if bytes.len() - 16 != usize::from(data) {
         return malformed(TlpFault::LengthMismatch);
     }
-    if data > 128 {
+    if usize::from(data) > MAX_PAYLOAD {
         return malformed(TlpFault::PayloadTooLong);
     }
     if poisoned {

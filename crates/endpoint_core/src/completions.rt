@@ -1,5 +1,6 @@
 //! Completions with the Completer ID of a device.
 ghost use Rattle.std.specs.Prelude.{◌≡◌, ◌≤◌, ◌<◌, ◌⊎◌, [], Option, Some, None, IfSome, IfNone, option_map};
+ghost use Rattle.seq_memory.specs.declared.limits.TheConstants as limits;
 ghost use Rattle.tlp_core.specs.Ops.{Op};
 ghost use Rattle.tlp_core.specs.Operation.{op_of};
 ghost use Rattle.seq_memory.specs.Entries.{Reply};
@@ -12,9 +13,9 @@ ghost use Rattle.op_pieces.specs.Pieces as pieces;
 ghost use Rattle.endpoint_core.specs.Classes as classes;
 
 use crate::Descriptor;
-use crate::requests::{BLOCK, in_front};
+use crate::requests::in_front;
 use completer_core::answer_lent;
-use seq_memory::ReplyData;
+use seq_memory::{LARGE_BLOCK, ReplyData};
 use tlp_core::{Body, Header, Kind, Status, TlpRef, op_lent};
 
 /// Where the memory of a device begins, and its Completer ID.
@@ -42,7 +43,7 @@ fn counts_of(request: &TlpRef<'_>) -> Option<Counts>
 {
     let _op = op_lent(request)?;
     let mut room = ReplyData::new();
-    let refused = answer_lent(0, BLOCK, &mut [], request, &mut room)?;
+    let refused = answer_lent(0, LARGE_BLOCK, &mut [], request, &mut room)?;
     match refused.header.body {
         Body::Completion {
             byte_count,
@@ -128,11 +129,11 @@ fn answer_front<'r>(
     room: &'r mut ReplyData,
 ) -> Option<TlpRef<'r>>
     requires { blocks.IsCut dw read.now }
-    ensures bytes { bytes.new ≡ bytes_after place.base 128 bytes.old (blocks.in_front dw read.now) }
+    ensures bytes { bytes.new ≡ bytes_after place.base limits.LARGE_BLOCK bytes.old (blocks.in_front dw read.now) }
     ensures completion { (op : Op) → op_of read.now ≡ Some op →
-        result ≡ option_map (spec.from place.completer) (completion_of read.now (answer place.base 128 bytes.old (pieces.front dw op))) }
+        result ≡ option_map (spec.from place.completer) (completion_of read.now (answer place.base limits.LARGE_BLOCK bytes.old (pieces.front dw op))) }
 {
-    let completion = answer_lent(place.base, BLOCK, bytes, &in_front(dw, read), room)?;
+    let completion = answer_lent(place.base, LARGE_BLOCK, bytes, &in_front(dw, read), room)?;
     let counts = counts_of(read)?;
     Some(counted(completion, place.completer, counts))
 }
@@ -146,14 +147,15 @@ pub(crate) fn answer_first<'r>(
     room: &'r mut ReplyData,
 ) -> Option<TlpRef<'r>>
     requires { (dw ≡ 0) ⊎ blocks.IsCut dw request.now }
-    ensures bytes { (op : Op) → op_of request.now ≡ Some op → spec.dw_in_front op ≡ dw → bytes.new ≡ after place.base 128 bytes.old (spec.first_block op) }
+    ensures bytes { (op : Op) → op_of request.now ≡ Some op → spec.dw_in_front op ≡ dw →
+        bytes.new ≡ after place.base limits.LARGE_BLOCK bytes.old (spec.first_block op) }
     ensures completion { (op : Op) → op_of request.now ≡ Some op → spec.dw_in_front op ≡ dw →
-        result ≡ option_map (spec.from place.completer) (completion_of request.now (answer place.base 128 bytes.old (spec.first_block op))) }
+        result ≡ option_map (spec.from place.completer) (completion_of request.now (answer place.base limits.LARGE_BLOCK bytes.old (spec.first_block op))) }
 {
     if dw != 0 {
         return answer_front(place, bytes, request, dw, room);
     }
-    let completion = answer_lent(place.base, BLOCK, bytes, request, room)?;
+    let completion = answer_lent(place.base, LARGE_BLOCK, bytes, request, room)?;
     Some(from(completion, place.completer))
 }
 

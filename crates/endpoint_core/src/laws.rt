@@ -1,5 +1,6 @@
 //! Laws of any list of calls.
 ghost use Rattle.std.specs.Prelude.{ℕ, ◌≡◌, ◌+◌, ◌-◌, ◌%◌, ◌++◌, ◌∷◌, [], List, Some, None, IsSome};
+ghost use Rattle.seq_memory.specs.declared.limits.TheConstants as limits;
 ghost use Rattle.tlp_core.specs.Ops.{Op};
 ghost use Rattle.tlp_core.specs.Operation.{address_of, count_of, op_fault, op_of};
 ghost use Rattle.tlp_core.specs.declared.packet.Kind.TheVariants as kinds;
@@ -68,7 +69,7 @@ pub fn requests_are_completed_in_order()
 pub fn a_read_goes_on_where_its_first_block_ended()
     ensures boundary { (t : TlpView) (op rest : Op) → op_of t ≡ Some op → op_fault op ≡ None → (dw_in_front op ≡ 0 → ⊥) →
         op_of (behind (dw_in_front op) t) ≡ Some rest →
-        (address_of rest ≡ address_of (first_block op) + count_of (first_block op)) × (address_of rest % 128 ≡ 0) }
+        (address_of rest ≡ address_of (first_block op) + count_of (first_block op)) × (address_of rest % limits.LARGE_BLOCK ≡ 0) }
     ensures counts { (t : TlpView) (op : Op) → op_of t ≡ Some op → op_fault op ≡ None → (dw_in_front op ≡ 0 → ⊥) →
         (byte_count t.kind t.body t.length ≡ count_of (first_block op) - lead (enables_of op) +
         byte_count (behind (dw_in_front op) t).kind (behind (dw_in_front op) t).body (behind (dw_in_front op) t).length)

@@ -1,7 +1,7 @@
 //! What a TLP is to a device.
 use config_core::{CfgFault, CfgRequest, Noted};
 use std::marker::Model;
-use tlp_core::{TlpFault, TlpRef};
+use tlp_core::{MAX_TLP, TlpFault, TlpRef};
 
 /// Transaction Descriptor (section 2.2.6): what a completion repeats of its request.
 #[derive(Clone, Copy)]
@@ -67,8 +67,8 @@ pub struct PacketRoom {
     pub(crate) bytes: [u8; LONGEST],
 }
 
-/// The bytes of the longest TLP: 16 of a header, 128 of a payload, 4 of a digest.
-pub(crate) const LONGEST: usize = 148;
+/// The bytes of the longest TLP, with a digest of 4.
+pub(crate) const LONGEST: usize = MAX_TLP + 4;
 
 impl PacketRoom {
     pub fn new() -> PacketRoom {

@@ -7,13 +7,10 @@ ghost use Rattle.endpoint_core.specs.Blocks as blocks;
 
 use op_pieces::laws::blocks_are_the_request;
 use op_pieces::{back, dw_of, dw_to, front};
-use seq_memory::{ReplyData, perform_lent};
+use seq_memory::{LARGE_BLOCK, ReplyData, perform_lent};
 use tlp_core::{Body, Header, OpRef, TlpRef};
 
-/// The bytes of a block: a memory request is divided at multiples of them.
-pub(crate) const BLOCK: u16 = 128;
-
-/// A request of at most 128 bytes acts, block by block: they are at most two.
+/// A request of at most as many bytes as a payload has acts, block by block: they are at most two.
 #[tactic(auto, using(crate::proofs::Parts::one_block, crate::proofs::Parts::two_blocks, crate::proofs::Parts::front_sound, crate::proofs::Parts::back_sound))]
 pub(crate) fn act_all(base: u64, bytes: &mut [u8], op: &OpRef<'_>, room: &mut ReplyData)
     requires sound { op_fault op.now ≡ None }
@@ -22,13 +19,13 @@ pub(crate) fn act_all(base: u64, bytes: &mut [u8], op: &OpRef<'_>, room: &mut Re
     ensures { bytes.new ≡ spec.after_all base bytes.old (spec.blocks_of op.now) }
 {
     blocks_are_the_request();
-    let dw = dw_to(u64::from(BLOCK), op.address());
+    let dw = dw_to(u64::from(LARGE_BLOCK), op.address());
     if dw_of(op) <= dw {
-        let _ = perform_lent(base, BLOCK, bytes, op, room);
+        let _ = perform_lent(base, LARGE_BLOCK, bytes, op, room);
         return;
     }
-    let _ = perform_lent(base, BLOCK, bytes, &front(dw, op), room);
-    let _ = perform_lent(base, BLOCK, bytes, &back(dw, op), room);
+    let _ = perform_lent(base, LARGE_BLOCK, bytes, &front(dw, op), room);
+    let _ = perform_lent(base, LARGE_BLOCK, bytes, &back(dw, op), room);
 }
 
 /// How many DW are in a read's first block, if it goes on in the next, and else 0.
@@ -38,7 +35,7 @@ pub(crate) fn dw_in_front(op: &OpRef<'_>) -> u16
 {
     match op {
         OpRef::Read { address, dw, .. } => {
-            let front = dw_to(u64::from(BLOCK), *address);
+            let front = dw_to(u64::from(LARGE_BLOCK), *address);
             if *dw <= front { 0 } else { front }
         }
         _ => 0,
