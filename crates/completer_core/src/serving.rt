@@ -7,7 +7,7 @@ ghost use Rattle.completer_core.specs.Serving.{after_serving, completion_to, byt
 
 use crate::completion::{completion_lent, completion_with};
 use flow_control::Need;
-use seq_memory::{Entry, Memory, Refusal, ReplyData, perform_lent};
+use seq_memory::{Entry, Keeper, Memory, Refusal, ReplyData, perform_lent};
 use std::alloc::AllocError;
 use tlp_core::{Op, Tlp, TlpRef, op_lent, op_of};
 
@@ -16,7 +16,11 @@ use tlp_core::{Op, Tlp, TlpRef, op_lent, op_of};
 /// history all the same. Fails only where the history can't grow, and then changes nothing; a
 /// completion in place of a request does nothing.
 #[inline(always)]
-pub fn serve(memory: &mut Memory, request: &Tlp, number: u32) -> Result<Option<Tlp>, AllocError>
+pub fn serve<K: Keeper>(
+    memory: &mut Memory<K>,
+    request: &Tlp,
+    number: u32,
+) -> Result<Option<Tlp>, AllocError>
     ensures memory { OnOk result (memory.new ≡ after_serving memory.old request.now number) }
     ensures completion { IfOk result (λ c. c ≡ completion_to memory.old request.now) }
     ensures err { OnErr result (memory.new ≡ memory.old) }
@@ -29,8 +33,8 @@ pub fn serve(memory: &mut Memory, request: &Tlp, number: u32) -> Result<Option<T
 
 /// What [`serve`] does for a request whose operation was taken out of it.
 #[inline(always)]
-pub fn serve_op(
-    memory: &mut Memory,
+pub fn serve_op<K: Keeper>(
+    memory: &mut Memory<K>,
     request: &Tlp,
     op: Op,
     number: u32,
@@ -85,7 +89,7 @@ pub fn answer(base: u64, block: u16, bytes: &mut [u8], request: &Tlp) -> Option<
 
 /// What the request's completion would take of the credits, if it acted now; none for a posted
 /// write (section 2.6.1). Takes no memory.
-pub fn need_to_answer(memory: &Memory, request: &Tlp) -> Option<Need>
+pub fn need_to_answer<K: Keeper>(memory: &Memory<K>, request: &Tlp) -> Option<Need>
     ensures { result ≡ option_map need_of (completion_to memory.now request.now) }
 {
     let op = op_of(request)?;
@@ -93,7 +97,7 @@ pub fn need_to_answer(memory: &Memory, request: &Tlp) -> Option<Need>
 }
 
 /// What [`need_to_answer`] gives for a request whose operation was taken out of it.
-pub fn need_for(memory: &Memory, request: &Tlp, op: &Op) -> Option<Need>
+pub fn need_for<K: Keeper>(memory: &Memory<K>, request: &Tlp, op: &Op) -> Option<Need>
     requires asks { op_of request.now ≡ Some op.now }
     requires sound { op_fault op.now ≡ None }
     ensures { result ≡ option_map need_of (completion_to memory.now request.now) }

@@ -1,6 +1,9 @@
 -- A part that is lent: it becomes what is written behind the loan.
+use denote.RattleType.{RattleType}
 use Rattle.std.specs.Borrow.{Lends, MutBor, Fml}
 use Rattle.seq_memory.specs.contracts.memory.Memory as memory
+use Rattle.seq_memory.specs.contracts.history.Kept as kept
+use Rattle.seq_memory.specs.contracts.history.KeptKeeper.TheImpl.{ghosts}
 use Rattle.requester_core.specs.contracts.requester.Requester as requester
 use Rattle.lane_core.specs.contracts.sender_end.SenderEnd as sender
 use Rattle.lane_core.specs.contracts.wires.ForwardWire as forward
@@ -10,8 +13,12 @@ use Rattle.hall_laws.specs.declared.part.PartValue.{PartValue}
 use Rattle.hall_laws.specs.declared.part.PartValue.TheVariants.{Memory, Requester, Sender, Forward, Back, Receiver}
 use Rattle.hall_laws.specs.contracts.part.PartValue.{the_row}
 
-abbrev pub LendsMemory : MutBor PartValue → MutBor memory.the_row.Denot → Fml
-LendsMemory part loan = Lends the_row memory.the_row part loan (λ m. Memory m)
+-- a memory that keeps its history
+abbrev pub memory_row : RattleType
+memory_row = memory.the_row kept.the_row ghosts
+
+abbrev pub LendsMemory : MutBor PartValue → MutBor memory_row.Denot → Fml
+LendsMemory part loan = Lends the_row memory_row part loan (λ m. Memory m)
 
 abbrev pub LendsRequester : MutBor PartValue → MutBor requester.the_row.Denot → Fml
 LendsRequester part loan = Lends the_row requester.the_row part loan (λ q. Requester q)

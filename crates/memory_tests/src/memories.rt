@@ -1,6 +1,6 @@
 //! What memories hold, answer and refuse.
 use arrayvec::ArrayVec;
-use seq_memory::{Entry, Extent, Memory, Reply};
+use seq_memory::{Counted, Entry, Extent, Keeper, Memory, Reply};
 use std::alloc::{AllocError, Global};
 use tlp_core::{MAX_PAYLOAD, Op, Width};
 
@@ -71,7 +71,7 @@ fn op_of(access: Access) -> Op {
     }
 }
 
-fn act(memory: &mut Memory, access: Access) -> Result<Reply, AllocError> {
+fn act<K: Keeper>(memory: &mut Memory<K>, access: Access) -> Result<Reply, AllocError> {
     memory.act(Entry {
         requester: 1,
         number: 0,
@@ -79,8 +79,8 @@ fn act(memory: &mut Memory, access: Access) -> Result<Reply, AllocError> {
     })
 }
 
-fn small(alloc: Global) -> Result<Memory, AllocError> {
-    Memory::new(alloc, Extent::new(0, 4096, 64).unwrap())
+fn small<K: Keeper>(alloc: Global) -> Result<Memory<K>, AllocError> {
+    Memory::with_keeper(alloc, Extent::new(0, 4096, 64).unwrap())
 }
 
 /// What a memory answers.
@@ -115,7 +115,7 @@ fn holds(memory: &Memory, entries: usize, byte: u8) -> bool {
 }
 
 /// Adds 1; whether there was memory for it.
-fn adds_one(memory: &mut Memory) -> bool {
+fn adds_one<K: Keeper>(memory: &mut Memory<K>) -> bool {
     act(memory, Access::Add(1)).is_ok()
 }
 
@@ -135,11 +135,24 @@ fn counts(memory: &mut Memory) -> bool {
 }
 
 fn new_counts(alloc: Global) -> Result<bool, AllocError> {
-    let mut memory = small(alloc)?;
+    let mut memory: Memory = small(alloc)?;
     Ok(counts(&mut memory))
 }
 
 #[test]
 fn a_refused_growth_changes_nothing(rt: HostRuntime) {
     assert!(rt; matches!(new_counts(rt.alloc()), Ok(true)));
+}
+
+/// Whether a memory that counts its entries has none of them, and the bytes that they make.
+fn counts_alone(alloc: Global) -> Result<bool, AllocError> {
+    let mut memory: Memory<Counted> = small(alloc)?;
+    let added = adds_one(&mut memory) && adds_one(&mut memory);
+    let is_there = memory.bytes().get(0x40) == Some(&2);
+    Ok(added && memory.count() == 2 && memory.list().is_none() && is_there)
+}
+
+#[test]
+fn a_memory_may_count_its_entries_alone(rt: HostRuntime) {
+    assert!(rt; matches!(counts_alone(rt.alloc()), Ok(true)));
 }

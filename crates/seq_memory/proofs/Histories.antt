@@ -1,7 +1,7 @@
 -- A memory after one more entry.
-use Rattle.std.proofs.Common.{◌≡◌, ℕ, zero, suc, ◌+◌, ◌-◌, ◌<◌, ◌≤◌, List, [], ◌∷◌, ◌++◌, length, take, drop, get_or, Some, None, refl, sym, ap, ◌∙◌, arith, length-append}
+use Rattle.std.proofs.Common.{◌≡◌, ℕ, zero, suc, ◌+◌, ◌<◌, ◌≤◌, List, [], ◌∷◌, ◌++◌, length, take, drop, Some, None, refl, sym, ap, ◌∙◌, arith}
 use Rattle.std.specs.Prelude.{fold, replicate, option_map, slice_get}
-use Rattle.std.proofs.lemmas.List.{append-nil, drop_all, take_all, take_at, take_more, take-append-le, get_or_at, length-replicate}
+use Rattle.std.proofs.lemmas.List.{append-nil, drop_all, take_all, take_at, take_more, take-append-le, length-replicate}
 use Rattle.std.proofs.lemmas.Option.{slice_get_within, slice_get_past, get_or_from_slice_get}
 use Rattle.std.proofs.lemmas.List.Sums.{fold-append}
 use Rattle.tlp_core.specs.Ops.{Op}
@@ -29,12 +29,6 @@ pub stepped : (x : Extent) (n : ℕ) (old new : List ℕ) (es es' : List Entry) 
     → take n (new ++ drop (length new) old) ≡ contents x es'
 stepped x n old new es es' e op en el made step same pushed =
     written_back n old new en el ∙ step ∙ ap (λ op. after x.base x.block old op) same ∙ ap (λ m. after x.base x.block m e.op) made ∙ sym (contents-push x es e) ∙ ap (contents x) (sym pushed)
-
-pub pushed_op : (es es' : List Entry) (e r : Entry) (place : ℕ) → es' ≡ es ++ e ∷ [] → place ≡ length es' - 1 → r ≡ get_or es' place r → r.op ≡ e.op
-pushed_op es es' e r place pushed p index =
-    let at : place ≡ length es = omega (arith, p, ap length pushed, length-append es (e ∷ [])) in
-    let same : r ≡ e = index ∙ ap (λ (xs : List Entry). get_or xs place r) pushed ∙ get_or_at es e [] r place (sym at) in
-    ap (λ (x : Entry). x.op) same
 
 -- ---- laws of histories
 

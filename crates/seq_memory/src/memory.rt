@@ -1,9 +1,10 @@
 //! The memory and its history.
-ghost use Rattle.std.specs.Prelude.{◌≡◌, [], ◌∷◌, ◌++◌, length, replicate, IfOk, OnOk, OnErr};
+ghost use Rattle.std.specs.Prelude.{◌≡◌, [], ◌∷◌, ◌++◌, length, replicate, is_some, IfOk, IfSome, OnOk, OnErr};
 ghost use Rattle.seq_memory.specs.Limits.{IsSize, IsBase, IsBlock};
 ghost use Rattle.seq_memory.specs.History.{bytes_of, extent_of};
 ghost use Rattle.seq_memory.specs.Step.{refusal, answer, IsSizedFor};
 
+use crate::history::{Keeper, Kept};
 use crate::place::refusal_of;
 use crate::step::perform;
 use crate::{Entry, Extent, Refusal, Reply};
@@ -11,23 +12,24 @@ use std::alloc::{AllocError, Global};
 use std::marker::Model;
 use tlp_core::Op;
 
-/// Bytes from a base address on, and the history of the requests that made them of zeros.
+/// Bytes from a base address on, and the history of the requests that made them of zeros. `K` says how
+/// the history is kept: a `Memory<Counted>` keeps its length alone.
 #[derive(Drop)]
-pub struct Memory {
+pub struct Memory<K: Keeper = Kept> {
     extent: Extent,
     bytes: Vec<u8>,
-    entries: Vec<Entry>,
+    past: K,
 }
 
-impl Model for Memory {
+impl<K: Keeper> Model for Memory<K> {
     ghost use Rattle.std.specs.Prelude.{◌≡◌};
     ghost use Rattle.seq_memory.specs.History.{MemoryView, contents};
 
     ghost Value = { MemoryView };
 
-    ghost view = { λ m. record { base = m.extent.base; size = m.extent.size; block = m.extent.block; entries = m.entries.items } };
+    ghost view = { λ m. record { base = m.extent.base; size = m.extent.size; block = m.extent.block; entries = K.entries m.past } };
 
-    ghost invariant = { λ m. m.bytes.items ≡ contents m.extent m.entries.items };
+    ghost invariant = { λ m. m.bytes.items ≡ contents m.extent (K.entries m.past) };
 }
 
 fn zeros(alloc: Global, size: usize) -> Result<Vec<u8>, AllocError>
@@ -42,11 +44,27 @@ impl Memory {
     pub fn new(alloc: Global, extent: Extent) -> Result<Self, AllocError>
         ensures { IfOk result (λ m. m ≡ record { base = extent.base; size = extent.size; block = extent.block; entries = [] }) }
     {
+        Memory::with_keeper(alloc, extent)
+    }
+
+    /// The history, oldest first.
+    pub fn entries(&self) -> &[Entry]
+        ensures { result.now ≡ self.now.entries }
+    {
+        self.past.as_slice()
+    }
+}
+
+impl<K: Keeper> Memory<K> {
+    /// As [`new`](Memory::new), of a memory whose history `K` keeps.
+    pub fn with_keeper(alloc: Global, extent: Extent) -> Result<Self, AllocError>
+        ensures { IfOk result (λ m. m ≡ record { base = extent.base; size = extent.size; block = extent.block; entries = [] }) }
+    {
         let bytes = zeros(alloc, extent.size())?;
         Ok(Memory {
             extent,
             bytes,
-            entries: Vec::new(alloc),
+            past: K::new(alloc),
         })
     }
 
@@ -59,10 +77,10 @@ impl Memory {
         ensures size { IfOk result (λ r. IsSizedFor entry.op r) }
         ensures err { OnErr result (self.new ≡ self.old) }
     {
-        self.entries.push(entry)?;
-        let last = self.entries.len() - 1;
-        let op = &self.entries[last].op;
-        Ok(perform(self.extent.base(), self.extent.block(), &mut self.bytes, op))
+        self.past.add(&entry)?;
+        let base = self.extent.base();
+        let block = self.extent.block();
+        Ok(perform(base, block, &mut self.bytes, &entry.op))
     }
 
     /// Why [`act`](Memory::act) would not serve the operation, none where it would; what it would
@@ -79,11 +97,19 @@ impl Memory {
         )
     }
 
-    /// The history, oldest first.
-    pub fn entries(&self) -> &[Entry]
-        ensures { result.now ≡ self.now.entries }
+    /// How long the history is.
+    pub fn count(&self) -> usize
+        ensures { result ≡ length self.now.entries }
     {
-        &self.entries
+        self.past.count()
+    }
+
+    /// The history, oldest first, where it is kept.
+    pub fn list(&self) -> Option<&[Entry]>
+        ensures kept { is_some result ≡ K.keeps }
+        ensures entries { IfSome result (λ es. es.now ≡ self.now.entries) }
+    {
+        self.past.list()
     }
 
     /// The bytes as they are now, from the base address on.

@@ -4,6 +4,6 @@ use Rattle.seq_memory.proofs.Histories.{contents-size}
 use Rattle.seq_memory.proofs.memory.Memory.bytes.Goals as goal
 
 pub returns-clause-size : goal.returns-clause-size
-returns-clause-size c =
-    ap (length {A = ℕ}) (c.deref.ensures.value ∙ c.self.invariant) ∙ contents-size c.self.inside.extent c.self.inside.entries.items
+returns-clause-size g c =
+    ap (length {A = ℕ}) (c.deref.ensures.value ∙ c.self.invariant) ∙ contents-size c.self.inside.extent (g.K.Keeper.entries c.self.inside.past)
     ∙ ap (λ (m : MemoryView). m.size) c.self.view_is

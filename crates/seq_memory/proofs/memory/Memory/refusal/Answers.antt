@@ -3,4 +3,4 @@ use Rattle.seq_memory.proofs.Histories.{contents-size}
 use Rattle.seq_memory.proofs.memory.Memory.refusal.Goals as goal
 
 pub returns-clause-size : goal.returns-clause-size
-returns-clause-size c = contents-size (extent_of c.args.self.now) c.args.self.now.entries
+returns-clause-size g c = contents-size (extent_of c.args.self.now) c.args.self.now.entries
