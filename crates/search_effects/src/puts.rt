@@ -1,5 +1,6 @@
 //! What a request leaves.
 ghost use Rattle.std.specs.Prelude.{◌≡◌, ◌≢◌, ◌+◌, ◌-◌, ◌<◌, ◌≤◌, ◌⊎◌, ℕ, true, None, IfNone, IfSome, List, length, IsTrue, slice_index};
+ghost use Rattle.tlp_core.specs.Limits.{max_payload};
 ghost use Rattle.tlp_core.specs.Operation.{address_of, count_of, size_of};
 ghost use Rattle.seq_memory.specs.Limits.{IsBlock};
 ghost use Rattle.seq_memory.specs.declared.reply.ReplyOf.TheVariants as replies;
@@ -20,7 +21,7 @@ use tlp_core::{OpRef, Payload, PayloadRef, Width, payload_of};
 #[inline(always)]
 pub(crate) fn changed(block: u16, op: &OpRef<'_>, old: &[u8]) -> Payload
     requires block { IsBlock block }
-    requires few { length old.now ≤ 128 }
+    requires few { length old.now ≤ max_payload }
     ensures { result.items ≡ after (address_of op.now) block old.now op.now }
 {
     let mut new = Payload::new();
