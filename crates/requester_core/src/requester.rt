@@ -47,8 +47,9 @@ impl Model for Requester {
 }
 
 impl Requester {
-    ghost use Rattle.std.specs.Prelude.{IfOk, OnOk, slice_set};
-    ghost use Rattle.tlp_core.specs.Operation.{op_of};
+    ghost use Rattle.std.specs.Prelude.{IfOk, IfErr, OnOk, slice_set};
+    ghost use Rattle.tlp_core.specs.Operation.{op_of, op_fault};
+    ghost use Rattle.requester_core.specs.Request.{request_for};
     ghost use Rattle.requester_core.specs.RequesterView.{fresh, prepared, after_opened, finished, after_finish, completed, IsSound, IsPrepared};
 
     /// The requester of a port, 1 to 7, that has asked for nothing.
@@ -81,6 +82,16 @@ impl Requester {
         ensures asks { IfOk result (λ p. op_of p.1 ≡ Some op.now) }
         ensures sound { OnOk result (IsSound self.now) }
     {
+        let tag = self.next_tag(op)?;
+        Ok((self.next, request_for(self.port, tag, op)))
+    }
+
+    /// The tag of the request that [`prepare`](Self::prepare) would give, or what it would refuse.
+    pub fn next_tag(&self, op: &OpRef<'_>) -> Result<u8, SubmitRefusal>
+        ensures tag { IfOk result (λ tag. prepared self.now op.now ≡ Ok (self.now.next, request_for self.now.port tag op.now)) }
+        ensures refused { IfErr result (λ refusal. prepared self.now op.now ≡ Err refusal) }
+        ensures faultless { OnOk result (op_fault op.now ≡ None) }
+    {
         if let Some(fault) = op.fault() {
             return Err(SubmitRefusal::Profile(fault));
         }
@@ -92,7 +103,7 @@ impl Requester {
         if self.next == NUMBERS {
             return Err(SubmitRefusal::NumbersUsed);
         }
-        Ok((self.next, request_for(self.port, tag as u8, op)))
+        Ok(tag as u8)
     }
 
     /// The lane took the request that was prepared last: its number is spent, and where it is
