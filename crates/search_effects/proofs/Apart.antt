@@ -95,7 +95,7 @@ module _ (others : Others) (sizes : Sizes) where
 
   module _ (places : Places) (refused : Refused) where
     -- a byte in the place of a served operation
-    in_place : (base block : ℕ) (m : List ℕ) (op : Op) (k : ℕ) → refusal base (length m) block op ≡ None → address_of op ≤ base + k → base + k < address_of op + count_of op
+    pub in_place : (base block : ℕ) (m : List ℕ) (op : Op) (k : ℕ) → refusal base (length m) block op ≡ None → address_of op ≤ base + k → base + k < address_of op + count_of op
         → slice_index (after base block m op) k ≡ get_or (place_after op (bytes_at m (address_of op - base) (count_of op))) (base + k - address_of op) 0
     in_place base block m op k served low high =
         let i = address_of op - base in

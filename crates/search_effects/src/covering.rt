@@ -1,20 +1,27 @@
-//! Writes over all bytes of another request.
+//! Requests that leave the same, whatever stood at the bytes of another.
 ghost use Rattle.std.specs.Prelude.{◌≡◌, ◌+◌, ◌<◌, ◌≤◌, ℕ, true, None, List, length, IsTrue};
 ghost use Rattle.arrayvec.specs.ArrayVec.{ArrayVec};
 ghost use Rattle.tlp_core.specs.Operation.{address_of, count_of};
 ghost use Rattle.tlp_core.specs.declared.operation.OpOf.TheVariants as ops;
+ghost use Rattle.tlp_core.specs.declared.operation.Width.{Width};
 ghost use Rattle.seq_memory.specs.Step.{refusal, after};
 ghost use Rattle.search_effects.specs.Effects as effects;
 ghost use Rattle.search_effects.specs.Effects.{AreSameBut};
 
 use crate::ranges::is_put;
-use seq_memory::laws::only_the_place_changes;
+use seq_memory::laws::{only_the_place_changes, refused_and_read_change_nothing};
 use tlp_core::OpRef;
 
 fn is_write(op: &OpRef<'_>) -> bool
     ensures { IsTrue result → (a : ℕ) × (f : ℕ) × (l : ℕ) × (bytes : ArrayVec ℕ) × (op.now ≡ ops.Write a f l bytes) }
 {
     matches!(op, OpRef::Write { .. })
+}
+
+fn is_swap(op: &OpRef<'_>) -> bool
+    ensures { IsTrue result → (a : ℕ) × (w : Width) × (x : ℕ) × (op.now ≡ ops.Swap a w x) }
+{
+    matches!(op, OpRef::Swap { .. })
 }
 
 /// The operation writes each byte of its range.
@@ -39,17 +46,21 @@ pub fn spans(one: &OpRef<'_>, other: &OpRef<'_>) -> bool
     a <= b && inner <= count && b - a <= count - inner
 }
 
-/// The first is a write of all bytes of the second: where it is served, it makes no difference what
-/// stood there.
+/// The first is a Swap of all bytes of the second, or a write of them: where it is served, it leaves the same,
+/// whatever stood there. (A Swap's reply tells what stood there.)
 pub fn covers(one: &OpRef<'_>, other: &OpRef<'_>) -> bool
     ensures { IsTrue result → (base block : ℕ) (m n : List ℕ) → refusal base (length m) block one.now ≡ None → AreSameBut base other.now m n →
         after base block n one.now ≡ after base block m one.now }
 {
     only_the_place_changes();
-    if !is_write(one) {
+    refused_and_read_change_nothing();
+    if !spans(one, other) {
         return false;
     }
-    if !spans(one, other) {
+    if is_swap(one) {
+        return true;
+    }
+    if !is_write(one) {
         return false;
     }
     puts_all(one)

@@ -9,8 +9,8 @@
 //! Of two requests [`never_brings`] says that the first doesn't bring about the second's reply, and
 //! [`yields`] that it ends it, or that their order makes no difference. [`waits`] says that a request
 //! can't be answered as it was before another has changed the bytes, [`breaks`] that it can't be while
-//! the bytes are as another left them, and [`covers`] that a write puts all bytes of another. [`spans`]
-//! says that it has all addresses of another.
+//! the bytes are as another left them, and [`covers`] that a write or a Swap puts all bytes of another.
+//! [`spans`] says that it has all addresses of another.
 //!
 //! [`act`] does an operation on bytes so that it can be taken back: [`reply`] is what the memory would
 //! answer, and [`put_back`] makes the bytes what they were before. None of these takes memory.

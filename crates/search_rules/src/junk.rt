@@ -34,7 +34,7 @@ pub fn is_served(log: &Log, op: &OpRef<'_>) -> bool
     }
 }
 
-/// The operation wasn't answered and changes nothing, or is served and writes all bytes of the other.
+/// The operation wasn't answered and changes nothing, or leaves the same, whatever stood at the bytes of the other.
 fn writes_over(log: &Log, one: &OpRef<'_>, told: Option<&ReplyRef<'_>>, other: &OpRef<'_>) -> bool
     requires { step.refusal log.now.extent.base log.now.extent.size log.now.extent.block one.now ≡ None }
     ensures { IsTrue result → specs.Overlooks log.now.extent one.now (told_of told.entry) other.now }
@@ -48,8 +48,8 @@ fn writes_over(log: &Log, one: &OpRef<'_>, told: Option<&ReplyRef<'_>>, other: &
     covers(one, other)
 }
 
-/// The operation isn't served, is a read that needs no byte of the other, or wasn't answered and is a read
-/// or writes all bytes of the other.
+/// The operation isn't served, is a read that needs no byte of the other, or wasn't answered and is a read,
+/// or a write or a Swap of all bytes of the other.
 pub fn overlooks<'o>(
     log: &Log,
     one: &OpRef<'o>,
