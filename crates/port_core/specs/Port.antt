@@ -37,6 +37,7 @@ use Rattle.port_core.specs.declared.port.Choice.TheVariants as choices
 use Rattle.port_core.specs.Init.{nothing_advertised, advertised_with, fi1, is_allowed, credits_of, first_of, is_up, activated}
 use Rattle.port_core.specs.Dues.{with_flag, first_flag, nothing_due, due_all_init, due_ack, due_freed, due_received}
 use Rattle.port_core.specs.Dllps.{link_reading, link_bytes}
+use Rattle.port_core.specs.declared.port.Judged.{Judged}
 use Rattle.port_core.specs.Incoming as incoming
 use Rattle.port_core.specs.Incoming.{IncomingView}
 use Rattle.port_core.specs.Outgoing as outgoing
@@ -81,6 +82,18 @@ after_receive p packet good =
       due = due_received p.ours p.due (incoming.received_on p.incoming packet good);
     }
     else p
+
+-- a packet arrives that was judged
+abbrev pub noted : PortView → Judged → PortView
+noted p judged =
+    record {
+      ours = p.ours;
+      state = judged.state;
+      peer = p.peer;
+      sender = p.sender;
+      incoming = judged.incoming;
+      due = due_received p.ours p.due judged.received;
+    }
 
 -- the owner gives credits back
 abbrev pub after_free : PortView → Need → PortView

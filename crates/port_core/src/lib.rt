@@ -28,4 +28,4 @@ pub use laws::{
 };
 pub use needs::need_at;
 pub use outgoing::{OutgoingEnd, PACKET_BYTES};
-pub use port::{DllpReceived, LinkPort, Outgoing};
+pub use port::{DllpReceived, Judged, LinkPort, Outgoing};

@@ -28,6 +28,14 @@ pub enum DllpReceived {
     Gone,
 }
 
+/// What becomes of a packet, if it arrives, and of the port by it.
+#[derive(Clone, Copy)]
+pub struct Judged {
+    pub received: Received,
+    pub(crate) incoming: IncomingEnd,
+    pub(crate) state: LinkState,
+}
+
 /// What a port sends.
 #[derive(Clone, Copy, PartialEq)]
 pub enum Outgoing {
@@ -136,15 +144,44 @@ impl LinkPort {
         ensures answer { result ≡ spec.received self.old packet.now good }
         ensures state { self.new ≡ spec.after_receive self.old packet.now good }
     {
+        let judged = self.judge(packet, good);
+        self.note(&judged)
+    }
+
+    /// What [`receive`](Self::receive) would do with a packet, which [`note`](Self::note) then does.
+    pub fn judge(&self, packet: &[u8], good: bool) -> Judged
+        ensures received { result.received ≡ spec.received self.now packet.now good }
+        ensures noted { spec.noted self.now result ≡ spec.after_receive self.now packet.now good }
+    {
+        let mut incoming = self.incoming;
         if !self.state.is_up() {
-            return Received::Dropped;
+            return Judged {
+                received: Received::Dropped,
+                incoming,
+                state: self.state,
+            };
         }
-        let received = self.incoming.receive(packet, good);
+        let received = incoming.receive(packet, good);
+        let mut state = self.state;
         if good && packet.len() >= 2 {
-            self.state = self.state.activated();
+            state = state.activated();
         }
-        self.due.note_received(self.ours, received);
-        received
+        Judged {
+            received,
+            incoming,
+            state,
+        }
+    }
+
+    /// The packet arrives that was judged last. Returns what becomes of it.
+    pub fn note(&mut self, judged: &Judged) -> Received
+        ensures answer { result ≡ judged.now.received }
+        ensures state { self.new ≡ spec.noted self.old judged.now }
+    {
+        self.state = judged.state;
+        self.incoming = judged.incoming;
+        self.due.note_received(self.ours, judged.received);
+        judged.received
     }
 
     /// The owner gives the credits of an accepted TLP back.
