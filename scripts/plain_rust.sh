@@ -5,14 +5,15 @@
 # Rust's own. `cargo build --release` in FOLDER then builds the program and the library for C in about a minute, without
 # Rattle and without a network; `cargo install --path FOLDER/pciex` installs the program, `cargo test --workspace` runs the
 # tests, `cargo doc --workspace` shows each public item with its contract. The translation (plain/translator, Python 3)
-# changes no code: it takes out what is for proofs, and names the library's types otherwise. It stops with file and line
-# at what it doesn't know. With --older it writes for Rust 1.63, and for places of 32 bits, for scripts/page.sh. With
-# --crates-io the workspace uses crates of crates.io where modules of `kit` stand for them, and cargo has to reach these.
+# changes no code: it takes out what is for proofs, and names the library's types otherwise. It lists each cut in
+# FOLDER/cuts.jsonl (scripts/cuts.sh), and stops with file and line at what it doesn't know. With --older it writes for
+# Rust 1.63, and for places of 32 bits, for scripts/page.sh. With --crates-io the workspace uses crates of crates.io where
+# modules of `kit` stand for them, and cargo has to reach these.
 #
 #     plain_rust.sh --check [PROGRAM]
 #
 # tries that the plain program is the same as the proved one, or PROGRAM: it builds the workspace without warnings, runs
-# `cargo test --workspace`, the programs of docs/use-the-crates.md, plain/examples and bench/, builds page/wasm.rs, runs the scripts
+# `cargo test --workspace` (with the clauses of each function of `kit` that is called: plain/called.py), the programs of docs/use-the-crates.md, plain/examples and bench/, builds page/wasm.rs, runs the scripts
 # that try a program over an optimized build, and compares the two on 20,000 mutated lines for each subcommand, in a build
 # with checks of sums at run time. Then it compares the program with --crates-io, on fewer lines, where Debian's packages of these crates are
 # installed. It needs cargo of 1.88 or later, and says so if there is none.
@@ -95,6 +96,9 @@ RUSTFLAGS="-D warnings" cargo build --quiet --release || exit 1
 tries cargo test --workspace
 tests=$(awk '/^test result: ok/ { count += $4 } END { print count + 0 }' "$room/log")
 tries cargo build --quiet
+# Each function of `kit` that the program or the library for C calls is tried by its clauses.
+clauses=$(cargo test --quiet --package kit --test clauses --no-run --message-format=json | sed -n 's/.*"executable":"\([^"]*\)".*/\1/p')
+tries python3 "$top/plain/called.py" "$top/plain/kit" "$clauses" target/debug/pciex target/debug/libpciex_c.so
 tries sh "$top/bench/run.sh" --check "$room/out"
 blocks toml
 blocks rust
@@ -137,6 +141,7 @@ if [ -n "$lacks" ]; then
     done
 else
     python3 "$top/plain/translator/translate.py" "$top" "$room/crates_io" --crates-io
+    tries python3 "$top/plain/cuts.py" "$top" "$room/crates_io"
     mkdir "$room/crates_io/.cargo"
     printf '%s\n' '[source.crates-io]' 'replace-with = "debian"' '[source.debian]' "directory = \"$debian\"" \
         > "$room/crates_io/.cargo/config.toml"

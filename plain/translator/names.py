@@ -39,7 +39,7 @@ KIT = {
     "thread": {"": "kit::thread",
                **{name: "kit::thread::" + name
                   for name in ("Builder", "JoinHandle", "Promise", "PromisedHandle", "Scope", "Threads", "join", "scope",
-                               "for_each_mut", "spawn", "yield_now", "available_parallelism")}},
+                               "for_each_mut", "sleep", "spawn", "yield_now", "available_parallelism")}},
 }
 
 # Modules of `std` that are Rust's, with all their names.

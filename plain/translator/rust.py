@@ -20,6 +20,30 @@ class Options:
         self.crates_io = crates_io
 
 
+class Cuts:
+    """How a text in Rust differs from its file: at which byte of it which rule put which text for which text of the file."""
+
+    def __init__(self):
+        self.rows = []
+        self.end = 0
+
+    def keep(self, text):
+        self.end += len(text.encode())
+
+    def note(self, rule, rust, source):
+        last = self.rows[-1] if self.rows else None
+        if last and last[1] == rule and last[0] + len(last[2].encode()) == self.end:
+            last[2] += rust
+            last[3] += source
+        else:
+            self.rows.append([self.end, rule, rust, source])
+        self.keep(rust)
+
+    def changes(self):
+        """The rows in which the texts differ."""
+        return [row for row in self.rows if row[2] != row[3]]
+
+
 class File:
     def __init__(self, crate, path, text, links, options):
         self.crate = crate
@@ -30,6 +54,7 @@ class File:
         self.models = {}
         self.imports = {}
         self.tail = []
+        self.cuts = Cuts()
 
     # Walking
 
@@ -93,6 +118,8 @@ class File:
         for k in range(i, (i if j is None else j) + 1):
             if self.ts[k].kind != "gone":
                 self.ts[k] = Token("gone", "", self.ts[k].line)
+            else:
+                self.ts[k].rule = self.ts.rule
 
     def drop_comments_before(self, i):
         """Removes the comments right above i, which speak of it."""
@@ -112,6 +139,10 @@ class File:
     def put(self, i, kind, text):
         self.ts.insert(i, Token(kind, text, self.ts[min(i, len(self.ts) - 1)].line))
 
+    def add(self, rule, text):
+        """Adds an item behind all others."""
+        self.tail.append((rule, "\n" + text))
+
     def indent(self, i):
         """The spaces before the line of i."""
         k = i - 1
@@ -124,25 +155,16 @@ class File:
     # All of it
 
     def rust(self):
-        self.read_ghost_uses()
-        self.remove_models()
-        self.attributes()
-        self.ghost_members()
-        self.clauses()
-        self.final_functions()
-        self.foreign_functions()
-        self.entries()
-        self.formatters()
-        self.drop_bounds()
-        self.uses()
-        self.paths()
-        self.macros()
-        self.clones()
+        passes = [("ghost", self.read_ghost_uses), ("model", self.remove_models), ("attribute", self.attributes),
+                  ("ghost", self.ghost_members), ("clause", self.clauses), ("final", self.final_functions),
+                  ("foreign", self.foreign_functions), ("entry", self.entries), ("writer", self.formatters),
+                  ("bound", self.drop_bounds), ("use", self.uses), ("path", self.paths), ("macro", self.macros),
+                  ("", self.clones)]
         if self.options.older:
-            self.older_calls()
-            self.places()
-            self.let_else()
-        self.prelude()
+            passes += [("older", self.older_calls), ("older", self.places), ("older", self.let_else)]
+        passes.append(("prelude", self.prelude))
+        for self.ts.rule, run in passes:
+            run()
         return self.layout()
 
     def read_ghost_uses(self):
@@ -287,7 +309,7 @@ class File:
             body = self.error_write(whole, None, None, None, j)
         else:
             body = self.error_arms(name, k)
-        self.tail.append(
+        self.add("error",
             f"impl{generics} std::fmt::Display for {name}{generics} {{\n"
             "    fn fmt(&self, f: &mut std::fmt::Formatter<'_>) -> std::fmt::Result {\n"
             f"        {body}\n    }}\n}}\n\nimpl{generics} std::error::Error for {name}{generics} {{}}\n"
@@ -613,7 +635,7 @@ class File:
             gives = " " + " ".join(gives.split())
         params = "".join(f"    {p},\n" for p in params)
         args = ", ".join(args)
-        self.tail.append(
+        self.add("foreign",
             f"/// `{name}` as C calls it.\n///\n/// # Safety\n///\n"
             "/// A pointer points to as many bytes as the length behind it says, or the length is 0.\n"
             + ('#[no_mangle]\n' if self.options.older else f'#[unsafe(export_name = "{name}")]\n').replace(
@@ -1126,7 +1148,32 @@ class File:
             out.append(row)
         while out and not out[-1]:
             out.pop()
-        text = "\n".join(out) + "\n"
-        if self.tail:
-            text += "\n" + "\n".join(self.tail)
-        return text
+        body = "\n".join(out) + "\n"
+        self.note_cuts(body)
+        return body + "".join(text for _, text in self.tail)
+
+    def note_cuts(self, body):
+        """Notes how the text differs from the file. `body`, which the tokens became, lacks at most some of their spaces."""
+        at = 0
+        for token in self.ts:
+            kept = ""
+            lost = ""
+            for c in token.text:
+                if body[at : at + 1] == c:
+                    at += 1
+                    kept += c
+                    if lost and token.text == token.source:
+                        self.cuts.note("space", "", lost)
+                        lost = ""
+                    if token.text == token.source:
+                        self.cuts.keep(c)
+                else:
+                    assert c.isspace()
+                    lost += c
+            if token.text != token.source:
+                self.cuts.note(token.rule, kept, token.source)
+            elif lost:
+                self.cuts.note("space", "", lost)
+        self.cuts.note("space", body[at:], "")
+        for rule, text in self.tail:
+            self.cuts.note(rule, text, "")

@@ -19,17 +19,41 @@ class Stop(Exception):
 
 
 class Token:
-    __slots__ = ("kind", "text", "line", "parts")
+    __slots__ = ("kind", "text", "line", "parts", "source", "rule")
 
-    def __init__(self, kind, text, line, parts=None):
+    def __init__(self, kind, text, line, parts=None, source=""):
         self.kind = kind
         self.text = text
         self.line = line
+        # what it stands for of the file, and the rule by which it isn't that any more
+        self.source = source
+        self.rule = ""
         # of a clause: its word, its name and its text; of a ghost item: its name, its type and its value
         self.parts = parts
 
     def __repr__(self):
         return f"{self.kind} {self.text!r}"
+
+
+class Tokens(list):
+    """Tokens that keep what they stand for. What is put in a token's stead stands for the same, what is added for nothing;
+    both are noted under the rule of the pass."""
+
+    rule = ""
+
+    def __setitem__(self, place, new):
+        if isinstance(place, slice):
+            assert place.start == place.stop
+            for token in new:
+                token.rule = "doc"
+        else:
+            new.source = self[place].source
+            new.rule = self[place].rule or self.rule
+        super().__setitem__(place, new)
+
+    def insert(self, place, new):
+        new.rule = self.rule
+        super().insert(place, new)
 
 
 class Lexer:
@@ -46,7 +70,7 @@ class Lexer:
 
     def put(self, kind, end, parts=None):
         text = self.text[self.at : end]
-        self.out.append(Token(kind, text, self.line, parts))
+        self.out.append(Token(kind, text, self.line, parts, text))
         self.line += text.count("\n")
         self.at = end
 
@@ -274,4 +298,4 @@ class Lexer:
 
 
 def tokens(path, text):
-    return Lexer(path, text).tokens()
+    return Tokens(Lexer(path, text).tokens())

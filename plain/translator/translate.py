@@ -7,6 +7,7 @@ changed. `--older` writes for Rust 1.63, without `plain_tests`, `--crates-io` fo
 `kit` stand for. The first thing that the translation doesn't know ends it, with its file and line.
 """
 
+import json
 import os
 import re
 import shutil
@@ -133,7 +134,7 @@ def definitions(found):
     return "\n".join(out) + "\n"
 
 
-def translate_crate(root, folder, crate, crates, specs, options):
+def translate_crate(root, folder, crate, crates, specs, options, cuts):
     words, deps = crates[crate]
     foreign = [d for d in deps if d not in crates]
     for d in foreign:
@@ -150,10 +151,14 @@ def translate_crate(root, folder, crate, crates, specs, options):
     for path in sources(source):
         shown = os.path.relpath(path, root)
         text = open(path, encoding="utf-8").read()
-        rust = File(crate, shown, text, links, options).rust()
+        file = File(crate, shown, text, links, options)
+        rust = file.rust()
         name = os.path.relpath(path, source)[:-3] + ".rs"
         if name == "lib.rs":
-            rust += definitions(specs.get(crate))
+            more = definitions(specs.get(crate))
+            rust += more
+            file.cuts.note("definitions", more, "")
+        cuts.append({"file": shown, "rust": f"{crate}/src/{name}", "cuts": file.cuts.changes()})
         uses_kit = uses_kit or "kit::" in rust
         has_tests = has_tests or "#[test]" in rust
         write(os.path.join(folder, crate, "src", name), rust)
@@ -268,10 +273,12 @@ def main(words):
     options = Options(older, crates_io)
     crates = read_crates(root)
     specs = read_specs(root, crates)
+    cuts = []
     for crate in crates:
-        translate_crate(root, folder, crate, crates, specs, options)
+        translate_crate(root, folder, crate, crates, specs, options, cuts)
         remove_others(os.path.join(folder, crate, "src"))
         remove_others(os.path.join(folder, crate, "specs"))
+    write(os.path.join(folder, "cuts.jsonl"), "".join(json.dumps(row, ensure_ascii=False) + "\n" for row in cuts))
     kit(root, folder, options)
     if not options.older:
         plain_tests(root, folder, crates)
