@@ -3,9 +3,11 @@
 use crate::alloc::AllocError;
 use crate::rt::HostRuntime;
 use crate::sync::Wait;
+use crate::time::Clock;
 use std::marker::PhantomData;
 use std::num::NonZeroUsize;
 use std::sync::mpsc::{Receiver, Sender, channel, sync_channel};
+use std::time::Duration;
 
 pub use std::thread::yield_now;
 
@@ -15,6 +17,11 @@ pub trait Threads {}
 impl Threads for HostRuntime {}
 
 impl<T: Threads> Threads for &T {}
+
+/// The thread sleeps as long, by the clock.
+pub fn sleep<C: Clock>(clock: &C, duration: Duration) {
+    clock.sleep(duration);
+}
 
 /// What is promised of a thread's result, for contracts alone.
 pub trait Promise<T> {}

@@ -11,6 +11,9 @@ pub trait Clock {
     fn monotonic(&self) -> io::Result<Duration>;
 
     fn since_1970(&self) -> io::Result<Duration>;
+
+    /// What `thread::sleep` calls. A clock that leaves it out returns at once.
+    fn sleep(&self, _duration: Duration) {}
 }
 
 impl Clock for HostRuntime {
@@ -24,6 +27,10 @@ impl Clock for HostRuntime {
 
     fn since_1970(&self) -> io::Result<Duration> {
         SystemTime::now().duration_since(SystemTime::UNIX_EPOCH).map_err(|error| io::Error::new(io::ErrorKind::Other, error))
+    }
+
+    fn sleep(&self, duration: Duration) {
+        std::thread::sleep(duration);
     }
 }
 
