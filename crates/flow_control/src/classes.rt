@@ -291,6 +291,7 @@ impl Classes {
     }
 
     /// Puts a packet behind the others, with the next arrival number. Fails only where its queue can't grow.
+    #[inline(always)]
     fn add(&mut self, tlp: Tlp, mark: u32) -> Result<(), AllocError>
         requires { self.old.next + 1 < 2 ^ 64 }
         ensures ok { OnOk result ((all : List _) → IsSplit all self.old →
@@ -352,6 +353,7 @@ impl Classes {
     }
 
     /// Puts a packet behind the others. Fails only where its queue can't grow.
+    #[inline(always)]
     pub(crate) fn push(&mut self, tlp: Tlp, mark: u32) -> Result<(), AllocError>
         requires { IsSound self.old }
         ensures sound { IsSound self.new }

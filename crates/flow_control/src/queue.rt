@@ -61,6 +61,7 @@ impl OrderedQueue {
     }
 
     /// Adds a packet behind the others. Fails only where the queue can't grow.
+    #[inline(always)]
     pub fn push(&mut self, tlp: Tlp, mark: u32) -> Result<(), AllocError>
         ensures ok { OnOk result (self.new ≡ self.old ++ (tlp, mark) ∷ []) }
         ensures err { OnErr result (self.new ≡ self.old) }

@@ -28,6 +28,7 @@ impl Model for SenderEnd {
 }
 
 /// The packet's bytes, with the mark beside them.
+#[inline(always)]
 fn cargo_of(tlp: &Tlp, mark: u32) -> Cargo
     ensures value { result ≡ cargo_of tlp.now mark }
     ensures spelled { Spells (canonical tlp.now) tlp.now }

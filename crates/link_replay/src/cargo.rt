@@ -26,6 +26,7 @@ impl Model for Cargo {
 }
 
 /// The same bytes; takes no memory.
+#[inline(always)]
 fn copy_of(bytes: &ArrayVec<u8, CARGO_BYTES>) -> ArrayVec<u8, CARGO_BYTES>
     ensures { result.items ≡ bytes.now.items }
 {
@@ -36,6 +37,7 @@ fn copy_of(bytes: &ArrayVec<u8, CARGO_BYTES>) -> ArrayVec<u8, CARGO_BYTES>
 
 impl Cargo {
     /// An exact copy, which takes no memory.
+    #[inline(always)]
     pub fn copied(&self) -> Cargo
         ensures { result ≡ self.now }
     {

@@ -144,6 +144,7 @@ impl Sender {
     }
 
     /// Takes a packet as the last, under NEXT_TRANSMIT_SEQ.
+    #[inline(always)]
     pub fn accept(&mut self, cargo: Cargo) -> Result<Seq12, SendRefusal>
         ensures full { (result ≡ Err SendRefusal.WindowFull) ↔ (2047 ≤ length self.old.kept) }
         ensures was_reserved { IsTrue self.old.reserved → length self.old.kept < 2047 → IsOk result }
