@@ -127,20 +127,22 @@ writes() {
     }'
 }
 
-# Swaps that weren't answered on the first and the last words of 1 MiB, and reads that no order of them gives.
+# Additions and Swaps that weren't answered on the first and the last words of 1 MiB, and a read that no order of them gives.
 far() {
     awk 'BEGIN {
         print "pciex-log 1"
         print "memory 0 1048576 64"
         for (k = 1; k < 7; k++) {
-            print "sub " k " 0 swap 0 0" k "000000"
-            print "sub " k " 1 swap FFFFC 0" k "000000"
+            print "sub " k " 0 add 0 0" k "000000"
+            print "sub " k " 1 add FFFFC 0" k "000000"
+            print "sub " k " 2 swap 0 1" k "000000"
+            print "sub " k " 3 swap FFFFC 1" k "000000"
         }
         for (k = 1; k < 4; k++) {
             print "sub 7 " 2 * k - 2 " read 0 1 F 0"
-            print "ans 7 " 2 * k - 2 " data 0" k "000000"
+            print "ans 7 " 2 * k - 2 " data 1" 6 + k "000000"
             print "sub 7 " 2 * k - 1 " read FFFFC 1 F 0"
-            print "ans 7 " 2 * k - 1 " data 0" k "000000"
+            print "ans 7 " 2 * k - 1 " data 1" 6 + k "000000"
         }
         print "sub 7 6 read 0 1 F 0"
         print "ans 7 6 data 01000000"

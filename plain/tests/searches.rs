@@ -65,10 +65,10 @@ fn choices(counts: &[u64], limit: u64) -> String {
 fn choices_are_told() {
     let given_up = "pciex: given up at line 8 (open requests: 5)\npciex: lines 3 to 7 have a history\n";
     for (name, limit, stages, step, told, exit) in [
-        ("at the end of a search that is over at once", 1000, Stages::Shown, 0, choices(&[7], 1000), 0),
-        ("after two seconds, and four later", 100, Stages::Shown, 1000, choices(&[2, 6, 7], 100), 0),
-        ("no pause is longer than 16 seconds", 100, Stages::Shown, 16_000, choices(&[1, 2, 3, 4, 5, 6, 7], 100), 0),
-        ("sixteen seconds are longer than fifteen", 100, Stages::Shown, 15_000, choices(&[1, 2, 3, 5, 7], 100), 0),
+        ("at the end of a search that is over at once", 1000, Stages::Shown, 0, choices(&[6], 1000), 0),
+        ("after two seconds, and four later", 100, Stages::Shown, 1000, choices(&[2, 6], 100), 0),
+        ("no pause is longer than 16 seconds", 100, Stages::Shown, 16_000, choices(&[1, 2, 3, 4, 5, 6], 100), 0),
+        ("sixteen seconds are longer than fifteen", 100, Stages::Shown, 15_000, choices(&[1, 2, 3, 5, 6], 100), 0),
         ("the limit is told once", 1, Stages::Shown, 2000, choices(&[1], 1) + given_up, 3),
         ("no long log", 100, Stages::OfLongLogs, 2000, String::new(), 0),
         ("hidden", 100, Stages::Hidden, 2000, String::new(), 0),

@@ -111,7 +111,7 @@ end
     },
     Row {
         name: "a search that is given up",
-        words: &["pciex", "search", "--limit", "6"],
+        words: &["pciex", "search", "--limit", "4"],
         input: "\
 pciex-log 1
 memory 0 4096 64
@@ -125,13 +125,11 @@ sub 5 1 read 40 2 F F
 ans 5 1 data 0300000001000000
 end
 ",
-        written: Written::Text("limit 6\n"),
-        told: "pciex: given up at line 8 (open requests: 4); --progress shows how far it is\npciex: lines 3 to 7 have a history\n",
+        written: Written::Text("limit 4\n"),
+        told: "pciex: given up at line 8 (open requests: 3); --progress shows how far it is\npciex: lines 3 to 7 have a history\n",
         status: 3,
     },
 ];
-
-/// The next rows: a test of few is cheaper to prove.
 
 #[test]
 fn logs(rt: HostRuntime) {

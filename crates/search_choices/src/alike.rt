@@ -90,6 +90,7 @@ pub(crate) fn is_preceded(
         let Some(p) = links.before(at) else {
             return false;
         };
+        place.note_looks(1);
         if p < place.event() && place.is_left(p) && precedes(place, log, others, p, b) {
             return true;
         }

@@ -237,6 +237,7 @@ fn offer(
         Offers scene.entry.log.now scene.entry.place.now.state scene.entry.others.now.due steps.new.items (p ++ b ∷ [])) }
 {
     let Scene { log, others, place } = scene;
+    place.note_looks(1);
     if is_preceded(place, log, others, links, b) {
         return Ok(());
     }
@@ -349,6 +350,7 @@ pub fn choices(
     let aim = Aim { target, guess };
     let scene = Scene { log, others, place };
     let mut steps = allowed(alloc, scene, hints.links)?;
+    place.note_looks(steps.len() as u64);
     steps.sort_by_cached_key(|step| number_of(log, others, aim, *step))?;
     Ok(steps)
 }

@@ -21,7 +21,7 @@ use arrayvec::ArrayString;
 use history_words::{AsClaim, Flaw};
 use log_text::{no_fault_is_out_of_memory, read_seen_with_cause};
 use record_text::{Misread, ReadFaultKind};
-use search_history::{Bounds, Sought, Spot, search_watched};
+use search_history::{Bounds, Budget, Sought, Spot, search_watched};
 use std::alloc::{AllocError, Global};
 use std::io::{Write, sink};
 use std::time::Clock;
@@ -240,7 +240,7 @@ pub fn answer_with_reasons(
     let finding = find(alloc, text, demand, &NoClock, &mut sink())?;
     let outcome = outcome_of(alloc, &finding, demand.bounds())?;
     let telling = Telling {
-        limit: options.limit,
+        budget: Budget::for_reasons(options.limit),
         hints_at_progress: false,
     };
     tell(alloc, text, &finding, telling, reasons);

@@ -10,13 +10,13 @@ use arrayvec::ArrayString;
 use history_words::RecordRef;
 use log_text::read_seen;
 use operation_text::{write_hexadecimal, write_op, write_reply};
-use search_history::{Sought, Unwatched, search_watched};
+use search_history::{Budget, is_unexplained};
 use search_reasons::{Case, Kept, Why, core_of, reasons_of};
 use seq_memory::ReplyRef;
 use std::alloc::{AllocError, Global};
 use std::fmt::Display;
 use std::io::Write;
-use trace_store::{RecordStore, TraceStore};
+use trace_store::RecordStore;
 
 /// Adds a line.
 fn put_line<D: Display + Drop>(out: &mut Vec<u8>, line: D) -> Result<(), AllocError> {
@@ -94,8 +94,14 @@ fn text_of_few(alloc: Global, case: Case<'_>, answers: &[usize]) -> Result<Vec<u
 }
 
 /// The text of a log of few answers that may have no history.
-fn few_of(alloc: Global, case: Case<'_>, limit: u64) -> Result<Option<Vec<u8>>, AllocError> {
-    let reasons = reasons_of(alloc, case, limit)?;
+fn few_of(
+    alloc: Global,
+    case: Case<'_>,
+    budget: &mut Budget,
+) -> Result<Option<Vec<u8>>, AllocError> {
+    let mut own = budget.half(u64::MAX);
+    let reasons = reasons_of(alloc, case, &mut own)?;
+    budget.end_half(own);
     let Why::Answers { last, others, .. } = &reasons.why else {
         return Ok(None);
     };
@@ -107,31 +113,30 @@ fn few_of(alloc: Global, case: Case<'_>, limit: u64) -> Result<Option<Vec<u8>>, 
 }
 
 /// No history explains the log of the text, as far as that is found out.
-fn is_unexplained(alloc: Global, text: &[u8], demand: SearchDemand) -> Result<bool, AllocError>
+fn is_text_unexplained(alloc: Global, text: &[u8], budget: &mut Budget) -> Result<bool, AllocError>
     ensures { IfOk result (λ yes. yes ≡ true → IsUnexplainedText text.now) }
 {
     let Ok(log) = read_seen(alloc, text) else {
         return Ok(false);
     };
-    let mut store = TraceStore::of(alloc, log);
-    match search_watched(alloc, &mut store, demand.bounds(), &mut Unwatched)? {
-        (Sought::None { .. }, _, _) => Ok(true),
-        _ => Ok(false),
-    }
+    let mut own = budget.half(u64::MAX);
+    let is_so = is_unexplained(alloc, &log, None, &mut own)?;
+    budget.end_half(own);
+    Ok(is_so)
 }
 
 /// The text, if no history explains its log.
 fn confirmed(
     alloc: Global,
     text: Option<Vec<u8>>,
-    demand: SearchDemand,
+    budget: &mut Budget,
 ) -> Result<Option<Vec<u8>>, AllocError>
     ensures { IfOk result (λ o. IfSome o (λ v. IsUnexplainedText v.items)) }
 {
     let Some(text) = text else {
         return Ok(None);
     };
-    if is_unexplained(alloc, &text, demand)? {
+    if is_text_unexplained(alloc, &text, budget)? {
         return Ok(Some(text));
     }
     Ok(None)
@@ -143,6 +148,7 @@ pub(crate) fn core_text(
     alloc: Global,
     finding: &Finding,
     demand: SearchDemand,
+    budget: &mut Budget,
 ) -> Result<Option<Vec<u8>>, AllocError>
     ensures unexplained { IfOk result (λ o. IfSome o (λ v. IsUnexplainedText v.items)) }
     ensures asked { IfOk result (λ o. IfSome o (λ v. demand.has_core ≡ true)) }
@@ -154,8 +160,8 @@ pub(crate) fn core_text(
             prefix,
             pieces,
         } if demand.has_core => {
-            let text = few_of(alloc, case_of(seen, *prefix, pieces), demand.options.limit)?;
-            confirmed(alloc, text, demand)
+            let text = few_of(alloc, case_of(seen, *prefix, pieces), budget)?;
+            confirmed(alloc, text, budget)
         }
         _ => Ok(None),
     }

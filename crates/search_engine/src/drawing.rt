@@ -19,6 +19,7 @@ use history_picture::{Window, put_picture};
 use history_words::Claim;
 use line_loop::{EngineFault, write_out};
 use log_text::read_seen;
+use search_history::Budget;
 use search_picture::put_scene;
 use search_scene::scene_of;
 use std::alloc::{AllocError, Global};
@@ -51,14 +52,14 @@ fn log_drawn(
     text: &[u8],
     count: usize,
     pieces: &Option<Pieces>,
-    limit: u64,
+    budget: &mut Budget,
 ) -> Result<Vec<u8>, AllocError>
     ensures { IfOk result (λ v. (t : TraceView) → seen_of text.now ≡ Ok t → IsLogDrawn text.now t (count - 1) v.items) }
 {
     let Ok(log) = read_seen(alloc, text) else {
         return Err(AllocError);
     };
-    let scene = scene_of(alloc, text, case_of(&log, count, pieces), limit)?;
+    let scene = scene_of(alloc, text, case_of(&log, count, pieces), budget)?;
     let mut picture = Vec::new(alloc);
     put_scene(alloc, &scene, &mut picture)?;
     Ok(picture)
@@ -70,6 +71,7 @@ fn outcome_drawn(
     text: &[u8],
     finding: &Finding,
     demand: SearchDemand,
+    budget: &mut Budget,
 ) -> Result<Outcome, AllocError>
     ensures { (r : Result TraceView ReadFault) → IsFinding demand.options.granularity (bounds_of demand) r finding.now → seen_of text.now ≡ r
         → IfOk result (λ o. IsAnswerDrawn demand.options.granularity (bounds_of demand) text.now r (text_of o.text) o.status) }
@@ -84,7 +86,7 @@ fn outcome_drawn(
             })
         }
         Finding::None { prefix, pieces, .. } => {
-            let picture = log_drawn(alloc, text, *prefix, pieces, demand.options.limit)?;
+            let picture = log_drawn(alloc, text, *prefix, pieces, budget)?;
             Ok(Outcome {
                 text: OutcomeText::Trace(picture),
                 status: 1,
@@ -108,12 +110,14 @@ fn answer_drawn<C: Clock, E: Write>(
     ensures { IfOk result (λ a. OutSearchDrawn demand.options.granularity (bounds_of demand) text.items (text_of a.outcome.text) a.outcome.status) }
 {
     let finding = find(alloc, &text, demand, clock, errors)?;
-    let outcome = outcome_drawn(alloc, &text, &finding, demand)?;
+    let mut budget = Budget::for_reasons(demand.options.limit);
+    let outcome = outcome_drawn(alloc, &text, &finding, demand, &mut budget)?;
     let text = kept(text, &finding);
     Ok(Answer {
         outcome,
         finding,
         text,
+        budget,
     })
 }
 

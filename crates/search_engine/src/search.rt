@@ -13,6 +13,7 @@ use crate::options::{SearchDemand, SearchOptions};
 use crate::stages::{NoClock, Stages};
 use crate::telling::{Telling, tell};
 use line_loop::{EngineFault, write_out};
+use search_history::Budget;
 use std::alloc::{AllocError, Global};
 use std::io::{Read, Write, sink};
 use std::time::Clock;
@@ -31,6 +32,8 @@ pub(crate) struct Answer {
     pub(crate) outcome: Outcome,
     pub(crate) finding: Finding,
     pub(crate) text: Option<Vec<u8>>,
+    /// What its reason may take.
+    pub(crate) budget: Budget,
 }
 
 /// What is written of what came of a text: a log of few answers without a history in place of `none`, if it is asked for and
@@ -39,13 +42,14 @@ fn outcome_with_core(
     alloc: Global,
     finding: &Finding,
     demand: SearchDemand,
+    budget: &mut Budget,
 ) -> Result<Outcome, AllocError>
     ensures answers { (r : Result TraceView ReadFault) → IsFinding demand.options.granularity (bounds_of demand) r finding.now →
         IfOk result (λ o. IsAnswerTo demand.has_core demand.options.granularity (bounds_of demand) r (text_of o.text) o.status) }
     ensures ending { (r : Result TraceView ReadFault) → IsFinding demand.options.granularity (bounds_of demand) r finding.now →
         IfOk result (λ o. TellsEnding (bounds_of demand) o.ending (text_of o.text) o.status) }
 {
-    let core = core_text(alloc, finding, demand)?;
+    let core = core_text(alloc, finding, demand, budget)?;
     match core {
         Some(text) => Ok(Outcome {
             text: OutcomeText::Trace(text),
@@ -70,11 +74,13 @@ fn answered<C: Clock, E: Write>(
 {
     let finding = find(alloc, &text, demand, clock, errors)?;
     let text = kept(text, &finding);
-    let outcome = outcome_with_core(alloc, &finding, demand)?;
+    let mut budget = Budget::for_reasons(demand.options.limit);
+    let outcome = outcome_with_core(alloc, &finding, demand, &mut budget)?;
     Ok(Answer {
         outcome,
         finding,
         text,
+        budget,
     })
 }
 
@@ -93,7 +99,7 @@ pub(crate) fn tell_reason<E: Write>(
     errors: &mut E,
 ) {
     let telling = Telling {
-        limit: options.limit,
+        budget: answer.budget,
         hints_at_progress: matches!(options.stages, Stages::Hidden),
     };
     if let Some(text) = &answer.text {

@@ -4,6 +4,7 @@ ghost use Rattle.std.specs.Prelude.{◌≡◌};
 
 use crate::answering::Finding;
 use crate::granularity::Pieces;
+use search_history::Budget;
 use search_reasons::{Case, GivenUp, Prefix, tell_fault, tell_flaw, tell_given_up, tell_none};
 use std::alloc::Global;
 use std::io::Write;
@@ -42,8 +43,8 @@ pub(crate) fn case_of<'a>(
 /// What is asked of the reasons of a search.
 #[derive(Clone, Copy)]
 pub(crate) struct Telling {
-    /// How many choices they may take.
-    pub(crate) limit: u64,
+    /// What they may take.
+    pub(crate) budget: Budget,
     /// Whether the option is named by which it is told how far a search is.
     pub(crate) hints_at_progress: bool,
 }
@@ -57,13 +58,19 @@ pub(crate) fn tell<E: Write>(
     telling: Telling,
     errors: &mut E,
 ) {
-    let limit = telling.limit;
+    let mut budget = telling.budget;
     let _ = match finding {
         Finding::None {
             seen,
             prefix,
             pieces,
-        } => tell_none(alloc, text, case_of(seen, *prefix, pieces), limit, errors),
+        } => tell_none(
+            alloc,
+            text,
+            case_of(seen, *prefix, pieces),
+            &mut budget,
+            errors,
+        ),
         Finding::Limit {
             seen,
             far: Some(far),
@@ -75,7 +82,7 @@ pub(crate) fn tell<E: Write>(
                 spot: *far,
                 hints_at_progress: telling.hints_at_progress,
             };
-            tell_given_up(alloc, text, given_up, limit, errors)
+            tell_given_up(alloc, text, given_up, &mut budget, errors)
         }
         Finding::Flaw { seen, flaw } => tell_flaw(alloc, text, seen, *flaw, errors),
         Finding::Fault(misread) => tell_fault(text, *misread, errors),

@@ -37,6 +37,7 @@ impl Scene<'_, '_> {
         requires word { at.word < self.log.now.extent.size / 4 }
         ensures { IsTrue result → MayAct self.entry.log.now self.entry.place.now.state other }
     {
+        self.place.note_looks(1);
         !is_junk_at(self.log, self.place.bytes(), other, at.word)
             && (is_within(self.log, other, at.request) || changes_nothing(self.log, other))
             && self.place.may_act(self.log, other)

@@ -16,6 +16,9 @@ use search_words::{Stretch, Words, near_junk, near_left, near_there, span_of};
 /// How many requests at a word are looked at one by one.
 const MOST: usize = 256;
 
+/// As many requests as are gone over in the time of a step.
+const QUICK: u64 = 64;
+
 /// Which of the pending requests are looked at.
 #[derive(Clone, Copy)]
 pub enum Look {
@@ -49,6 +52,20 @@ impl Look {
             from: pending.len() - usize::from(is_one),
             marks: u32::MAX,
         }
+    }
+
+    /// How many of the pending requests are gone over.
+    fn count(self, place: &Place) -> usize {
+        match self {
+            Look::Marked { marks: 0, .. } => 0,
+            Look::Marked { from, .. } => place.pending().len().saturating_sub(from),
+            Look::Only(_) => 1,
+        }
+    }
+
+    /// How much work it is to go over them.
+    pub(crate) fn work(self, place: &Place) -> u64 {
+        self.count(place) as u64 / QUICK
     }
 
     /// The marks of those of the whole list that weren't looked at yet.
@@ -179,10 +196,12 @@ impl Scene<'_, '_> {
         requires { at.word < self.log.now.extent.size / 4 }
     {
         let AtWord { request, word } = at;
-        other == request
-            || self.place.has_acted(other)
-            || is_junk_at(self.log, self.place.bytes(), other, word)
-                && leaves_junk_at(self.log, other, request, word)
+        if other == request || self.place.has_acted(other) {
+            return true;
+        }
+        self.place.note_looks(1);
+        is_junk_at(self.log, self.place.bytes(), other, word)
+            && leaves_junk_at(self.log, other, request, word)
     }
 
     /// The other request is pending and may act in turn after the request.

@@ -103,6 +103,7 @@ fn acts_over_junk(
     ensures forced { IfOk result (λ so. IsTrue so → IsForced known.entry.log.now place.new.state (Step.Act request)) }
 {
     let Known { log, catalog } = known;
+    place.note_looks(1);
     if !place.may_act(log, request) {
         return Ok(false);
     }

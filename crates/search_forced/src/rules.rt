@@ -86,6 +86,7 @@ impl Scene<'_, '_> {
         if !self.place.may_act(self.log, request) {
             return false;
         }
+        self.place.note_looks(1);
         if self.catalog.is_quiet(request) && self.is_quiet(request) {
             return true;
         }

@@ -6,6 +6,7 @@ ghost use Rattle.search_forced.specs.Catalogs.{IsCatalog};
 ghost use Rattle.search_forced.specs.Scenes.{IsScene};
 
 use crate::catalog::{Catalog, Way};
+use crate::hints::Look;
 use crate::junk::{Among, over_junk};
 use crate::scene::{Known, Scene};
 use log_runs::{Log, Step};
@@ -63,13 +64,13 @@ fn at_last(place: &mut Place, alloc: Global, known: Known<'_>) -> Result<Option<
     Ok(scene.single())
 }
 
-/// How much work it is to see which step is taken at once, where the rules for one request see this one.
-pub fn work_for(place: &Place, step: Option<Step>) -> u64 {
-    let pending = place.pending().len() as u64;
-    let few = 1 + pending / 64;
+/// How much work it is to see which step is taken at once, where the rules for one request see this one, beside the requests
+/// that are looked at one by one.
+pub fn work_for(place: &Place, look: Look, step: Option<Step>) -> u64 {
+    let few = look.work(place).saturating_add(1);
     match step {
         Some(_) => few,
-        None => few + LAST + 4 * pending,
+        None => few.saturating_add(LAST + 4 * place.pending().len() as u64),
     }
 }
 

@@ -9,11 +9,11 @@ ghost use Rattle.search_history.specs.Expected as expected;
 ghost use Rattle.search_history.specs.Expected.{IsExpected};
 ghost use Rattle.trace_store.specs.Changes.{with_reply};
 
+use crate::budgets::Budget;
 use crate::judging::{Beginning, is_explainable};
 use history_words::{RecordHeader, RecordRef};
 use log_events::{form_of, perform};
 use log_runs::Step;
-use search_run::Bounds;
 use seq_memory::{EntryRef, Extent, Reply, ReplyData, ReplyRef};
 use std::alloc::{AllocError, Global};
 use tlp_core::OpRef;
@@ -131,7 +131,7 @@ fn guessed(
 }
 
 /// A history explains the log; false where it isn't found.
-fn has_history(alloc: Global, seen: &RecordStore, bounds: Bounds) -> Result<bool, AllocError>
+fn has_history(alloc: Global, seen: &RecordStore, budget: &mut Budget) -> Result<bool, AllocError>
     ensures { IfOk result (λ yes. yes ≡ true → IsExplainable seen.now) }
 {
     let form = form_of(alloc, &seen.records())?;
@@ -143,7 +143,7 @@ fn has_history(alloc: Global, seen: &RecordStore, bounds: Bounds) -> Result<bool
         partners: &form.partners,
         count: seen.len(),
     };
-    is_explainable(alloc, records, bounds)
+    is_explainable(alloc, records, budget)
 }
 
 /// Adds the record with that reply, if it is an answer; else the record.
@@ -205,7 +205,7 @@ pub(crate) fn expected_at(
     seen: &RecordStore,
     place: usize,
     steps: &[Step],
-    bounds: Bounds,
+    budget: &mut Budget,
 ) -> Result<Option<Reply>, AllocError>
     ensures { IfOk result (λ o. IfSome o (IsExpected seen.now place)) }
 {
@@ -213,7 +213,7 @@ pub(crate) fn expected_at(
         return Ok(None);
     };
     let other = replied(alloc, seen, place, &reply.lend())?;
-    if has_history(alloc, &other, bounds)? {
+    if has_history(alloc, &other, budget)? {
         return Ok(Some(reply));
     }
     Ok(None)

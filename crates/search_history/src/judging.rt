@@ -11,6 +11,7 @@ ghost use Rattle.search_run.specs.Watched.{Saw};
 ghost use Rattle.search_history.specs.Looks.{IsPartOf};
 
 use crate::alone::{Field, explored_on, parts_of};
+use crate::budgets::Budget;
 use log_cells::Cells;
 use log_events::{Partners, form_of, log_of};
 use log_runs::laws::{
@@ -214,17 +215,19 @@ fn explored_by(
     alloc: Global,
     log: &Log<'_>,
     range: Option<(u64, u64)>,
-    bounds: Bounds,
+    budget: &mut Budget,
 ) -> Result<Outcome, AllocError>
     ensures { IfOk result (λ o. o ≡ Outcome.Dead → Dead log.now (start log.now)) }
 {
     let Some(range) = range else {
-        let found = explored(alloc, log, bounds, &mut Unwatched)?;
+        let found = explored(alloc, log, budget.bounds(), &mut Unwatched)?;
+        budget.work = found.work;
         return Ok(found.outcome);
     };
     let cells = Cells::of(alloc, log)?;
     let field = Field { log, cells: &cells };
-    let explored = explored_on(alloc, field, range, bounds, &mut Unwatched)?;
+    let explored = explored_on(alloc, field, range, budget.bounds(), &mut Unwatched)?;
+    budget.work = explored.found.work;
     Ok(explored.found.outcome)
 }
 
@@ -233,23 +236,30 @@ pub(crate) fn judged_on(
     alloc: Global,
     records: Beginning<'_>,
     range: Option<(u64, u64)>,
-    bounds: Bounds,
+    budget: &mut Budget,
 ) -> Result<Outcome, AllocError>
     requires { records.count ≤ length records.seen.now.records }
     ensures { IfOk result (λ o. o ≡ Outcome.Dead → IsExplainable (prefix records.entry.count records.entry.seen.now) → ⊥) }
 {
     explainable_has_a_run();
+    if !budget.begin(records.count) {
+        return Ok(Outcome::Limit(Bound::Work));
+    }
     let first = First {
         seen: records.seen,
         count: records.count,
     };
     let log = first.log(alloc, records.partners)?;
-    let found = explored_by(alloc, &log, range, bounds)?;
+    let found = explored_by(alloc, &log, range, budget)?;
     Ok(found)
 }
 
 /// What comes of a search for a run through the records. What is said to belong together does, and their form is right.
-fn outcome_of(alloc: Global, records: Beginning<'_>, bounds: Bounds) -> Result<Outcome, AllocError>
+fn outcome_of(
+    alloc: Global,
+    records: Beginning<'_>,
+    budget: &mut Budget,
+) -> Result<Outcome, AllocError>
     requires joined { ArePartners records.partners.now (take records.count records.seen.now.records) }
     requires formed { IsWellFormed (take records.count records.seen.now.records) }
     ensures { IfOk result (IsOutcomeOf (prefix records.entry.count records.entry.seen.now)) }
@@ -259,7 +269,8 @@ fn outcome_of(alloc: Global, records: Beginning<'_>, bounds: Bounds) -> Result<O
         count: records.count,
     };
     let log = first.log(alloc, records.partners)?;
-    let judgment = judged(alloc, first, log, bounds, &mut Unwatched)?;
+    let judgment = judged(alloc, first, log, budget.bounds(), &mut Unwatched)?;
+    budget.work = judgment.work;
     Ok(judgment.outcome)
 }
 
@@ -268,7 +279,7 @@ fn outcome_of(alloc: Global, records: Beginning<'_>, bounds: Bounds) -> Result<O
 pub(crate) fn run_of(
     alloc: Global,
     records: Beginning<'_>,
-    bounds: Bounds,
+    budget: &mut Budget,
 ) -> Result<Option<Vec<Step>>, AllocError>
     requires within { records.count ≤ length records.seen.now.records }
     requires joined { ArePartners records.partners.now (take records.count records.seen.now.records) }
@@ -276,7 +287,10 @@ pub(crate) fn run_of(
     ensures { IfOk result (λ o. IfSome o (λ steps. IsExplainable (prefix records.entry.count records.entry.seen.now))) }
 {
     a_run_is_a_history();
-    let outcome = outcome_of(alloc, records, bounds)?;
+    if !budget.begin(records.count) {
+        return Ok(None);
+    }
+    let outcome = outcome_of(alloc, records, budget)?;
     match outcome {
         Outcome::Run(steps) => Ok(Some(steps)),
         _ => Ok(None),
@@ -288,7 +302,7 @@ pub(crate) fn run_of(
 pub(crate) fn is_explainable(
     alloc: Global,
     records: Beginning<'_>,
-    bounds: Bounds,
+    budget: &mut Budget,
 ) -> Result<bool, AllocError>
     requires within { records.count ≤ length records.seen.now.records }
     requires joined { ArePartners records.partners.now (take records.count records.seen.now.records) }
@@ -296,17 +310,19 @@ pub(crate) fn is_explainable(
     ensures { IfOk result (λ yes. yes ≡ true → IsExplainable (prefix records.entry.count records.entry.seen.now)) }
 {
     a_run_is_a_history();
-    let outcome = outcome_of(alloc, records, bounds)?;
+    if !budget.begin(records.count) {
+        return Ok(false);
+    }
+    let outcome = outcome_of(alloc, records, budget)?;
     Ok(matches!(outcome, Outcome::Run(_)))
 }
 
-/// No history explains the records, as far as it is found out within the bounds on the bytes of a range alone,
-/// if there is one.
-pub(crate) fn is_unexplained(
+/// No history explains the log, as far as it is found out within the budget, on the bytes of a range alone, if there is one.
+pub fn is_unexplained(
     alloc: Global,
     seen: &RecordStore,
     range: Option<(u64, u64)>,
-    bounds: Bounds,
+    budget: &mut Budget,
 ) -> Result<bool, AllocError>
     ensures { IfOk result (λ yes. yes ≡ true → IsExplainable seen.now → ⊥) }
 {
@@ -321,6 +337,6 @@ pub(crate) fn is_unexplained(
         partners: &form.partners,
         count: seen.len(),
     };
-    let outcome = judged_on(alloc, records, range, bounds)?;
+    let outcome = judged_on(alloc, records, range, budget)?;
     Ok(matches!(outcome, Outcome::Dead))
 }

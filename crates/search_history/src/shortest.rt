@@ -4,17 +4,18 @@ ghost use Rattle.log_runs.specs.Explainable.{IsExplainable, prefix};
 ghost use Rattle.search_history.specs.Expected.{IsExpected};
 ghost use Rattle.search_history.specs.Prefixes.{IsUnexplained, IsExplainedBefore};
 
+use crate::budgets::Budget;
 use crate::expecting::expected_at;
 use crate::judging::{Beginning, Clue, is_explainable, judged_on, run_of};
 use history_words::RecordRef;
 use log_events::form_of;
-use search_run::{Bounds, Outcome};
+use search_run::Outcome;
 use seq_memory::Reply;
 use std::alloc::{AllocError, Global};
 use tlp_core::OpRef;
 use trace_store::RecordStore;
 
-/// How many choices the search for a prefix looks at, at most.
+/// How many choices the search of a prefix looks at, at most.
 const EACH: u64 = 20_000;
 
 /// How many prefixes are searched, at most.
@@ -22,19 +23,6 @@ const SEARCHES: u32 = 20;
 
 /// So many records are no long log: all prefixes that may be shorter are searched.
 const LONG: usize = 10_000;
-
-/// How much work is done for each record of a prefix that is searched, and for all of them at least.
-const WORK: u64 = 32;
-
-const LEAST: u64 = 10_000_000;
-
-/// What the search of so many records may do.
-fn bounds_for(count: usize, limit: u64) -> Bounds {
-    Bounds {
-        choices: limit.min(EACH),
-        work: (count as u64).saturating_mul(WORK).max(LEAST),
-    }
-}
 
 /// The prefix that is tried next, of those between the two: the first one that is to be tried; then, if it
 /// has no history, the one that is one less; else those that follow it in growing steps, or the middle.
@@ -64,7 +52,7 @@ fn halved(
     records: Beginning<'_>,
     first: usize,
     range: Option<(u64, u64)>,
-    limit: u64,
+    budget: &mut Budget,
 ) -> Result<usize, AllocError>
     requires { IsUnexplained records.seen.now records.count }
     ensures { IfOk result (IsUnexplained records.entry.seen.now) }
@@ -76,8 +64,7 @@ fn halved(
             return Ok(high);
         }
         let middle = next(low, high, first, turn);
-        let bounds = bounds_for(middle, limit);
-        let outcome = judged_on(alloc, records.first(middle), range, bounds)?;
+        let outcome = judged_on(alloc, records.first(middle), range, budget)?;
         match outcome {
             Outcome::Dead if turn == 0 && middle > LONG => return Ok(middle),
             Outcome::Dead => high = middle,
@@ -101,7 +88,8 @@ fn is_open(records: Beginning<'_>, count: usize, b: usize) -> bool {
     }
 }
 
-/// Looks for a shorter prefix without a history, first by the cells on which there is none.
+/// Looks for a shorter prefix without a history, first by the cells on which there is none. Each search looks at no more than
+/// `limit` choices.
 pub(crate) fn shortened(
     alloc: Global,
     records: Beginning<'_>,
@@ -115,7 +103,8 @@ pub(crate) fn shortened(
     if clue.range.is_none() && (0..first).filter(|b| is_open(records, first, *b)).count() > OPEN {
         return Ok(records.count);
     }
-    let near = halved(alloc, records, first, clue.range, limit)?;
+    let mut budget = Budget::for_prefixes(limit.min(EACH));
+    let near = halved(alloc, records, first, clue.range, &mut budget)?;
     if clue.range.is_none() || near > LONG {
         return Ok(near);
     }
@@ -124,16 +113,16 @@ pub(crate) fn shortened(
         records.first(near),
         near.saturating_sub(1),
         None,
-        limit,
+        &mut budget,
     )
 }
 
-/// A history explains the first `count` records; false where it isn't found. Looks at no more than `limit` choices.
+/// A history explains the first `count` records; false where it isn't found, with a half of the budget.
 pub fn is_explained(
     alloc: Global,
     seen: &RecordStore,
     count: usize,
-    limit: u64,
+    budget: &mut Budget,
 ) -> Result<bool, AllocError>
     requires { count ≤ length seen.now.records }
     ensures { IfOk result (λ yes. yes ≡ true → IsExplainable (prefix count seen.now)) }
@@ -147,7 +136,10 @@ pub fn is_explained(
         partners: &form.partners,
         count,
     };
-    is_explainable(alloc, records, bounds_for(count, limit))
+    let mut own = budget.half(EACH);
+    let is_so = is_explainable(alloc, records, &mut own)?;
+    budget.end_half(own);
+    Ok(is_so)
 }
 
 /// What is known of the records but for the last one.
@@ -160,12 +152,13 @@ pub struct Before {
 }
 
 /// How many of the first records a history explains, if `prefix` records have none and that is found: as many
-/// but one. And if that is found, too, a reply with which in place of the last one a history explains all.
+/// but one. And if that is found, too, a reply with which in place of the last one a history explains all. It takes a half of
+/// the budget.
 pub fn explained_before(
     alloc: Global,
     seen: &RecordStore,
     prefix: usize,
-    limit: u64,
+    budget: &mut Budget,
 ) -> Result<Option<Before>, AllocError>
     requires { prefix ≤ length seen.now.records }
     ensures explained { IfOk result (λ o. IfSome o (λ b. IsExplainedBefore seen.now prefix b.count)) }
@@ -179,15 +172,18 @@ pub fn explained_before(
     if form.flaw.is_some() {
         return Ok(None);
     }
-    let bounds = bounds_for(count, limit);
     let records = Beginning {
         seen,
         partners: &form.partners,
         count,
     };
-    let Some(steps) = run_of(alloc, records, bounds)? else {
+    let mut own = budget.half(EACH);
+    let run = run_of(alloc, records, &mut own)?;
+    let Some(steps) = run else {
+        budget.end_half(own);
         return Ok(None);
     };
-    let expected = expected_at(alloc, seen, count, &steps, bounds)?;
+    let expected = expected_at(alloc, seen, count, &steps, &mut own)?;
+    budget.end_half(own);
     Ok(Some(Before { count, expected }))
 }

@@ -9,6 +9,7 @@ ghost use Rattle.log_runs.specs.Explainable.{IsExplainable};
 ghost use Rattle.search_history.specs.Contradictions.{Contradict, keeping_from};
 ghost use Rattle.search_history.specs.Contradictions as contradictions;
 
+use crate::budgets::Budget;
 use crate::judging::is_unexplained;
 use history_words::{RecordHeader, RecordRef};
 use log_cells::{Cells, part};
@@ -28,11 +29,6 @@ const ALL: u64 = 200_000;
 
 /// How often answers are left out, at most.
 const SEARCHES: u32 = 400;
-
-/// How much work all of them do for each record, and at least: a second or two, in which the answer stands already.
-const WORK: u64 = 12;
-
-const LEAST: u64 = 10_000_000;
 
 /// How much work it is to make a log, for each of its events.
 const EVENT: u64 = 4;
@@ -281,15 +277,6 @@ fn found(
     few_of(alloc, &log, bounds)
 }
 
-/// What the searches for answers that contradict each other may do: in all so many choices, and work in proportion to the
-/// records.
-fn bounds_for(prefix: usize, choices: u64) -> Bounds {
-    Bounds {
-        choices,
-        work: (prefix as u64).saturating_mul(WORK).max(LEAST),
-    }
-}
-
 /// Adds the record at the place, if it is no answer or its place is one of these.
 fn keep(
     log: &mut RecordStore,
@@ -340,14 +327,14 @@ fn keeping(
     keeping_records(alloc, seen.extent(), &seen.records().first(count), kept)
 }
 
-/// Whether no history explains these answers of the first `prefix` records together, as far as it is found out. It looks at
-/// no more than `limit` choices, and does work in proportion to the records.
+/// Whether no history explains these answers of the first `prefix` records together, as far as it is found out with a half of
+/// the budget.
 pub fn contradict(
     alloc: Global,
     seen: &RecordStore,
     prefix: usize,
     answers: &[usize],
-    limit: u64,
+    budget: &mut Budget,
 ) -> Result<bool, AllocError>
     ensures { IfOk result (λ yes. yes ≡ true → IsExplainable (contradictions.keeping prefix answers.now seen.now) → ⊥) }
 {
@@ -355,17 +342,20 @@ pub fn contradict(
         return Ok(false);
     }
     let few = keeping(alloc, seen, prefix, answers)?;
-    is_unexplained(alloc, &few, None, bounds_for(prefix, limit.min(ALL)))
+    let mut own = budget.half(ALL);
+    let is_so = is_unexplained(alloc, &few, None, &mut own)?;
+    budget.end_half(own);
+    Ok(is_so)
 }
 
 /// Places of at most 16 answers of the first `prefix` records that no history explains together, in
-/// their order; none if they aren't found. It looks at no more than `limit` choices, and does work in
-/// proportion to the records.
+/// their order; none if they aren't found. It looks for them with a half of the budget, and confirms them with a half of
+/// the rest.
 pub fn contradiction(
     alloc: Global,
     seen: &RecordStore,
     prefix: usize,
-    limit: u64,
+    budget: &mut Budget,
 ) -> Result<Vec<usize>, AllocError>
     ensures none { IfOk result (λ v. Contradict seen.now prefix v.items) }
     ensures few { IfOk result (λ v. length v.items ≤ 16) }
@@ -373,16 +363,20 @@ pub fn contradiction(
     if prefix > seen.len() {
         return Ok(Vec::new(alloc));
     }
-    let all = limit.min(ALL);
-    let half = all / 2;
-    let Few { kept, range, left } = found(alloc, seen, prefix, bounds_for(prefix, half))?;
+    let own = budget.half(ALL / 2);
+    let Few { kept, range, left } = found(alloc, seen, prefix, own.bounds())?;
+    budget.end_half(Budget {
+        work: left.work,
+        ..own
+    });
     if kept.len() > MAX_ANSWERS {
         return Ok(Vec::new(alloc));
     }
     let few = keeping(alloc, seen, prefix, &kept)?;
-    let looked = half.saturating_sub(left.choices);
-    let rest = bounds_for(prefix, all.saturating_sub(looked));
-    if is_unexplained(alloc, &few, range, rest)? {
+    let mut rest = budget.half(ALL / 2);
+    let is_so = is_unexplained(alloc, &few, range, &mut rest)?;
+    budget.end_half(rest);
+    if is_so {
         return Ok(kept);
     }
     Ok(Vec::new(alloc))

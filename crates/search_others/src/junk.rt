@@ -70,6 +70,7 @@ fn ignores(place: &Place, log: &Log, junk: Junk, word: u64, b: usize) -> bool
     if place.has_acted(b) {
         return true;
     }
+    place.note_looks(1);
     is_nothing(log, place.bytes(), junk, word, b)
 }
 

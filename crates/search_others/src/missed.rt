@@ -18,6 +18,9 @@ pub struct Loss {
     pub old: u32,
 }
 
+/// As many requests as are seen in the time of a look at one, where only a few numbers of them are.
+const QUICK: u64 = 8;
+
 /// The range of the request is one word.
 fn is_word(log: &Log, q: usize) -> bool {
     match log.event(q) {
@@ -28,6 +31,7 @@ fn is_word(log: &Log, q: usize) -> bool {
 
 /// Of the list's requests that are left and have one word, the one that is due first.
 fn first_due(place: &Place, log: &Log, others: &Others, list: &[usize]) -> Option<usize> {
+    place.note_looks(list.len() as u64 / QUICK);
     let mut least = usize::MAX;
     let mut first = None;
     for q in list {

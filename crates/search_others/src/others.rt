@@ -59,6 +59,7 @@ fn holds(place: &Place, log: &Log, question: Question, b: usize) -> bool
     if b == question.of || place.has_acted(b) {
         return true;
     }
+    place.note_looks(1);
     spares(log, place.bytes(), b, question.of, question.asked)
 }
 

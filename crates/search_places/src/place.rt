@@ -9,6 +9,7 @@ use crate::bytes::zeros;
 use crate::pending::Requests;
 use log_runs::Log;
 use std::alloc::{AllocError, Global};
+use std::cell::Cell;
 use std::marker::Model;
 
 /// A state of a run, the requests that were passed and haven't acted, and those of them that are
@@ -25,6 +26,8 @@ pub struct Place {
     pub(crate) bytes: Vec<u8>,
     /// Which requests have acted, by their index in the log.
     pub(crate) acted: Vec<bool>,
+    /// How many requests were looked at and not told yet. Nothing rests on it.
+    looks: Cell<u64>,
 }
 
 impl Model for Place {
@@ -54,6 +57,7 @@ impl Place {
             posts: Requests::new(alloc),
             bytes: zeros(alloc, log.extent().size())?,
             acted: none_acted(alloc, log.len())?,
+            looks: Cell::new(0),
         })
     }
 
@@ -112,6 +116,16 @@ impl Place {
             Some(acted) => !*acted,
             None => false,
         }
+    }
+
+    /// So many requests more are looked at, for a step from here.
+    pub fn note_looks(&self, count: u64) {
+        self.looks.set(self.looks.get().saturating_add(count));
+    }
+
+    /// How many requests were looked at since this was told last.
+    pub fn take_looks(&self) -> u64 {
+        self.looks.replace(0)
     }
 
     /// Says whether the request has acted.

@@ -9,7 +9,7 @@ use crate::cases::Case;
 use crate::causes::{Cause, misreply_among};
 use log_events::form_of;
 use search_anomalies::{Link, Prefix, WordCause, cycle_through, words_cause};
-use search_history::{Before, contradict, contradiction, explained_before};
+use search_history::{Before, Budget, contradict, contradiction, explained_before};
 use std::alloc::{AllocError, Global};
 
 /// Why a prefix of a log has no history. Records are those that were searched.
@@ -39,7 +39,11 @@ pub enum Why {
 }
 
 /// How many records a history explains, if they are one less than the prefix and that is found out.
-fn explained(alloc: Global, prefix: Prefix<'_>, limit: u64) -> Result<Option<Before>, AllocError>
+fn explained(
+    alloc: Global,
+    prefix: Prefix<'_>,
+    budget: &mut Budget,
+) -> Result<Option<Before>, AllocError>
     ensures explained { IfOk result (λ o. IfSome o (λ b. IsExplainedBefore prefix.entry.seen.now prefix.entry.count b.count)) }
     ensures next { IfOk result (λ o. IfSome o (λ b. b.count + 1 ≡ prefix.entry.count)) }
     ensures expected { IfOk result (λ o. IfSome o (λ b. IfSome b.expected (IsExpected prefix.entry.seen.now b.count))) }
@@ -48,7 +52,7 @@ fn explained(alloc: Global, prefix: Prefix<'_>, limit: u64) -> Result<Option<Bef
     if prefix.count > seen.len() {
         return Ok(None);
     }
-    explained_before(alloc, seen, prefix.count, limit)
+    explained_before(alloc, seen, prefix.count, budget)
 }
 
 /// The form of the last record is wrong.
@@ -80,10 +84,14 @@ fn proved(last: usize, others: Vec<usize>) -> Against
 }
 
 /// Few answers that contradict each other, or else the last record alone.
-fn answers_against(alloc: Global, prefix: Prefix<'_>, limit: u64) -> Result<Against, AllocError>
+fn answers_against(
+    alloc: Global,
+    prefix: Prefix<'_>,
+    budget: &mut Budget,
+) -> Result<Against, AllocError>
     ensures { IfOk result (λ a. AreAgainst prefix.entry.seen.now prefix.entry.count a.last a.others.items a.is_proved) }
 {
-    let mut others = contradiction(alloc, prefix.seen, prefix.count, limit)?;
+    let mut others = contradiction(alloc, prefix.seen, prefix.count, budget)?;
     match others.pop() {
         Some(last) => Ok(proved(last, others)),
         None => Ok(Against {
@@ -156,7 +164,7 @@ fn answers_on(
     prefix: Prefix<'_>,
     cycle: &[Link],
     last: usize,
-    limit: u64,
+    budget: &mut Budget,
 ) -> Result<Option<Against>, AllocError>
     ensures { IfOk result (λ o. IfSome o (λ a. AreAgainst prefix.entry.seen.now prefix.entry.count a.last a.others.items a.is_proved)) }
 {
@@ -167,7 +175,7 @@ fn answers_on(
     let mut all = Vec::new(alloc);
     all.extend_from_slice(&others)?;
     all.push(last)?;
-    if contradict(alloc, prefix.seen, prefix.count, &all, limit)? {
+    if contradict(alloc, prefix.seen, prefix.count, &all, budget)? {
         return Ok(Some(proved(last, others)));
     }
     Ok(None)
@@ -185,7 +193,7 @@ fn ring_of(
     alloc: Global,
     prefix: Prefix<'_>,
     answers: Against,
-    limit: u64,
+    budget: &mut Budget,
 ) -> Result<Ring, AllocError>
     requires { AreAgainst prefix.seen.now prefix.count answers.last answers.others.items answers.is_proved }
     ensures { IfOk result (λ r. AreAgainst prefix.entry.seen.now prefix.entry.count r.answers.last r.answers.others.items r.answers.is_proved) }
@@ -194,7 +202,7 @@ fn ring_of(
     if cycle.is_empty() {
         return Ok(Ring { answers, cycle });
     }
-    match answers_on(alloc, prefix, &cycle, answers.last, limit)? {
+    match answers_on(alloc, prefix, &cycle, answers.last, budget)? {
         Some(answers) => Ok(Ring { answers, cycle }),
         None => Ok(Ring { answers, cycle }),
     }
@@ -206,13 +214,13 @@ fn ring_for(
     prefix: Prefix<'_>,
     answers: Against,
     cause: Cause,
-    limit: u64,
+    budget: &mut Budget,
 ) -> Result<Ring, AllocError>
     requires { AreAgainst prefix.seen.now prefix.count answers.last answers.others.items answers.is_proved }
     ensures { IfOk result (λ r. AreAgainst prefix.entry.seen.now prefix.entry.count r.answers.last r.answers.others.items r.answers.is_proved) }
 {
     if cause == Cause::Words(WordCause::NoOrder) {
-        return ring_of(alloc, prefix, answers, limit);
+        return ring_of(alloc, prefix, answers, budget);
     }
     Ok(Ring {
         answers,
@@ -220,27 +228,26 @@ fn ring_for(
     })
 }
 
-/// Why the prefix has no history. Looks at no more than `limit` choices for each of the three things that are told: how
-/// many records have a history, which answers contradict each other, and which of them are on a cycle. Does work in
-/// proportion to the records.
+/// Why the prefix has no history. Three things are told, as far as they are found out within the budget: how many records have
+/// a history, which answers contradict each other, and which of them are on a cycle.
 /// Fails where memory can't be allocated; nothing is known then.
-pub fn reasons_of(alloc: Global, case: Case<'_>, limit: u64) -> Result<Reasons, AllocError>
+pub fn reasons_of(alloc: Global, case: Case<'_>, budget: &mut Budget) -> Result<Reasons, AllocError>
     ensures explained { IfOk result (λ r. IfSome r.before (λ b. IsExplainedBefore case.entry.searched.seen.now case.entry.searched.count b.count)) }
     ensures next { IfOk result (λ r. IfSome r.before (λ b. b.count + 1 ≡ case.entry.searched.count)) }
     ensures expected { IfOk result (λ r. IfSome r.before (λ b. IfSome b.expected (IsExpected case.entry.searched.seen.now b.count))) }
     ensures answers { IfOk result (λ r. IsTold case.entry.searched.seen.now case.entry.searched.count
         (observed case.entry.read.seen.now) case.entry.read.seen.now.records r.why) }
 {
-    let before = explained(alloc, case.searched, limit)?;
+    let before = explained(alloc, case.searched, budget)?;
     if is_misformed(alloc, case.read)? {
         return Ok(Reasons {
             before,
             why: Why::Form,
         });
     }
-    let found = answers_against(alloc, case.searched, limit)?;
+    let found = answers_against(alloc, case.searched, budget)?;
     let cause = cause_of(alloc, case, &found)?;
-    let Ring { answers, cycle } = ring_for(alloc, case.searched, found, cause, limit)?;
+    let Ring { answers, cycle } = ring_for(alloc, case.searched, found, cause, budget)?;
     let Against {
         last,
         others,

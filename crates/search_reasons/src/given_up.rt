@@ -12,7 +12,7 @@ use hex_text::is_skipped;
 use line_loop::{EngineFault, write_out};
 use operation_text::{split_word, write_hexadecimal};
 use search_anomalies::Prefix;
-use search_history::{Spot, is_explained};
+use search_history::{Budget, Spot, is_explained};
 use std::alloc::{AllocError, Global};
 use std::io::Write;
 use trace_diagnostics::TraceLines;
@@ -21,7 +21,11 @@ use trace_diagnostics::TraceLines;
 const SEARCHES: u32 = 4;
 
 /// How many of the first `count` records a history explains, as far as that is found: all, or a half of them, and so on.
-pub fn explained_of(alloc: Global, prefix: Prefix<'_>, limit: u64) -> Result<usize, AllocError>
+pub fn explained_of(
+    alloc: Global,
+    prefix: Prefix<'_>,
+    budget: &mut Budget,
+) -> Result<usize, AllocError>
     ensures { IfOk result (λ n. 0 < n → IsExplainable (first n prefix.entry.seen.now)) }
 {
     let seen = prefix.seen;
@@ -30,7 +34,7 @@ pub fn explained_of(alloc: Global, prefix: Prefix<'_>, limit: u64) -> Result<usi
         if count > seen.len() {
             return Ok(0);
         }
-        if is_explained(alloc, seen, count, limit)? {
+        if is_explained(alloc, seen, count, budget)? {
             return Ok(count);
         }
         count /= 2;
@@ -97,13 +101,13 @@ pub struct GivenUp<'a> {
 }
 
 /// Tells how far a search came that was given up: the line of the farthest record that it came to, how many requests were
-/// submitted there and hadn't acted, and which of the lines before have a history, as far as that is found out, which takes
-/// no more than `limit` choices; and of a trace, what judges its history. Nothing is written if memory can't be allocated.
+/// submitted there and hadn't acted, and which of the lines before have a history, as far as that is found out within
+/// the budget; and of a trace, what judges its history. Nothing is written if memory can't be allocated.
 pub fn tell_given_up<E: Write>(
     alloc: Global,
     text: &[u8],
     given_up: GivenUp<'_>,
-    limit: u64,
+    budget: &mut Budget,
     errors: &mut E,
 ) -> Result<(), EngineFault>
     ensures ok { OnOk result ((lines : List ℕ) × Appends (E.contents errors.old) (E.contents errors.new) lines) }
@@ -115,7 +119,7 @@ pub fn tell_given_up<E: Write>(
         seen: case.searched.seen,
         count: spot.event,
     };
-    let explained = explained_of(alloc, before, limit)?;
+    let explained = explained_of(alloc, before, budget)?;
     let lines = lines_of(alloc, text)?;
     let mut out = Vec::new(alloc);
     let line = lines.of_record(case.record_with(spot.event));

@@ -16,6 +16,7 @@ use line_loop::{EngineFault, write_out};
 use memchr::memchr;
 use operation_text::write_reply;
 use search_anomalies::{Bound, Prefix, Sum, WordCause, wide_request};
+use search_history::Budget;
 use std::alloc::{AllocError, Global};
 use std::io::Write;
 use trace_diagnostics::TraceLines;
@@ -341,14 +342,14 @@ pub fn tell_none<E: Write>(
     alloc: Global,
     text: &[u8],
     case: Case<'_>,
-    limit: u64,
+    budget: &mut Budget,
     errors: &mut E,
 ) -> Result<(), EngineFault>
     ensures ok { OnOk result ((lines : List ℕ) × Appends (E.contents errors.old) (E.contents errors.new) lines) }
     ensures memory { IfErr result (λ f. f ≡ EngineFault.Memory → Keeps (E.contents errors.old) (E.contents errors.new)) }
     ensures part { OnErr result ((lines : List ℕ) × Appends (E.contents errors.old) (E.contents errors.new) lines) }
 {
-    let reasons = reasons_of(alloc, case, limit)?;
+    let reasons = reasons_of(alloc, case, budget)?;
     let lines = reason_lines(alloc, text, case, &reasons)?;
     write_out(errors, &lines)
 }

@@ -74,7 +74,8 @@ pub(crate) fn settle(
             return Ok(());
         }
         let seen = forced(&walk.here, log, catalog, look);
-        walk.work = walk.work.saturating_sub(work_for(&walk.here, seen));
+        let cost = work_for(&walk.here, look, seen).saturating_add(walk.here.take_looks());
+        walk.work = walk.work.saturating_sub(cost);
         let Some(step) = at_once(&mut walk.here, alloc, log, catalog, seen)? else {
             return Ok(());
         };

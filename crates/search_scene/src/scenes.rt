@@ -14,6 +14,7 @@ use crate::page::Page;
 use arrayvec::ArrayString;
 use log_events::Requests;
 use operation_text::write_decimal;
+use search_history::Budget;
 use search_picture::Scene;
 use search_reasons::{Case, Link, Reasons, Why, lines_of, reason_lines, reasons_of};
 use std::alloc::{AllocError, Global};
@@ -68,7 +69,7 @@ fn scene_for(
     text: &[u8],
     case: Case<'_>,
     reasons: &Reasons,
-    limit: u64,
+    budget: &mut Budget,
 ) -> Result<Scene, AllocError>
     ensures { IfOk result (Shows case.entry.read.seen.now (case.entry.read.count - 1) (lines_in text.now)) }
 {
@@ -80,7 +81,7 @@ fn scene_for(
     let places = places_at(alloc, &lines, last)?;
     let chosen = chosen_for(alloc, case, reasons)?;
     let columns = columns_of(alloc, &lines, &chosen)?;
-    let known = known_of(alloc, case, limit)?;
+    let known = known_of(alloc, case, budget)?;
     let page = Page {
         seen: case.read.seen,
         lines: &lines,
@@ -102,12 +103,19 @@ fn scene_for(
 }
 
 /// The scene of a log of which a prefix has no history, by the lines of its text: why it has none, and the requests that have
-/// to do with that. Looks at no more than `limit` choices for each thing that is told ([`reasons_of`]), and for each of two
-/// that are known of the records before the last one: the reply that is expected in its place, and a history of them.
+/// to do with that. Two more things are looked for: the reply that is expected in place of the last record's, and a history of
+/// the records before; all within the budget, of which the reasons get a half.
 /// Fails where memory can't be allocated.
-pub fn scene_of(alloc: Global, text: &[u8], case: Case<'_>, limit: u64) -> Result<Scene, AllocError>
+pub fn scene_of(
+    alloc: Global,
+    text: &[u8],
+    case: Case<'_>,
+    budget: &mut Budget,
+) -> Result<Scene, AllocError>
     ensures { IfOk result (Shows case.entry.read.seen.now (case.entry.read.count - 1) (lines_in text.now)) }
 {
-    let reasons = reasons_of(alloc, case, limit)?;
-    scene_for(alloc, text, case, &reasons, limit)
+    let mut own = budget.half(u64::MAX);
+    let reasons = reasons_of(alloc, case, &mut own)?;
+    budget.end_half(own);
+    scene_for(alloc, text, case, &reasons, budget)
 }
