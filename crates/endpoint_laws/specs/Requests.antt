@@ -1,5 +1,6 @@
 -- What the memory of a device is asked, and what it answers.
 use Rattle.std.specs.Prelude.{ℕ, ◌≡◌, ◌+◌, ◌≤◌, true, length, None}
+use Rattle.tlp_core.specs.Limits.{max_payload}
 use Rattle.tlp_core.specs.Ops.{Op}
 use Rattle.tlp_core.specs.Bits.{IsBytes}
 use Rattle.tlp_core.specs.Operation.{address_of, count_of, op_fault}
@@ -16,7 +17,7 @@ pub record IsBlockRequest (size : ℕ) (op : Op) : Type 0 where
 
 -- 1 to 128 bytes
 abbrev pub IsDataReply : Reply → Type 0
-IsDataReply (replies.Data bytes) = (1 ≤ length bytes.items) × (length bytes.items ≤ 128) × IsBytes bytes.items
+IsDataReply (replies.Data bytes) = (1 ≤ length bytes.items) × (length bytes.items ≤ max_payload) × IsBytes bytes.items
 IsDataReply replies.Done = ⊥
 IsDataReply replies.Unsupported = ⊥
 IsDataReply replies.Aborted = ⊥

@@ -1,5 +1,6 @@
 //! What holds of the trace and the history of a device, whatever it is asked.
 ghost use Rattle.std.specs.Prelude.{◌≡◌, ◌<◌, ℕ, List, None, Some, slice_get, true};
+ghost use Rattle.seq_memory.specs.declared.limits.TheConstants as limits;
 ghost use Rattle.tlp_core.specs.Ops.{Op};
 ghost use Rattle.seq_memory.specs.Entries.{Entry};
 ghost use Rattle.seq_memory.specs.Entries.{Reply};
@@ -45,7 +46,7 @@ pub fn an_endpoints_trace_is_explained()
 /// in one block of 128 bytes, each answer is 1 to 128 bytes of data, and each number is below how many were submitted.
 pub fn an_endpoint_records_block_requests()
     ensures memory { (s : SetupView) (cs : List Call) → is_size s.size ≡ true → AreBytes cs →
-        extent_of (claim_after s cs).memory ≡ record { base = 0; size = s.size; block = 128 } }
+        extent_of (claim_after s cs).memory ≡ record { base = 0; size = s.size; block = limits.LARGE_BLOCK } }
     ensures submitted { (s : SetupView) (cs : List Call) (a i k n : ℕ) (op : Op) → is_size s.size ≡ true → AreBytes cs →
         slice_get (claim_after s cs).records a ≡ Some (Sub i k op n) → (i ≡ 1) × (k < submitted_after s cs) × IsBlockRequest s.size op }
     ensures answered { (s : SetupView) (cs : List Call) (a i k n : ℕ) (reply : Reply) → is_size s.size ≡ true → AreBytes cs →

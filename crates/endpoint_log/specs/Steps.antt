@@ -1,5 +1,6 @@
 -- What is recorded of a device: its memory's block requests as requester 1 submits them and is answered, and the history.
 use Rattle.std.specs.Prelude.{ℕ, ◌+◌, ◌-◌, ◌==◌, if◌then◌else◌, List, [], ◌∷◌, ◌++◌, length, fold, Option, Some, None}
+use Rattle.seq_memory.specs.declared.limits.TheConstants.{LARGE_BLOCK}
 use Rattle.tlp_core.specs.Ops.{Op}
 use Rattle.tlp_core.specs.declared.operation.OpOf.TheVariants as ops
 use Rattle.tlp_core.specs.declared.packet.Kind.{Kind}
@@ -140,7 +141,7 @@ dropped l = record l { begun = None }
 
 -- nothing so far, of blocks of 128 bytes from address 0 on
 abbrev pub no_claim : SetupView → Claim
-no_claim s = record { memory = record { base = 0; size = s.size; block = 128; entries = [] }; records = [] }
+no_claim s = record { memory = record { base = 0; size = s.size; block = LARGE_BLOCK; entries = [] }; records = [] }
 
 abbrev pub new_log : SetupView → LogView
 new_log s = record { claim = no_claim s; submitted = 0; begun = None }

@@ -1,16 +1,17 @@
 //! What the memory of a device is asked, answers and does, block request by block request.
 ghost use Rattle.std.specs.Prelude.{◌≡◌, ◌+◌, ◌≤◌, ◌^◌, fold, IfOk, IsErr, OnOk};
+ghost use Rattle.seq_memory.specs.declared.limits.TheConstants as limits;
 ghost use Rattle.tlp_core.specs.Operation.{address_of, count_of, op_of};
 ghost use Rattle.op_pieces.specs.Pieces.{dw_of, cut};
 ghost use Rattle.endpoint_core.specs.Classes.{becomes};
 ghost use Rattle.endpoint_log.specs.Steps as spec;
 
-use crate::moved::{BLOCK, dw_in_front, first_moved, moved, reply_in};
+use crate::moved::{dw_in_front, first_moved, moved, reply_in};
 use config_core::Setup;
 use endpoint_core::{Endpoint, PacketRoom, Received, receive};
 use history_words::AsClaim;
 use op_pieces::{back, dw_of, dw_to, front};
-use seq_memory::Extent;
+use seq_memory::{Extent, LARGE_BLOCK};
 use std::alloc::{AllocError, Global};
 use std::marker::Model;
 use tlp_core::{OpRef, TlpRef, op_lent};
@@ -37,11 +38,11 @@ impl Model for Log {
     ghost view = { λ l. record { claim = l.store; submitted = l.submitted; begun = l.begun } };
 }
 
-/// Blocks of 128 bytes from address 0 on.
+/// Large blocks from address 0 on.
 fn extent_of(setup: Setup) -> Extent
-    ensures { result ≡ record { base = 0; size = setup.size; block = 128 } }
+    ensures { result ≡ record { base = 0; size = setup.size; block = limits.LARGE_BLOCK } }
 {
-    Extent::new(0, setup.size() as usize, BLOCK as u16).unwrap()
+    Extent::new(0, setup.size() as usize, LARGE_BLOCK).unwrap()
 }
 
 /// One more than a number. Numbers end at 2^32 - 1, as memory does long before.
@@ -94,9 +95,9 @@ impl Log {
     fn submit_all(&mut self, base: u64, turns: u16, op: &OpRef<'_>) -> Result<(), AllocError>
         requires fits { address_of op.now + count_of op.now ≤ 2 ^ 64 }
         requires behind { base ≤ address_of op.now }
-        ensures { OnOk result (self.new ≡ fold (spec.submits base) self.old (cut 128 turns op.now)) }
+        ensures { OnOk result (self.new ≡ fold (spec.submits base) self.old (cut limits.LARGE_BLOCK turns op.now)) }
     {
-        let dw = dw_to(BLOCK, op.address());
+        let dw = dw_to(u64::from(LARGE_BLOCK), op.address());
         if turns == 0 || dw_of(op) <= dw {
             return self.submit(base, op);
         }
@@ -109,9 +110,9 @@ impl Log {
     fn post_all(&mut self, base: u64, turns: u16, op: &OpRef<'_>) -> Result<(), AllocError>
         requires fits { address_of op.now + count_of op.now ≤ 2 ^ 64 }
         requires behind { base ≤ address_of op.now }
-        ensures { OnOk result (self.new ≡ fold (spec.posts base) self.old (cut 128 turns op.now)) }
+        ensures { OnOk result (self.new ≡ fold (spec.posts base) self.old (cut limits.LARGE_BLOCK turns op.now)) }
     {
-        let dw = dw_to(BLOCK, op.address());
+        let dw = dw_to(u64::from(LARGE_BLOCK), op.address());
         if turns == 0 || dw_of(op) <= dw {
             return self.post(base, op);
         }

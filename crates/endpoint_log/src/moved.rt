@@ -5,11 +5,8 @@ ghost use Rattle.endpoint_core.specs.Steps as device;
 ghost use Rattle.endpoint_log.specs.Steps as spec;
 
 use op_pieces::{dw_to, front};
-use seq_memory::ReplyRef;
+use seq_memory::{LARGE_BLOCK, ReplyRef};
 use tlp_core::{Kind, OpRef, PayloadRef, TlpRef};
-
-/// The bytes of a block: a memory request acts block by block.
-pub(crate) const BLOCK: u64 = 128;
 
 /// The operation with an address that counts from the memory's first byte.
 pub(crate) fn moved<'a>(base: u64, op: &OpRef<'a>) -> OpRef<'a>
@@ -25,7 +22,7 @@ pub(crate) fn dw_in_front(op: &OpRef<'_>) -> u16
 {
     match op {
         OpRef::Read { address, dw, .. } => {
-            let front = dw_to(BLOCK, *address);
+            let front = dw_to(u64::from(LARGE_BLOCK), *address);
             if *dw <= front { 0 } else { front }
         }
         _ => 0,
