@@ -1,5 +1,6 @@
 //! An operation in pieces.
 ghost use Rattle.std.specs.Prelude.{◌≡◌, ◌+◌, ◌≤◌, ◌^◌, ◌∷◌, [], if◌then◌else◌, Some, None, IfOk, IsTrue, length};
+ghost use Rattle.seq_memory.specs.declared.limits.TheConstants as limits;
 ghost use Rattle.std.specs.List.{list_all};
 ghost use Rattle.tlp_core.specs.Operation.{address_of, count_of};
 ghost use Rattle.op_pieces.specs.Pieces as spec;
@@ -58,7 +59,7 @@ fn with_last(extent: Extent, before: u16, last: &OpRef<'_>) -> Option<usize>
 /// How many pieces [`cut`] makes, if each is served. They are not kept.
 fn count_served(extent: Extent, bytes: u64, op: &OpRef<'_>) -> Option<usize>
     requires some { 4 ≤ bytes }
-    requires few { bytes ≤ 128 }
+    requires few { bytes ≤ limits.LARGE_BLOCK }
     requires fits { address_of op.now + count_of op.now ≤ 2 ^ 64 }
     ensures { result ≡ count_if_served extent (spec.cut bytes (spec.dw_of op.now) op.now) }
 {

@@ -1,5 +1,6 @@
 -- Steps that were taken, as a trail keeps them: a mark for each, the requests that acted, and the bytes that they overwrote.
 use Rattle.std.specs.Prelude.{ℕ, ◌≡◌, ◌+◌, ◌≤◌, ◌==◌, List, [], ◌∷◌, length, take, drop, slice_index, Bool, true, false}
+use Rattle.tlp_core.specs.Limits.{max_payload}
 use Rattle.std.specs.List.{All}
 use Rattle.log_runs.specs.declared.Step.{Step}
 use Rattle.log_runs.specs.declared.Step.TheVariants as steps
@@ -41,7 +42,7 @@ trail_of (m ∷ ms) bs old =
 pub record IsTrail (ms bs old : List ℕ) : Type 0 where
   pub acts : length bs ≡ acts_of ms
   pub bytes : length old ≡ bytes_in ms
-  pub few : All (λ m. size_by (is_pass m) m ≤ 128) ms
+  pub few : All (λ m. size_by (is_pass m) m ≤ max_payload) ms
 
 -- the steps alone
 abbrev pub steps_by : List Done → List Step

@@ -1,5 +1,6 @@
 //! Steps that were taken, in little room.
 ghost use Rattle.std.specs.Prelude.{◌≡◌, ◌∷◌, ◌++◌, [], ◌≤◌, OnOk, OnErr, IfSome, IfNone, length, option_to_list};
+ghost use Rattle.tlp_core.specs.Limits.{max_payload};
 ghost use Rattle.log_runs.specs.declared.Step.TheVariants as kinds;
 
 use arrayvec::ArrayVec;
@@ -38,7 +39,7 @@ impl Model for Trail {
 
 /// Takes the last bytes off.
 fn taken_off(bytes: &mut Vec<u8>, size: u8) -> ArrayVec<u8, MAX_PAYLOAD>
-    requires few { size ≤ 128 }
+    requires few { size ≤ max_payload }
     requires there { size ≤ length bytes.old.items }
     ensures items { bytes.old.items ≡ bytes.new.items ++ result.items }
     ensures len { length result.items ≡ size }
@@ -78,7 +79,7 @@ impl Trail {
     }
 
     fn push_act(&mut self, b: usize, old: &[u8]) -> Result<(), AllocError>
-        requires { length old.now ≤ 128 }
+        requires { length old.now ≤ max_payload }
         ensures more { OnOk result (self.new ≡ self.old ++ record { step = kinds.Act b; old = record { items = old.now } } ∷ []) }
         ensures same { OnErr result (self.new ≡ self.old) }
     {

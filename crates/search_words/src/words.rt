@@ -25,10 +25,10 @@ use seq_memory::ReplyRef;
 use seq_memory::laws::refused_and_read_change_nothing;
 use std::alloc::{AllocError, Global};
 use std::marker::Model;
-use tlp_core::OpRef;
+use tlp_core::{MAX_PAYLOAD, OpRef};
 
 /// How many bytes a request has at most that is known at each of its words.
-const MOST_BYTES: u32 = 128;
+const MOST_BYTES: u32 = MAX_PAYLOAD as u32;
 
 /// What requests of a log need of each word of the memory, and leave there.
 #[derive(Drop)]
