@@ -1,5 +1,6 @@
 //! The fields of a line.
 ghost use Rattle.std.specs.Prelude.{◌≡◌, ◌≤◌, ◌<◌, [], ◌∷◌, MatchOption, SomeIff, IfSome, IfOk, option_map, length, take, Some};
+ghost use Rattle.tlp_core.specs.Limits.{max_payload};
 ghost use Rattle.std.specs.Result.{result_ok};
 ghost use Rattle.std.specs.Char.{digit_value};
 ghost use Rattle.operation_text.specs.Words.{words, words_behind, first_field, has_ended, ended};
@@ -103,7 +104,7 @@ fn number_in(word: &[u8], radix: u32, most: u64) -> Option<u64>
 #[inline(always)]
 fn bytes_into<'r>(word: &[u8], room: &'r mut [u8; MAX_PAYLOAD]) -> Option<&'r [u8]>
     ensures value { option_map (λ b. b.now) result ≡ byte_string word.now }
-    ensures few { IfSome result (λ b. length b.now ≤ 128) }
+    ensures few { IfSome result (λ b. length b.now ≤ max_payload) }
 {
     if word.is_empty() || word.len() > 2 * MAX_PAYLOAD || word.len() % 2 == 1 {
         return None;
@@ -200,7 +201,7 @@ pub(crate) fn bytes<'l, 'r>(
     room: &'r mut [u8; MAX_PAYLOAD],
 ) -> Result<(&'r [u8], Option<&'l [u8]>), Misfit>
     ensures field { first_field byte_string (words_behind rest.entry) ≡ option_map (λ s. (s.0.now, words_behind s.1)) (result_ok result) }
-    ensures few { IfOk result (λ s. length s.0.now ≤ 128) }
+    ensures few { IfOk result (λ s. length s.0.now ≤ max_payload) }
 {
     if let Some(line) = rest {
         if let Some((count, behind)) = few_bytes(line, room) {

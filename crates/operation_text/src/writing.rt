@@ -1,5 +1,6 @@
 //! Writing operations and replies.
 ghost use Rattle.std.specs.Prelude.{◌≡◌, ◌≤◌, ◌<◌, ◌+◌, ◌*◌, ◌/◌, ◌%◌, ◌++◌, ◌∷◌, [], true, length};
+ghost use Rattle.tlp_core.specs.Limits.{max_payload};
 ghost use Rattle.std.specs.Fmt.{decimal, digit_glyph};
 ghost use Rattle.arrayvec.specs.ArrayString.{array_string_len};
 ghost use Rattle.hex.specs.Hex.{encode_upper};
@@ -243,7 +244,7 @@ fn put_read(address: u64, dw: u16, first: u8, last: u8, out: &mut ArrayString<51
 /// Adds a write's text.
 #[inline(always)]
 fn put_write(address: u64, first: u8, last: u8, bytes: &[u8], out: &mut ArrayString<512>)
-    requires few { length bytes.now ≤ 128 }
+    requires few { length bytes.now ≤ max_payload }
     requires room { array_string_len out.old + 320 ≤ 512 }
     ensures text { out.new.bytes ≡ out.old.bytes ++ op_text (ops.Write address first last (record { items = bytes.now })) }
     ensures len { array_string_len out.new ≤ array_string_len out.old + 320 }
@@ -305,7 +306,7 @@ pub fn write_op(op: &OpRef<'_>, out: &mut ArrayString<512>)
 /// Adds the text of a reply with that data.
 #[inline(always)]
 fn put_data(bytes: &[u8], out: &mut ArrayString<512>)
-    requires few { length bytes.now ≤ 128 }
+    requires few { length bytes.now ≤ max_payload }
     requires room { array_string_len out.old + 261 ≤ 512 }
     ensures text { out.new.bytes ≡ out.old.bytes ++ reply_text (data_of bytes.now) }
     ensures len { array_string_len out.new ≤ array_string_len out.old + 261 }

@@ -5,12 +5,13 @@ ghost use Rattle.operation_text.specs.Words.{words, words_behind, first_field};
 ghost use Rattle.record_text.specs.Forms as forms;
 
 use operation_text::{BASE, BLOCK, Expected, Misfit, SIZE, alone, number, split_word};
-use seq_memory::{Extent, is_size};
+use seq_memory::{Extent, LARGE_BLOCK, SMALL_BLOCK, is_size};
+use tlp_core::REQUESTERS;
 
 /// The greatest number of a request.
 const MAX_NUMBER: u64 = 4_294_967_294;
 
-const REQUESTER: Expected = Expected::Between("a requester", 1, 7);
+const REQUESTER: Expected = Expected::Between("a requester", 1, REQUESTERS as u64);
 
 const NUMBER: Expected = Expected::Between("a request's number", 0, MAX_NUMBER);
 
@@ -19,7 +20,7 @@ const NUMBER: Expected = Expected::Between("a request's number", 0, MAX_NUMBER);
 fn any_requester(rest: Option<&[u8]>) -> Result<(u8, Option<&[u8]>), Misfit>
     ensures { first_field forms.requester (words_behind rest.entry) ≡ option_map (λ s. (s.0, words_behind s.1)) (result_ok result) }
 {
-    let (requester, behind) = number(rest, 10, 7, REQUESTER)?;
+    let (requester, behind) = number(rest, 10, u64::from(REQUESTERS), REQUESTER)?;
     if requester == 0 {
         return Err(REQUESTER.at(rest));
     }
@@ -73,8 +74,8 @@ pub fn count(rest: Option<&[u8]>, expected: Expected) -> Result<(u64, Option<&[u
 fn block(rest: Option<&[u8]>) -> Result<(u16, Option<&[u8]>), Misfit>
     ensures { first_field forms.block (words_behind rest.entry) ≡ option_map (λ s. (s.0, words_behind s.1)) (result_ok result) }
 {
-    let (block, behind) = number(rest, 10, 128, BLOCK)?;
-    if block == 64 || block == 128 {
+    let (block, behind) = number(rest, 10, u64::from(LARGE_BLOCK), BLOCK)?;
+    if block == u64::from(SMALL_BLOCK) || block == u64::from(LARGE_BLOCK) {
         return Ok((block as u16, behind));
     }
     Err(BLOCK.at(rest))

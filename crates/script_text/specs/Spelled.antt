@@ -1,5 +1,6 @@
 -- What lines of a script can tell, and that a text is such a line.
 use Rattle.std.specs.Prelude.{ℕ, ◌≡◌, ◌^◌, ◌<◌, ◌≤◌, false, List, length, Some}
+use Rattle.tlp_core.specs.Limits.{max_payload, most_requesters}
 use Rattle.hex.specs.Hex.{IsBytes}
 use Rattle.tlp_core.specs.Ops.{Op}
 use Rattle.tlp_core.specs.declared.operation.OpOf.TheVariants as ops
@@ -25,7 +26,7 @@ AreEnables first last = (first ≤ 15) × (last ≤ 15)
 -- 1 to 128 bytes
 pub record IsData (bytes : List ℕ) : Type 0 where
   pub some : 1 ≤ length bytes
-  pub few : length bytes ≤ 128
+  pub few : length bytes ≤ max_payload
   pub are_bytes : IsBytes bytes
 
 abbrev pub IsOperand : Width → ℕ → Type 0
@@ -43,8 +44,8 @@ IsInRange (ops.Cas a width x y) = (a < 2 ^ 64) × IsOperand width x × IsOperand
 
 -- the lanes of requesters have their ports, 1 to 7
 abbrev pub IsSpelledLane : LaneName → Type 0
-IsSpelledLane (lanes.Up port) = (1 ≤ port) × (port ≤ 7)
-IsSpelledLane (lanes.Down port) = (1 ≤ port) × (port ≤ 7)
+IsSpelledLane (lanes.Up port) = (1 ≤ port) × (port ≤ most_requesters)
+IsSpelledLane (lanes.Down port) = (1 ≤ port) × (port ≤ most_requesters)
 IsSpelledLane _ = Unit {0}
 
 -- a port has 8 bits, a place 64

@@ -1,5 +1,6 @@
 -- What the text of a trace can tell.
 use Rattle.std.specs.Prelude.{ℕ, ◌-◌, ◌^◌, ◌≤◌, ◌<◌, All}
+use Rattle.tlp_core.specs.Limits.{most_requesters}
 use Rattle.seq_memory.specs.Limits.{IsWithinLimits}
 use Rattle.seq_memory.specs.History.{extent_of}
 use Rattle.seq_memory.specs.Entries.{Entry}
@@ -10,7 +11,7 @@ use Rattle.operation_text.specs.Operations.{IsSpelledOp, IsSpelledReply}
 
 -- request k of requester i: requesters are 1 to 7, and numbers below 2^32 - 1
 abbrev pub IsRequest : ℕ → ℕ → Type 0
-IsRequest i k = (1 ≤ i) × (i ≤ 7) × (k < 2 ^ 32 - 1)
+IsRequest i k = (1 ≤ i) × (i ≤ most_requesters) × (k < 2 ^ 32 - 1)
 
 abbrev pub IsTellableRecord : Record → Type 0
 IsTellableRecord (records.Sub i k op n) = IsRequest i k × (n < 2 ^ 64) × IsSpelledOp op
