@@ -1,5 +1,6 @@
 //! The parts of a fabric, and the events by their ports and lanes.
 ghost use Rattle.std.specs.Prelude.{◌≡◌, ◌↔◌, ◌<◌, ◌≤◌, ℕ, suc, length, Some, slice_get, IsTrue, IfOk, IfErr, OnOk, OnErr, Ok, Err, option_map};
+ghost use Rattle.tlp_core.specs.Limits.{most_requesters};
 ghost use Rattle.std.specs.Result.{result_ok};
 
 use crate::config::Config;
@@ -189,7 +190,7 @@ impl Parts {
 
     /// From the `up` lane of a port.
     fn forward_up(&mut self, port: u8, place: usize) -> Result<u8, Refusal>
-        requires { length self.old.up ≤ 7 }
+        requires { length self.old.up ≤ most_requesters }
         ensures answers { IfOk result (λ to. forward_at self.old (LaneName.Up port) place ≡ Ok (Seen.To to, self.new)) }
         ensures refuses { IfErr result (λ r. Refused self.old (Event.Forward (LaneName.Up port) place) r) }
         ensures fits { OnOk result ((e : LaneEndsView) → lane_at self.old (LaneName.Up port) ≡ Ok e → ForwardFits e.receiver place) }
@@ -264,7 +265,7 @@ impl Parts {
     }
 
     fn forward(&mut self, name: LaneName, place: usize) -> Result<u8, Refusal>
-        requires { length self.old.up ≤ 7 }
+        requires { length self.old.up ≤ most_requesters }
         ensures answers { IfOk result (λ to. forward_at self.old name place ≡ Ok (Seen.To to, self.new)) }
         ensures refuses { IfErr result (λ r. Refused self.old (Event.Forward name place) r) }
         ensures fits { OnOk result ((e : LaneEndsView) → lane_at self.old name ≡ Ok e → ForwardFits e.receiver place) }

@@ -1,5 +1,6 @@
 //! What may happen next: events that are drawn, whether or not the fabric takes them.
 ghost use Rattle.std.specs.Prelude.{◌≡◌, ◌≤◌, ◌<◌};
+ghost use Rattle.tlp_core.specs.Limits.{most_requesters};
 ghost use Rattle.script_text.specs.Spelled.{IsSpelledLane};
 ghost use Rattle.generate_engine.specs.Arrivals.{ArrivalsView};
 ghost use Rattle.generate_engine.specs.Candidates.{IsSpelledCandidate, HasCandidateFate, with_operation};
@@ -37,15 +38,15 @@ pub(crate) fn with_operation<'a>(candidate: &Candidate, operation: &'a Op) -> Ev
 
 /// The port of one of so many requesters.
 fn port(draws: &mut Draws, requesters: u8) -> u8
-    requires { (1 ≤ requesters) × (requesters ≤ 7) }
-    ensures { (1 ≤ result) × (result ≤ 7) }
+    requires { (1 ≤ requesters) × (requesters ≤ most_requesters) }
+    ensures { (1 ≤ result) × (result ≤ most_requesters) }
 {
     draws.below(u32::from(requesters)) as u8 + 1
 }
 
 /// A lane: those of the memory as often as all of the requesters' of one direction.
 fn lane(draws: &mut Draws, requesters: u8) -> LaneName
-    requires { (1 ≤ requesters) × (requesters ≤ 7) }
+    requires { (1 ≤ requesters) × (requesters ≤ most_requesters) }
     ensures { IsSpelledLane result }
 {
     match draws.below(4) {
@@ -82,7 +83,7 @@ fn kind(draws: &mut Draws, lane: LaneName) -> DllpKind {
 }
 
 fn forward(draws: &mut Draws, requesters: u8) -> Candidate
-    requires { (1 ≤ requesters) × (requesters ≤ 7) }
+    requires { (1 ≤ requesters) × (requesters ≤ most_requesters) }
     ensures spelled { IsSpelledCandidate result }
     ensures fate { (a : ArrivalsView) → HasCandidateFate a result }
 {
@@ -95,7 +96,7 @@ fn forward(draws: &mut Draws, requesters: u8) -> Candidate
 }
 
 fn dllp(draws: &mut Draws, requesters: u8) -> Candidate
-    requires { (1 ≤ requesters) × (requesters ≤ 7) }
+    requires { (1 ≤ requesters) × (requesters ≤ most_requesters) }
     ensures spelled { IsSpelledCandidate result }
     ensures fate { (a : ArrivalsView) → HasCandidateFate a result }
 {
@@ -105,7 +106,7 @@ fn dllp(draws: &mut Draws, requesters: u8) -> Candidate
 
 /// A replay timer expires, which is seldom, or a link is retrained.
 fn repair(draws: &mut Draws, requesters: u8) -> Candidate
-    requires { (1 ≤ requesters) × (requesters ≤ 7) }
+    requires { (1 ≤ requesters) × (requesters ≤ most_requesters) }
     ensures spelled { IsSpelledCandidate result }
     ensures fate { (a : ArrivalsView) → HasCandidateFate a result }
 {
@@ -119,7 +120,7 @@ fn repair(draws: &mut Draws, requesters: u8) -> Candidate
 
 /// A candidate that isn't an arrival: the plan of faults says nothing of it.
 fn plain(draws: &mut Draws, requesters: u8) -> Candidate
-    requires { (1 ≤ requesters) × (requesters ≤ 7) }
+    requires { (1 ≤ requesters) × (requesters ≤ most_requesters) }
     ensures spelled { IsSpelledCandidate result }
     ensures fate { (a : ArrivalsView) → HasCandidateFate a result }
 {
@@ -137,7 +138,7 @@ fn plain(draws: &mut Draws, requesters: u8) -> Candidate
 
 /// What may happen next.
 pub(crate) fn candidate(draws: &mut Draws, requesters: u8, arrivals: &Arrivals) -> Candidate
-    requires { (1 ≤ requesters) × (requesters ≤ 7) }
+    requires { (1 ≤ requesters) × (requesters ≤ most_requesters) }
     ensures spelled { IsSpelledCandidate result }
     ensures fate { HasCandidateFate arrivals.now result }
 {

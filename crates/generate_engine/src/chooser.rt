@@ -80,13 +80,14 @@ pub struct Chooser {
 impl Model for Chooser {
     ghost use Rattle.std.specs.Prelude.{◌≤◌};
     ghost use Rattle.script_text.specs.Spelled.{IsInRange};
+    ghost use Rattle.tlp_core.specs.Limits.{most_requesters};
     ghost use Rattle.generate_engine.specs.Choice.{ChooserView};
 
     ghost Value = { ChooserView };
 
     ghost view = { λ c. record { draws = c.draws; arrived = c.tries.arrivals } };
 
-    ghost invariant = { λ c. (1 ≤ c.requesters) × (c.requesters ≤ 7) × IsInRange c.operation };
+    ghost invariant = { λ c. (1 ≤ c.requesters) × (c.requesters ≤ most_requesters) × IsInRange c.operation };
 }
 
 impl Chooser {

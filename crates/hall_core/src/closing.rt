@@ -1,5 +1,6 @@
 //! The parts come back.
 ghost use Rattle.std.specs.Prelude.{◌≡◌, ◌≢◌, ◌+◌, ◌*◌, ◌<◌, ◌≤◌, ℕ, [], ◌∷◌, ◌++◌, length, map, Some, IfOk, IfErr};
+ghost use Rattle.tlp_core.specs.Limits.{most_requesters};
 ghost use Rattle.std.specs.Mem.Slots.{slots_items, slots_filled, slots_len, IsFull};
 ghost use Rattle.std.specs.Vec.{vec_len, vec_capacity};
 ghost use Rattle.requester_core.specs.RequesterView.{RequesterView};
@@ -95,7 +96,8 @@ fn next_station(closed: &mut Slots, shelves: &mut Shelves, at: usize)
 /// What stands at the ports from 1 on.
 fn next_stations(closed: &mut Slots, shelves: &mut Shelves, count: u8)
     requires room { IsEmptiedTo (slots_filled closed.old.slots) (slots_len closed.old.slots) 9 × (slots_len closed.old.slots ≡ 9 * (1 + count)) ×
-        (count ≤ vec_capacity shelves.old.requesters) × (count ≤ vec_capacity shelves.old.up) × (count ≤ vec_capacity shelves.old.down) × (count ≤ 7) }
+        (count ≤ vec_capacity shelves.old.requesters) × (count ≤ vec_capacity shelves.old.up) × (count ≤ vec_capacity shelves.old.down) ×
+        (count ≤ most_requesters) }
     requires empty { (vec_len shelves.old.requesters ≡ 0) × (vec_len shelves.old.up ≡ 0) × (vec_len shelves.old.down ≡ 0) }
     requires there { (f : Fabric) × HasLanes f × (length f.requesters ≡ count) × (slots_items closed.old.slots ≡ map Some (parts_of f)) }
     ensures value { StationsAt (slots_items closed.old.slots) count shelves.new.requesters.items shelves.new.up.items shelves.new.down.items }
@@ -110,7 +112,7 @@ fn next_stations(closed: &mut Slots, shelves: &mut Shelves, count: u8)
 
 /// The parts from all slots, which go into the lists whose memory was kept.
 fn rebuild(mut closed: Slots, mut shelves: Shelves, config: &Config) -> Parts
-    requires full { IsFull closed.slots × (slots_len closed.slots ≡ 9 * (1 + config.now.requesters)) × (config.now.requesters ≤ 7) }
+    requires full { IsFull closed.slots × (slots_len closed.slots ≡ 9 * (1 + config.now.requesters)) × (config.now.requesters ≤ most_requesters) }
     requires empty { (vec_len shelves.requesters ≡ 0) × (vec_len shelves.up ≡ 0) × (vec_len shelves.down ≡ 0) }
     requires room { (config.now.requesters ≤ vec_capacity shelves.requesters) × (config.now.requesters ≤ vec_capacity shelves.up) ×
         (config.now.requesters ≤ vec_capacity shelves.down) }

@@ -1,5 +1,6 @@
 //! The parts go into the slots.
 ghost use Rattle.std.specs.Prelude.{◌≡◌, ◌+◌, ◌*◌, ◌<◌, ◌≤◌, [], ◌++◌, length, map, Some, IfOk, OnOk};
+ghost use Rattle.tlp_core.specs.Limits.{most_requesters};
 ghost use Rattle.std.specs.Vec.{vec_len, vec_capacity};
 ghost use Rattle.fabric_core.specs.Steps.{HasLanes};
 ghost use Rattle.hall_laws.specs.Calls.{IsSized};
@@ -86,7 +87,7 @@ fn push_stations(
     count: usize,
     alloc: Global,
 ) -> Result<(), AllocError>
-    requires { (count ≡ vec_len shelves.old.requesters) × (vec_len shelves.old.up ≡ count) × (vec_len shelves.old.down ≡ count) × (count ≤ 7) ×
+    requires { (count ≡ vec_len shelves.old.requesters) × (vec_len shelves.old.up ≡ count) × (vec_len shelves.old.down ≡ count) × (count ≤ most_requesters) ×
         (vec_len slots.old + 9 * count ≤ vec_capacity slots.old) }
     ensures items { OnOk result (slots.new.items ≡ slots.old.items ++
         map Some (flat (stations shelves.old.requesters.items shelves.old.up.items shelves.old.down.items))) }

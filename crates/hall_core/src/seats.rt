@@ -1,5 +1,6 @@
 //! The seats of a hall.
 ghost use Rattle.std.specs.Prelude.{◌≡◌, ◌+◌, ◌-◌, ◌<◌, ◌≤◌, ◌^◌, ℕ, List, [], ◌∷◌, ◌++◌, length, IfOk, IfErr};
+ghost use Rattle.tlp_core.specs.Limits.{most_requesters};
 ghost use Rattle.hall_laws.specs.Calls.{IsIdle};
 ghost use Rattle.hall_laws.specs.Rule.{newcomers};
 ghost use Rattle.hall_laws.specs.Standing.{token_of};
@@ -31,7 +32,7 @@ impl Model for ReqSeat {
     ghost view = { λ s. record { table_id = s.place.table_id; knows = (token_of s.place.me.0).knows } };
 
     ghost invariant = { λ s. IsIdle s.place.me × ((token_of s.place.me.0).knows.number ≡ s.number) ×
-        (s.number < (token_of s.place.me.0).knows.config.requesters) × ((token_of s.place.me.0).knows.config.requesters ≤ 7) };
+        (s.number < (token_of s.place.me.0).knows.config.requesters) × ((token_of s.place.me.0).knows.config.requesters ≤ most_requesters) };
 }
 
 /// A seat for the other events. It is `Send`, and can be dropped. It is used with the hall that it came from.
@@ -88,7 +89,7 @@ impl WorkSeat {
 /// The seat of a requester at this place.
 pub(crate) fn seat(place: Place, number: u8) -> ReqSeat
     requires { IsIdle place.me × ((token_of place.me.0).knows.number ≡ number) × (number < (token_of place.me.0).knows.config.requesters) ×
-        ((token_of place.me.0).knows.config.requesters ≤ 7) }
+        ((token_of place.me.0).knows.config.requesters ≤ most_requesters) }
     ensures { (result.table_id ≡ place.table_id) × (result.knows ≡ (token_of place.me.0).knows) }
 {
     ReqSeat { place, number }
@@ -110,7 +111,7 @@ pub fn req_seats(
     work: usize,
     alloc: Global,
 ) -> Result<Vec<ReqSeat>, AllocError>
-    requires table { (place.old.table_id ≡ steps.now.table_id) × (0 < steps.now.table_id.words) × (config.now.requesters ≤ 7) }
+    requires table { (place.old.table_id ≡ steps.now.table_id) × (0 < steps.now.table_id.words) × (config.now.requesters ≤ most_requesters) }
     requires tokens { place.old.me ≡ (newcomers config.now steps.now.key.opened.value steps.now.key.seats 0 (config.now.requesters + work), []) }
     ensures seats { IfOk result (λ v. AreNewSeats
         (record { table_id = steps.now.table_id; config = config.now; opened = steps.now.key.opened.value; seats = steps.now.key.seats })

@@ -1,5 +1,6 @@
 //! Packets that go on, and requests that act.
 ghost use Rattle.std.specs.Prelude.{◌≡◌, ◌↔◌, ◌<◌, ◌≤◌, IsTrue, IfOk, IfErr, OnErr};
+ghost use Rattle.tlp_core.specs.Limits.{most_requesters};
 ghost use Rattle.fabric_steps.specs.declared.event.EventOf.TheVariants.{Forward, Serve};
 ghost use Rattle.fabric_steps.specs.declared.event.SeenOf.TheVariants.{At};
 ghost use Rattle.hall_laws.specs.Calls.{IsIdle, knowing, serving_also};
@@ -51,7 +52,7 @@ fn way(
     place: usize,
     requesters: u8,
 ) -> Result<(u8, LaneName), Refusal>
-    requires { LeadsIn requesters name × (requesters ≤ 7) }
+    requires { LeadsIn requesters name × (requesters ≤ most_requesters) }
     ensures ok { IfOk result (λ w. Leads requesters name receiver.now place w.0 w.1) }
     ensures refused { IfErr result (λ r. HasNoWay requesters name receiver.now place r) }
 {

@@ -1,5 +1,6 @@
 -- What the calls ask and tell.
 use Rattle.std.specs.Prelude.{◌≡◌, ℕ, ◌+◌, ◌*◌, ◌^◌, ◌<◌, ◌≤◌, List, [], ◌∷◌, ◌++◌, length, Option, None}
+use Rattle.tlp_core.specs.Limits.{most_requesters}
 use Rattle.atomic_table.specs.Seated.{TableId}
 use Rattle.atomic_table.specs.declared.shared.Seat.{Seat}
 use Rattle.hall_laws.specs.declared.part.PartValue.{PartValue}
@@ -10,7 +11,7 @@ use Rattle.hall_laws.specs.Rule.{Known}
 
 -- a slot and its word for each part of a fabric with so many requesters
 abbrev pub IsSized : TableId → ℕ → Type 0
-IsSized z r = (z.words ≡ word_of (9 * (1 + r))) × (z.slots ≡ 9 * (1 + r)) × (r ≤ 7)
+IsSized z r = (z.words ≡ word_of (9 * (1 + r))) × (z.slots ≡ 9 * (1 + r)) × (r ≤ most_requesters)
 
 -- the table has this slot and its word, as one of the parts of at most eight ports
 abbrev pub HasSlot : TableId → ℕ → Type 0

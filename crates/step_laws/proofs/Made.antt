@@ -5,14 +5,14 @@ use Rattle.std.proofs.lemmas.Bool.Decides.{nat_tests}
 use Rattle.std.proofs.lemmas.List.{length-replicate}
 use Rattle.std.proofs.lemmas.Option.{same_Some}
 use Rattle.flow_control.specs.declared.limits.LaneCredits.{LaneCredits}
-use Rattle.seq_memory.specs.Limits.{IsSize, IsBase, IsBlock}
+use Rattle.seq_memory.specs.Limits.{IsSize, IsBase, IsBlock, is_size, is_base, is_block}
 use Rattle.requester_core.specs.RequesterView.{RequesterView, fresh}
 use Rattle.lane_core.specs.Steps.{LaneEndsView, new_lane}
 use Rattle.fabric_core.specs.declared.config.Config.{Config}
 use Rattle.fabric_core.specs.declared.config.ConfigFault.{ConfigFault}
 use Rattle.fabric_core.specs.declared.config.ConfigFault.TheVariants as faults
 use Rattle.fabric_core.specs.Config.{IsBetween, AreCredits, IsConfig, AreNewLanes, AreNewRequesters, IsNewWith, down_credits}
-use Rattle.fabric_core.specs.New.{fresh_from, new_fabric, config_fault, is_between, is_size, is_base, are_header_credits, are_data_credits, are_credits, is_block}
+use Rattle.fabric_core.specs.New.{fresh_from, new_fabric, config_fault, is_between, are_header_credits, are_data_credits, are_credits}
 
 -- ---- the tests
 
