@@ -1,5 +1,6 @@
 //! The words on a chart.
 ghost use Rattle.std.specs.Prelude.{◌≡◌, ◌≤◌, ◌+◌, ◌++◌, [], length};
+ghost use Rattle.tlp_core.specs.Limits.{max_payload};
 ghost use Rattle.arrayvec.specs.ArrayString.{array_string_len};
 ghost use Rattle.script_text.specs.Names as names;
 ghost use Rattle.chart_rows.specs.Words as said;
@@ -214,7 +215,7 @@ pub fn write_served(carried: Option<Carried>, index: usize, text: &mut ArrayStri
 
 /// Adds data: up to 16 bytes, or the first eight of more and how many there are.
 fn put_data(bytes: &[u8], text: &mut ArrayString<512>)
-    requires few { length bytes.now ≤ 128 }
+    requires few { length bytes.now ≤ max_payload }
     requires room { array_string_len text.old ≤ 100 }
     ensures text { text.new.bytes ≡ text.old.bytes ++ said.data_words bytes.now }
     ensures len { array_string_len text.new ≤ array_string_len text.old + 50 }

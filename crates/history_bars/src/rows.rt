@@ -1,5 +1,6 @@
 //! The rows of requesters.
 ghost use Rattle.std.specs.Prelude.{◌≡◌, ◌≤◌, ◌+◌, ◌*◌, ◌++◌, length, OnOk, IfOk};
+ghost use Rattle.tlp_core.specs.Limits.{most_requesters};
 ghost use Rattle.svg_text.specs.Shapes.{shapes_text};
 ghost use Rattle.history_bars.specs.Bars as spec;
 ghost use Rattle.history_bars.specs.Signs.{signs_of, joined};
@@ -127,7 +128,7 @@ fn put_rows_of(
     requesters: &[u8],
     drawing: &mut Drawing,
 ) -> Result<u64, AllocError>
-    requires { length requesters.now ≤ 7 }
+    requires { length requesters.now ≤ most_requesters }
     ensures shapes { OnOk result (drawing.new.out.items ≡ drawing.old.out.items ++
         shapes_text (spec.rows shown.now.view.now shown.now.width shown.now.records.now shown.now.history.now 130 requesters.now)) }
     ensures signs { OnOk result (drawing.new.signs ≡ joined drawing.old.signs

@@ -1,5 +1,6 @@
 -- What a picture shows of each request, and of which points.
 use Rattle.std.specs.Prelude.{ℕ, ◌≡◌, ◌≤◌, ◌<◌, ◌+◌, ◌-◌, ◌⊎◌, List, [], ◌∷◌, ◌++◌, true, false, slice_get, Option, Some}
+use Rattle.tlp_core.specs.Limits.{most_requesters}
 use Rattle.tlp_core.specs.Ops.{Op}
 use Rattle.tlp_core.specs.Operation.{is_posted}
 use Rattle.seq_memory.specs.Entries.{Entry}
@@ -42,13 +43,13 @@ HasBar v rs h f op q bar = (top : ℕ) × Has (drawn v rs h f) (bar_shapes v rs 
 -- each request that was submitted has its bar, where part of it is within the window
 abbrev pub EachRequestHasItsBar : Type 0
 EachRequestHasItsBar = (v : View) (rs : List Record) (h : List Entry) (f : Option Finding) (i k n : ℕ) (op : Op) (bar : Bar)
-    → 1 ≤ i → i ≤ 7 → IsSubmitted rs i k op n → bar_for v rs op (request_in rs h i k n) ≡ Some bar
+    → 1 ≤ i → i ≤ most_requesters → IsSubmitted rs i k op n → bar_for v rs op (request_in rs h i k n) ≡ Some bar
     → HasBar v rs h f op (request_in rs h i k n) bar
 
 -- the bar of an answered request goes from the n of its submission to that of its answer, if both are shown
 abbrev pub BarsGoFromSubmissionToAnswer : Type 0
 BarsGoFromSubmissionToAnswer = (v : View) (rs : List Record) (h : List Entry) (f : Option Finding) (i k n m a : ℕ) (op : Op) (reply : Reply)
-    → 1 ≤ i → i ≤ 7 → is_posted op ≡ false → IsSubmitted rs i k op n
+    → 1 ≤ i → i ≤ most_requesters → is_posted op ≡ false → IsSubmitted rs i k op n
     → answer_in rs i k ≡ Some a → slice_get rs a ≡ Some (records.Ans i k reply m) → n < m → v.scale.from ≤ n → m ≤ v.scale.from + v.scale.span
     → HasBar v rs h f op (request_in rs h i k n) (record { start = n - v.scale.from; end = m - v.scale.from; is_open = false })
 

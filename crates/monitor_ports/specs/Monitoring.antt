@@ -1,5 +1,6 @@
 -- A monitor: what it knows, and what each call records and changes.
 use Rattle.std.specs.Prelude.{ℕ, ⊤, ◌≡◌, ◌+◌, ◌==◌, ◌&&◌, nat_le, Bool, true, false, if◌then◌else◌, List, [], ◌∷◌, ◌++◌, length, replicate, slice_set, slice_get, get_or, remove, position, sum_by, is_some, Option, Some, None, Result, Ok, Err}
+use Rattle.tlp_core.specs.Limits.{most_requesters}
 use Rattle.tlp_core.specs.Ops.{Op}
 use Rattle.tlp_core.specs.declared.fault.TlpFault.{TlpFault}
 use Rattle.tlp_core.specs.TlpView.{TlpView}
@@ -54,7 +55,7 @@ refused m f = record { answer = Err f; monitor = m }
 
 -- requesters are 1 to 7
 abbrev pub is_requester : ℕ → Bool
-is_requester i = nat_le 1 i && nat_le i 7
+is_requester i = nat_le 1 i && nat_le i most_requesters
 
 abbrev pub packet_by : Result TlpView TlpFault → Result TlpView MonitorFault
 packet_by (Ok t) = Ok t

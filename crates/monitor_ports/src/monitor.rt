@@ -1,5 +1,6 @@
 //! The monitor.
 ghost use Rattle.std.specs.Prelude.{◌≡◌, ◌<◌, ◌≤◌, ◌∷◌, ◌++◌, [], true, length, replicate, position, Some, Err, IfOk, OnOk, IfErr, OnErr, IsOk};
+ghost use Rattle.tlp_core.specs.Limits.{most_requesters};
 ghost use Rattle.history_words.specs.Trace.{is_request};
 ghost use Rattle.monitor_ports.specs.declared.fault.MonitorFault.TheVariants as faults;
 ghost use Rattle.monitor_ports.specs.Watched.{fresh};
@@ -111,7 +112,7 @@ impl Monitor {
         request: &TlpRef<'_>,
         op: &OpRef<'_>,
     ) -> Result<Record, MonitorFault>
-        requires { requester ≤ 7 }
+        requires { requester ≤ most_requesters }
         ensures answer { IfOk result (λ r. (spec.opening self.old requester request.now op.now).answer ≡ Ok r) }
         ensures state { OnOk result (self.new ≡ (spec.opening self.old requester request.now op.now).monitor) }
         ensures fault { IfErr result (λ f. ¬ (f ≡ faults.Memory) → (spec.opening self.old requester request.now op.now).answer ≡ Err f) }
@@ -158,7 +159,7 @@ impl Monitor {
 
     /// The completion answers a request of the requester.
     fn answer(&mut self, requester: u8, completion: &TlpRef<'_>) -> Result<Record, MonitorFault>
-        requires { requester ≤ 7 }
+        requires { requester ≤ most_requesters }
         ensures answer { result ≡ (spec.completing self.old requester completion.now).answer }
         ensures state { self.new ≡ (spec.completing self.old requester completion.now).monitor }
         ensures unchanged { OnErr result (self.new ≡ self.old) }

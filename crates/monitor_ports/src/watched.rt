@@ -1,5 +1,6 @@
 //! What a monitor knows of one requester.
 ghost use Rattle.std.specs.Prelude.{◌≡◌, ◌≤◌, ◌<◌, ◌%◌, IfNone, is_some, length};
+ghost use Rattle.tlp_core.specs.Limits.{max_payload};
 ghost use Rattle.requester_core.specs.RequesterView as requesting;
 ghost use Rattle.monitor_ports.specs.Watched as spec;
 
@@ -57,7 +58,7 @@ fn enables_of(packet: &TlpRef<'_>) -> Option<(u8, u8)>
 /// The data as the requester sees it.
 fn seen(enables: Option<(u8, u8)>, bytes: &[u8]) -> Payload
     requires some { 4 ≤ length bytes.now }
-    requires few { length bytes.now ≤ 128 }
+    requires few { length bytes.now ≤ max_payload }
     requires whole { length bytes.now % 4 ≡ 0 }
     ensures { result.items ≡ spec.seen enables bytes.now }
 {

@@ -2,6 +2,7 @@
 ghost use Rattle.std.specs.Prelude.{◌↔◌, IsTrue};
 ghost use Rattle.parameters.specs.Ranges.{IsStorm};
 
+use seq_memory::{LARGE_BLOCK, SMALL_BLOCK};
 use tlp_core::REQUESTERS;
 
 /// The most events of a storm.
@@ -34,6 +35,6 @@ impl Storm {
             && self.requesters <= u64::from(REQUESTERS)
             && self.lose <= u64::from(crate::MOST)
             && self.corrupt <= u64::from(crate::MOST)
-            && (self.block == 64 || self.block == 128)
+            && (self.block == u64::from(SMALL_BLOCK) || self.block == u64::from(LARGE_BLOCK))
     }
 }
