@@ -1,5 +1,6 @@
 -- A call of the device: what its caller's bytes and buffer hold after it, and what it returns.
-use Rattle.std.specs.Prelude.{ℕ, ◌==◌, ◌||◌, nat_lt, if◌then◌else◌, List, length, Option, Some, None, Result, Ok, Err}
+use Rattle.std.specs.Prelude.{ℕ, nat_lt, if◌then◌else◌, List, length, Option, Some, None, Result, Ok, Err}
+use Rattle.seq_memory.specs.Limits.{is_block}
 use Rattle.tlp_core.specs.declared.fault.TlpFault.{TlpFault}
 use Rattle.tlp_core.specs.Fault.{number_of}
 use Rattle.tlp_core.specs.Faults.{reading}
@@ -38,5 +39,5 @@ read base block bytes buffer (Ok t) = served base block bytes buffer t
 -- the block is tested first, then the buffer, then the packet
 abbrev pub call : ℕ → ℕ → List ℕ → List ℕ → List ℕ → Call
 call base block bytes packet buffer =
-    if (block == 64) || (block == 128) then (if nat_lt (length buffer) 144 then refused failures.SmallBuffer bytes buffer else read base block bytes buffer (reading packet))
+    if is_block block then (if nat_lt (length buffer) 144 then refused failures.SmallBuffer bytes buffer else read base block bytes buffer (reading packet))
     else refused failures.WrongBlock bytes buffer

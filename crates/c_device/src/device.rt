@@ -7,7 +7,7 @@ ghost use Rattle.c_device.specs.Call.{served, call};
 
 use c_buffer::{Failure, Length, tell};
 use completer_core::answer_lent;
-use seq_memory::ReplyData;
+use seq_memory::{ReplyData, is_block};
 use tlp_core::{
     COMPLETION_HEADER, MAX_TLP, TlpRef, decode_lent, encode_lent, put_completion_header,
 };
@@ -78,7 +78,7 @@ pub fn answer_bytes(
     ensures buffer { buffer.new ≡ (call base block bytes.old packet.now buffer.old).buffer }
     ensures unchanged { IsErr result → (bytes.new ≡ bytes.old) × (buffer.new ≡ buffer.old) }
 {
-    if block != 64 && block != 128 {
+    if !is_block(block) {
         return Err(Failure::WrongBlock);
     }
     if buffer.len() < MAX_COMPLETION {

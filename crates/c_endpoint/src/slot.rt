@@ -10,6 +10,7 @@ use c_buffer::{Failure, Parts};
 use c_recording::Recording;
 use config_core::Setup;
 use endpoint_core::Endpoint;
+use seq_memory::MAX_SIZE;
 use std::alloc::Global;
 use std::marker::Model;
 
@@ -82,7 +83,7 @@ fn setup_of(wanted: Wanted) -> Result<Setup, Failure>
     ensures ok { IfOk result (λ s. (s ≡ setup_with wanted) × (limit wanted.size ≡ Ok tt)) }
     ensures err { IfErr result (λ f. limit wanted.size ≡ Err f) }
 {
-    if wanted.size > 1_048_576 {
+    if wanted.size > MAX_SIZE {
         return Err(Failure::WrongSize);
     }
     match Setup::new(wanted.size as u32, wanted.vendor, wanted.device) {

@@ -7,6 +7,7 @@ ghost use Rattle.c_linked.specs.Making as spec;
 
 use config_core::Setup;
 use flow_control::LaneCredits;
+use seq_memory::MAX_SIZE;
 
 /// The credits that an endpoint advertises, in header units and in data units of 16 bytes. They are finite, so what waits
 /// is bounded whatever the peer sends. Those of completions are infinite, since it has no requests.
@@ -91,7 +92,7 @@ impl LinkedSetup {
         ensures ok { IfOk result (λ s. (s ≡ spec.setup_of self.now) × (is_size self.now.size ≡ true)) }
         ensures err { IfErr result (λ f. (f ≡ WrongSize) × (is_size self.now.size ≡ false)) }
     {
-        if self.size > 1_048_576 {
+        if self.size > MAX_SIZE {
             return Err(NewFailure::WrongSize);
         }
         match Setup::new(self.size as u32, self.vendor, self.device) {
