@@ -31,26 +31,13 @@ rows='
 128 | a small memory as an example | trace_text/specs/TraceReaderView.antt
 128 | a number of steps | search_run/src/walk.rt
 128 | room of rows that are told | fabric_rows/src/drive.rt
-7 | patterns of digits | cli_values/src/lanes.rt record_text/src/fields.rt script_text/src/fields.rt
+7 | patterns of digits | record_text/src/fields.rt script_text/src/fields.rt
 7 | letters of a colour or a word | svg_text/src/colour.rt chart_rows/src/words.rt
 512 | a room for one line, made by its user | c_device/ c_fabric/ chart_engine/ chart_levels/ chart_links/ chart_marks/ chart_rows/
 512 | a room for one line, made by its user | diagnostics/ flaw_places/ generate_engine/ history_bars/ history_picture/ linked_engine/
 512 | a room for one line, made by its user | monitor_ports/ operation_text/ packet_engine/ packet_text/ record_text/ run_engine/
 512 | a room for one line, made by its user | script_text/ search_engine/ search_picture/ search_reasons/ step_engine/ svg_text/
 512 | a room for one line, made by its user | sweep_engine/ trace_text/
-1048576 | not named yet | c_endpoint/src/slot.rt c_linked/src/setup.rt fabric_core/specs/New.antt
-128 | not named yet | c_device/src/device.rt chart_rows/src/words.rt endpoint_laws/src/laws.rt endpoint_log/src/log.rt
-128 | not named yet | endpoint_log/src/moved.rt log_pieces/src/cutting.rt monitor_ports/src/watched.rt
-128 | not named yet | operation_text/src/fields.rt operation_text/src/writing.rt parameters/src/storm.rt
-128 | not named yet | record_text/src/fields.rt search_run/src/trail.rt search_words/src/words.rt c_device/specs/Call.antt
-128 | not named yet | endpoint_laws/specs/Requests.antt endpoint_log/specs/Steps.antt fabric_core/specs/New.antt
-128 | not named yet | record_text/specs/Forms.antt script_text/specs/Spelled.antt search_run/specs/Trails.antt
-7 | not named yet | fabric_core/src/fabric.rt fabric_core/src/parts.rt generate_engine/src/candidates.rt
-7 | not named yet | generate_engine/src/chooser.rt hall_core/src/closing.rt hall_core/src/seats.rt hall_core/src/opening.rt
-7 | not named yet | hall_events/src/switching.rt history_bars/src/rows.rt monitor_ports/src/reading.rt
-7 | not named yet | monitor_ports/src/monitor.rt fabric_core/specs/Steps.antt hall_laws/specs/Calls.antt
-7 | not named yet | history_picture/specs/Shown.antt monitor_ports/specs/Monitoring.antt script_text/specs/Spelled.antt
-7 | not named yet | switch_core/specs/Routing.antt trace_text/specs/Tellable.antt
 '
 export rows
 find crates/*/src crates/*/specs -name '*.rt' -o -name '*.antt' | grep -v '^crates/[a-z_]*tests/' | awk '
