@@ -20,7 +20,7 @@ use lane_core::{
     SenderEnd,
 };
 use requester_core::{Answer, Requester};
-use seq_memory::Memory;
+use seq_memory::{Keeper, Memory};
 use seq12::Seq12;
 use switch_core::{ForwardRefusal, Port, forward_ends, route};
 use tlp_core::{Op, OpRef, Tlp, op_of};
@@ -245,14 +245,19 @@ pub fn collect(receiver: &mut ReceiverEnd, requester: &mut Requester) -> Result<
 }
 
 /// A posted write acts on the memory.
-fn act_alone(memory: &mut Memory, request: &Tlp, op: Op, mark: u32) -> Result<usize, Refusal>
+fn act_alone<K: Keeper>(
+    memory: &mut Memory<K>,
+    request: &Tlp,
+    op: Op,
+    mark: u32,
+) -> Result<usize, Refusal>
     requires { op_of request.now ≡ Some op }
     ensures place { IfOk result (λ place. place ≡ length memory.old.entries) }
     ensures ok { OnOk result (memory.new ≡ after_serving memory.old request.now mark) }
     ensures errors { IfErr result (λ r. r ≡ Refusal.Memory) }
     ensures err { OnErr result (memory.new ≡ memory.old) }
 {
-    let place = memory.entries().len();
+    let place = memory.count();
     match serve_op(memory, request, op, mark) {
         Ok(_) => Ok(place),
         Err(_) => Err(Refusal::Memory),
@@ -260,8 +265,8 @@ fn act_alone(memory: &mut Memory, request: &Tlp, op: Op, mark: u32) -> Result<us
 }
 
 /// The request acts on the memory, and its completion, which has this need, enters the lane.
-fn act_and_answer(
-    memory: &mut Memory,
+fn act_and_answer<K: Keeper>(
+    memory: &mut Memory<K>,
     request: &Tlp,
     op: Op,
     mark: u32,
@@ -276,7 +281,7 @@ fn act_and_answer(
     ensures err_memory { OnErr result (memory.new ≡ memory.old) }
     ensures err_sender { OnErr result (sender.new ≡ sender.old) }
 {
-    let place = memory.entries().len();
+    let place = memory.count();
     let had_room = sender.has_room();
     if let Err(refusal) = sender.make_room(need) {
         return Err(Refusal::Lane(refusal));
@@ -297,8 +302,8 @@ fn act_and_answer(
 }
 
 /// The request acts on the memory, and its completion, if it has one, enters the lane.
-fn act(
-    memory: &mut Memory,
+fn act<K: Keeper>(
+    memory: &mut Memory<K>,
     request: &Tlp,
     mark: u32,
     sender: &mut SenderEnd,
@@ -311,7 +316,7 @@ fn act(
 {
     let Some(op) = op_of(request) else {
         // A completion asks for nothing.
-        return Ok(memory.entries().len());
+        return Ok(memory.count());
     };
     match need_for(memory, request, &op) {
         Some(need) => act_and_answer(memory, request, op, mark, sender, need),
@@ -322,10 +327,10 @@ fn act(
 /// The request at this place acts on the memory, and its completion, if it has one, enters the lane. Gives the place in
 /// the history. `NotTakeable` where there is no packet or it may not pass an earlier one, then `Lane` where there is no
 /// room for the completion, then `Memory` where the history can't grow.
-pub fn serve(
+pub fn serve<K: Keeper>(
     receiver: &mut ReceiverEnd,
     place: usize,
-    memory: &mut Memory,
+    memory: &mut Memory<K>,
     sender: &mut SenderEnd,
 ) -> Result<usize, Refusal>
     ensures answers { IfOk result (λ at. serve_on receiver.old place memory.old sender.old ≡ Ok (at, receiver.new, memory.new, sender.new)) }

@@ -9,18 +9,18 @@ use fabric_steps::{EventRef, LaneName, LinkEvent, Refusal, SeenRef};
 use flow_control::LaneCredits;
 use lane_core::LaneEnds;
 use requester_core::{Answer, Requester};
-use seq_memory::Memory;
+use seq_memory::{Keeper, Kept, Memory};
 use std::marker::Model;
 use switch_core::{Port, RouteFault};
 use tlp_core::OpRef;
 
 /// The parts of a fabric by name; in each list that of port 1 is the first.
 #[derive(Drop)]
-pub struct Parts {
+pub struct Parts<K: Keeper = Kept> {
     /// The credits that the lanes advertised when they were new, but that `down` lanes have infinite completion
     /// credits.
     pub credits: LaneCredits,
-    pub memory: Memory,
+    pub memory: Memory<K>,
     pub requesters: Vec<Requester>,
     /// From the switch to the memory.
     pub inward: LaneEnds,
@@ -32,7 +32,7 @@ pub struct Parts {
     pub down: Vec<LaneEnds>,
 }
 
-impl Model for Parts {
+impl<K: Keeper> Model for Parts<K> {
     ghost use Rattle.fabric_steps.specs.Fabric.{Fabric};
 
     ghost Value = { Fabric };
@@ -98,7 +98,7 @@ fn have_tags(requesters: &[Requester])
     }
 }
 
-impl Parts {
+impl<K: Keeper> Parts<K> {
     /// What a fabric of these parts is made of, read off them.
     pub fn config(&self) -> Config
         requires { HasLanes self.now }

@@ -1,7 +1,7 @@
 use Rattle.fabric_core.proofs.parts.Parts.short.Goals as goal
 
 pub returns : goal.returns
-returns c =
+returns g c =
     rw (← c.self.view_is) (record {
       inward = c.short.ensures;
       outward = c.short-2.ensures;
