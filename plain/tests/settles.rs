@@ -7,6 +7,7 @@ use kit::alloc::AllocError;
 use lane_core::{DllpKind, Fate, LaneCredits};
 use parameters::Storm;
 use generate_engine::{Chooser, Listener};
+use seq_memory::Keeper;
 use tlp_core::OpRef;
 
 /// All credits.
@@ -23,12 +24,12 @@ impl Witness for Counts {
         Ok(())
     }
 
-    fn saw(
+    fn saw<K: Keeper>(
         &mut self,
         _line: u64,
         event: &EventRef<'_>,
         _seen: &SeenRef<'_>,
-        _fabric: &Fabric,
+        _fabric: &Fabric<K>,
     ) -> Result<(), AllocError> {
         match event {
             EventRef::SendDllp(LaneName::Up(1), DllpKind::Answer) => self.rounds += 1,

@@ -4,6 +4,7 @@ use fabric_core::{EventRef, Fabric, SeenRef};
 use fabric_settle::Witness;
 use history_words::Record;
 use script_text::write_seen;
+use seq_memory::Keeper;
 use std::alloc::AllocError;
 
 /// The text of what was seen last.
@@ -53,12 +54,12 @@ impl Witness for LastSeen {
         Ok(())
     }
 
-    fn saw(
+    fn saw<K: Keeper>(
         &mut self,
         _line: u64,
         event: &EventRef<'_>,
         seen: &SeenRef<'_>,
-        _fabric: &Fabric,
+        _fabric: &Fabric<K>,
     ) -> Result<(), AllocError> {
         self.put(event, seen);
         Ok(())
@@ -87,12 +88,12 @@ impl Witness for SessionWitness {
         self.records.make_room(event)
     }
 
-    fn saw(
+    fn saw<K: Keeper>(
         &mut self,
         line: u64,
         event: &EventRef<'_>,
         seen: &SeenRef<'_>,
-        fabric: &Fabric,
+        fabric: &Fabric<K>,
     ) -> Result<(), AllocError> {
         self.last.put(event, seen);
         self.records.saw(line, event, seen, fabric)
@@ -132,12 +133,12 @@ impl Witness for SettleWitness {
         self.collected.make_room(event)
     }
 
-    fn saw(
+    fn saw<K: Keeper>(
         &mut self,
         line: u64,
         event: &EventRef<'_>,
         seen: &SeenRef<'_>,
-        fabric: &Fabric,
+        fabric: &Fabric<K>,
     ) -> Result<(), AllocError> {
         if self.is_traced {
             self.trace.saw(line, event, seen, fabric)?;

@@ -6,6 +6,7 @@ use chart_levels::{StepLine, show_all};
 use chart_links::{Chart, ChartWindow, new_lines};
 use fabric_core::{Event, EventRef, Fabric, Refusal, SeenRef};
 use fabric_settle::Witness;
+use seq_memory::Keeper;
 use std::alloc::{AllocError, Global};
 use std::marker::Model;
 
@@ -25,7 +26,11 @@ impl Model for ChartWitness {
 }
 
 /// Shows step lines the fabric after the event of a row, if it has one.
-fn show_row(row: Option<u16>, fabric: &Fabric, lines: &mut Vec<StepLine>) -> Result<(), AllocError>
+fn show_row<K: Keeper>(
+    row: Option<u16>,
+    fabric: &Fabric<K>,
+    lines: &mut Vec<StepLine>,
+) -> Result<(), AllocError>
     ensures { OnOk result (lines.new.items ≡ spec.row_shown row fabric.now lines.old.items) }
 {
     match row {
@@ -49,12 +54,12 @@ impl ChartWitness {
     }
 
     /// An event happened, and left the fabric so.
-    fn event(
+    fn event<K: Keeper>(
         &mut self,
         line: u64,
         event: &EventRef<'_>,
         seen: &SeenRef<'_>,
-        fabric: &Fabric,
+        fabric: &Fabric<K>,
     ) -> Result<(), AllocError>
         ensures { OnOk result (self.new ≡ spec.witnessed self.old line event.now seen.now fabric.now) }
     {
@@ -114,12 +119,12 @@ impl Witness for ChartWitness {
         Ok(())
     }
 
-    fn saw(
+    fn saw<K: Keeper>(
         &mut self,
         line: u64,
         event: &EventRef<'_>,
         seen: &SeenRef<'_>,
-        fabric: &Fabric,
+        fabric: &Fabric<K>,
     ) -> Result<(), AllocError> {
         self.event(line, event, seen, fabric)
     }

@@ -6,6 +6,7 @@ ghost use Rattle.chart_levels.specs.Strips as look;
 use dllp_core::Class;
 use fabric_core::{Fabric, LaneName};
 use lane_core::LaneEnds;
+use seq_memory::Keeper;
 
 /// What is measured of a lane.
 #[derive(Clone, Copy)]
@@ -43,7 +44,7 @@ fn level_in(ends: &LaneEnds, level: Level) -> Option<u64>
 }
 
 /// A level of a fabric's lane; None of credits that are infinite, and of a lane that the fabric lacks.
-pub fn level_of(fabric: &Fabric, lane: LaneName, level: Level) -> Option<u64>
+pub fn level_of<K: Keeper>(fabric: &Fabric<K>, lane: LaneName, level: Level) -> Option<u64>
     ensures { result ≡ spec.level_of fabric.now lane level }
 {
     match fabric.lane(lane) {

@@ -5,6 +5,7 @@ ghost use Rattle.chart_levels.specs.Levels as spec;
 use crate::level::{Level, level_of};
 use dllp_core::Class;
 use fabric_core::{Fabric, LaneName};
+use seq_memory::Keeper;
 use std::alloc::{AllocError, Global};
 use std::marker::Model;
 
@@ -88,7 +89,7 @@ impl StepLine {
     }
 
     /// Shows the step line the fabric after the event of a row.
-    fn show(&mut self, row: u16, fabric: &Fabric) -> Result<(), AllocError>
+    fn show<K: Keeper>(&mut self, row: u16, fabric: &Fabric<K>) -> Result<(), AllocError>
         ensures { OnOk result (self.new ≡ spec.shown row fabric.now self.old) }
     {
         let value = level_of(fabric, self.lane, self.level);
@@ -176,7 +177,11 @@ pub fn add_lane(alloc: Global, lane: LaneName, lines: &mut Vec<StepLine>) -> Res
 
 /// Shows each step line the fabric after the event of a row. The only error is being out of memory; after it some of them
 /// may lack the row.
-pub fn show_all(row: u16, fabric: &Fabric, lines: &mut [StepLine]) -> Result<(), AllocError>
+pub fn show_all<K: Keeper>(
+    row: u16,
+    fabric: &Fabric<K>,
+    lines: &mut [StepLine],
+) -> Result<(), AllocError>
     ensures { OnOk result (lines.new ≡ map (spec.shown row fabric.now) lines.old) }
 {
     for line in lines.iter_mut() {

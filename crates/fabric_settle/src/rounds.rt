@@ -16,14 +16,15 @@ use crate::turns::round;
 use crate::witness::Witness;
 use fabric_core::Fabric;
 use fabric_steps::laws::quiet_is_all_acted;
+use seq_memory::Keeper;
 use std::alloc::AllocError;
 
 /// The most rounds.
 const MOST_ROUNDS: u64 = 10_000;
 
 /// Rounds until one moves nothing.
-fn all_rounds<W: Witness>(
-    fabric: &mut Fabric,
+fn all_rounds<K: Keeper, W: Witness>(
+    fabric: &mut Fabric<K>,
     witness: &mut W,
     moved: &mut bool,
     line: u64,
@@ -48,7 +49,11 @@ fn all_rounds<W: Witness>(
 ///
 /// The only error is want of memory, of the fabric for an event or of the witness. Then the events so far have happened,
 /// and a witness that loses nothing has kept what it keeps of them.
-pub fn settle<W: Witness>(fabric: &mut Fabric, witness: &mut W, line: u64) -> Result<(), AllocError>
+pub fn settle<K: Keeper, W: Witness>(
+    fabric: &mut Fabric<K>,
+    witness: &mut W,
+    line: u64,
+) -> Result<(), AllocError>
     ensures fabric { OnOk result (fabric.new ≡ (spec.settlement fabric.old).fabric) }
     ensures kept { OnOk result (W.kept witness.new ≡ fold (W.saw line) (W.kept witness.old) (spec.settlement fabric.old).happened) }
     ensures settled { OnOk result (IsQuiet fabric.new) }

@@ -10,11 +10,12 @@ use crate::Attempt;
 use crate::attempts::{AFTER_LANES, LANES, is_move, lane_attempts};
 use crate::witness::{Witness, happen};
 use fabric_core::{Event, Fabric, LaneName};
+use seq_memory::Keeper;
 use std::alloc::AllocError;
 
 /// Tries the event, and tells whether it happened.
-fn once<W: Witness>(
-    fabric: &mut Fabric,
+fn once<K: Keeper, W: Witness>(
+    fabric: &mut Fabric<K>,
     witness: &mut W,
     moved: &mut bool,
     line: u64,
@@ -37,8 +38,8 @@ fn once<W: Witness>(
 }
 
 /// Tries the event until it is refused.
-fn all<W: Witness>(
-    fabric: &mut Fabric,
+fn all<K: Keeper, W: Witness>(
+    fabric: &mut Fabric<K>,
     witness: &mut W,
     moved: &mut bool,
     line: u64,
@@ -58,8 +59,8 @@ fn all<W: Witness>(
 }
 
 /// Tries events in turn.
-fn try_each<W: Witness>(
-    fabric: &mut Fabric,
+fn try_each<K: Keeper, W: Witness>(
+    fabric: &mut Fabric<K>,
     witness: &mut W,
     moved: &mut bool,
     line: u64,
@@ -82,8 +83,8 @@ fn try_each<W: Witness>(
 }
 
 /// The turn of a lane.
-fn lane_turn<W: Witness>(
-    fabric: &mut Fabric,
+fn lane_turn<K: Keeper, W: Witness>(
+    fabric: &mut Fabric<K>,
     witness: &mut W,
     moved: &mut bool,
     line: u64,
@@ -98,8 +99,8 @@ fn lane_turn<W: Witness>(
 }
 
 /// A round, of which `moved` tells whether it has moved something.
-pub(crate) fn round<W: Witness>(
-    fabric: &mut Fabric,
+pub(crate) fn round<K: Keeper, W: Witness>(
+    fabric: &mut Fabric<K>,
     witness: &mut W,
     moved: &mut bool,
     line: u64,

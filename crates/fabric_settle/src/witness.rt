@@ -11,6 +11,7 @@ ghost use Rattle.fabric_settle.specs.Reached.{Reached};
 
 use fabric_core::{ANSWER_ROOM, EventRef, Fabric, Refusal, SeenRef, record_of};
 use history_words::Record;
+use seq_memory::Keeper;
 use std::alloc::AllocError;
 
 /// Keeps something of each event that happens to a fabric.
@@ -40,12 +41,12 @@ pub trait Witness: Drop {
         ensures err { OnErr result (needs_room event.now) };
 
     /// Keeps what is to be kept of an event of that line, which left the fabric so.
-    fn saw(
+    fn saw<K: Keeper>(
         &mut self,
         line: u64,
         event: &EventRef<'_>,
         seen: &SeenRef<'_>,
-        fabric: &Fabric,
+        fabric: &Fabric<K>,
     ) -> Result<(), AllocError>
         requires { has_room event.now self.old }
         ensures ok { OnOk result ((before : fabrics.Fabric) → Answers before event.now seen.now fabric.now →
@@ -95,15 +96,15 @@ impl Witness for Vec<Record> {
         Ok(())
     }
 
-    fn saw(
+    fn saw<K: Keeper>(
         &mut self,
         _line: u64,
         event: &EventRef<'_>,
         seen: &SeenRef<'_>,
-        fabric: &Fabric,
+        fabric: &Fabric<K>,
     ) -> Result<(), AllocError> {
         if is_recorded(event) {
-            keep(self, record_of(event, seen, fabric.history().len() as u64));
+            keep(self, record_of(event, seen, fabric.count() as u64));
         }
         Ok(())
     }
@@ -122,12 +123,12 @@ fn prepare<W: Witness>(witness: &mut W, event: &EventRef<'_>) -> Result<(), Refu
 }
 
 /// Keeps what is to be kept of an event.
-fn show<W: Witness>(
+fn show<K: Keeper, W: Witness>(
     witness: &mut W,
     line: u64,
     event: &EventRef<'_>,
     seen: &SeenRef<'_>,
-    fabric: &Fabric,
+    fabric: &Fabric<K>,
 ) -> Result<(), Refusal>
     requires { W.has_room event.now witness.old }
     ensures ok { OnOk result ((before : fabrics.Fabric) → Answers before event.now seen.now fabric.now →
@@ -142,8 +143,8 @@ fn show<W: Witness>(
 
 /// An event of that line of a script happens to the fabric, and the witness keeps what it keeps of it. A refusal changes
 /// nothing, but that a witness for which memory is wanted after the event may lack it.
-pub fn happen<W: Witness>(
-    fabric: &mut Fabric,
+pub fn happen<K: Keeper, W: Witness>(
+    fabric: &mut Fabric<K>,
     witness: &mut W,
     line: u64,
     event: &EventRef<'_>,

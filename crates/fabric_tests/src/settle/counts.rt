@@ -2,6 +2,7 @@
 use fabric_core::{EventRef, Fabric, LaneName, SeenRef};
 use fabric_settle::{Witness, settle};
 use lane_core::DllpKind;
+use seq_memory::Keeper;
 use std::alloc::AllocError;
 use tlp_core::OpRef;
 
@@ -31,12 +32,12 @@ impl Witness for Counts {
         Ok(())
     }
 
-    fn saw(
+    fn saw<K: Keeper>(
         &mut self,
         _line: u64,
         event: &EventRef<'_>,
         _seen: &SeenRef<'_>,
-        _fabric: &Fabric,
+        _fabric: &Fabric<K>,
     ) -> Result<(), AllocError> {
         match event {
             EventRef::SendDllp(LaneName::Up(1), DllpKind::Answer) => {
