@@ -15,6 +15,7 @@ use fabric_core::{ANSWER_ROOM, EventRef, Fabric, LaneName};
 use lane_core::DllpKind;
 use parameters::Storm;
 use requester_core::Answer;
+use seq_memory::Keeper;
 use std::alloc::AllocError;
 use std::marker::Model;
 use tlp_core::Op;
@@ -41,9 +42,9 @@ struct Tries {
 impl Tries {
     /// Whether the event happens to the fabric. If it does, it is counted, and the listener hears of it. The only error
     /// is that an allocation failed.
-    fn try_event<L: Listener>(
+    fn try_event<K: Keeper, L: Listener>(
         &mut self,
-        fabric: &mut Fabric,
+        fabric: &mut Fabric<K>,
         event: &EventRef<'_>,
         listener: &mut L,
     ) -> Result<bool, AllocError>
@@ -110,9 +111,9 @@ impl Chooser {
     /// Lets the next event happen to the fabric and counts it. The listener hears of it. A DLLP can always be sent, so the
     /// only error is that an allocation failed. Then the fabric and the counts are as they were, and the listener has
     /// heard nothing.
-    pub fn happen_next<L: Listener>(
+    pub fn happen_next<K: Keeper, L: Listener>(
         &mut self,
-        fabric: &mut Fabric,
+        fabric: &mut Fabric<K>,
         listener: &mut L,
     ) -> Result<(), AllocError>
         ensures ok { OnOk result ((event : Event) × IsChosen fabric.old event fabric.new

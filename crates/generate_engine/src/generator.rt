@@ -18,6 +18,7 @@ use fabric_core::{Config, Fabric};
 use flow_control::LaneCredits;
 use line_loop::{EngineFault, write_out};
 use parameters::Storm;
+use seq_memory::Counted;
 use std::alloc::{AllocError, Global};
 use std::io::Write;
 
@@ -39,10 +40,10 @@ fn config_of(storm: &Storm) -> Config
 }
 
 /// A new fabric. The only fault is being out of memory.
-fn make(config: Config, alloc: Global) -> Result<Fabric, AllocError>
+fn make(config: Config, alloc: Global) -> Result<Fabric<Counted>, AllocError>
     ensures { IfOk result (λ f. IsNewWith config f) }
 {
-    match Fabric::new(config, alloc) {
+    match Fabric::with_keeper(config, alloc) {
         Ok(fabric) => Ok(fabric),
         Err(_) => Err(AllocError),
     }
@@ -51,7 +52,7 @@ fn make(config: Config, alloc: Global) -> Result<Fabric, AllocError>
 /// A storm that is written while it happens.
 #[derive(Drop)]
 struct Generator {
-    fabric: Fabric,
+    fabric: Fabric<Counted>,
     chooser: Chooser,
     line: EventLine,
     /// The lines that are to be written.

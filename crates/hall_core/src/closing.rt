@@ -5,7 +5,7 @@ ghost use Rattle.std.specs.Mem.Slots.{slots_items, slots_filled, slots_len, IsFu
 ghost use Rattle.std.specs.Vec.{vec_len, vec_capacity};
 ghost use Rattle.requester_core.specs.RequesterView.{RequesterView};
 ghost use Rattle.lane_core.specs.Steps.{LaneEndsView};
-ghost use Rattle.fabric_steps.specs.Fabric.{Fabric};
+ghost use Rattle.fabric_steps.specs.Fabric as fabrics;
 ghost use Rattle.fabric_core.specs.Steps.{HasLanes};
 ghost use Rattle.hall_laws.specs.Calls.{IsSized};
 ghost use Rattle.hall_core.specs.Opens.{Leaves, AllRan};
@@ -99,7 +99,7 @@ fn next_stations(closed: &mut Slots, shelves: &mut Shelves, count: u8)
         (count ≤ vec_capacity shelves.old.requesters) × (count ≤ vec_capacity shelves.old.up) × (count ≤ vec_capacity shelves.old.down) ×
         (count ≤ most_requesters) }
     requires empty { (vec_len shelves.old.requesters ≡ 0) × (vec_len shelves.old.up ≡ 0) × (vec_len shelves.old.down ≡ 0) }
-    requires there { (f : Fabric) × HasLanes f × (length f.requesters ≡ count) × (slots_items closed.old.slots ≡ map Some (parts_of f)) }
+    requires there { (f : fabrics.Fabric) × HasLanes f × (length f.requesters ≡ count) × (slots_items closed.old.slots ≡ map Some (parts_of f)) }
     ensures value { StationsAt (slots_items closed.old.slots) count shelves.new.requesters.items shelves.new.up.items shelves.new.down.items }
     ensures rest { IsEmptiedTo (slots_filled closed.new.slots) (slots_len closed.new.slots) (9 * (1 + count)) ×
         (slots_len closed.new.slots ≡ slots_len closed.old.slots) }
@@ -116,9 +116,9 @@ fn rebuild(mut closed: Slots, mut shelves: Shelves, config: &Config) -> Parts
     requires empty { (vec_len shelves.requesters ≡ 0) × (vec_len shelves.up ≡ 0) × (vec_len shelves.down ≡ 0) }
     requires room { (config.now.requesters ≤ vec_capacity shelves.requesters) × (config.now.requesters ≤ vec_capacity shelves.up) ×
         (config.now.requesters ≤ vec_capacity shelves.down) }
-    requires there { (f : Fabric) × HasLanes f × (length f.requesters ≡ config.now.requesters) × (f.credits ≡ config.now.credits) ×
+    requires there { (f : fabrics.Fabric) × HasLanes f × (length f.requesters ≡ config.now.requesters) × (f.credits ≡ config.now.credits) ×
         (slots_items closed.slots ≡ map Some (parts_of f)) }
-    ensures { (f : Fabric) → HasLanes f → length f.requesters ≡ config.now.requesters → f.credits ≡ config.now.credits →
+    ensures { (f : fabrics.Fabric) → HasLanes f → length f.requesters ≡ config.now.requesters → f.credits ≡ config.now.credits →
         slots_items closed.slots ≡ map Some (parts_of f) → result ≡ f }
 {
     each_part_has_its_slot();

@@ -22,6 +22,7 @@ pub struct ReqSeat {
 
 impl Model for ReqSeat {
     ghost use Rattle.std.specs.Prelude.{◌≡◌, ◌<◌, ◌≤◌};
+    ghost use Rattle.tlp_core.specs.Limits.{most_requesters};
     ghost use Rattle.hall_core.specs.Views.{SeatView};
 
     ghost Value = { SeatView };
