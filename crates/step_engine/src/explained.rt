@@ -1,5 +1,5 @@
 //! Why a script's lines are refused, and its requests not served.
-ghost use Rattle.std.specs.Prelude.{◌≡◌, IfOk, IfErr, OnErr};
+ghost use Rattle.std.specs.Prelude.{◌≡◌, true, IfOk, IfErr, OnErr};
 ghost use Rattle.line_loop.specs.Run.{IsCaughtUp, IsWhole, IsPart};
 ghost use Rattle.step_engine.specs.Step as spec;
 
@@ -9,18 +9,19 @@ use arrayvec::ArrayString;
 use diagnostics::{Reason, ReasonLines, Reasoned, Reasons, refusal_reason};
 use line_loop::{EngineFault, Responder, Verdict, run};
 use script_text::{script_misfit, write_refusal};
+use seq_memory::{Counted, Keeper, Kept};
 use std::alloc::{AllocError, Global};
 use std::io::{Read, Write};
 use std::marker::Model;
 
 /// A script that is run line by line, and room for what its lines lend.
 #[derive(Drop)]
-struct Script {
-    stepper: Stepper,
+struct Script<K: Keeper> {
+    stepper: Stepper<K>,
     rooms: Rooms,
 }
 
-impl Model for Script {
+impl<K: Keeper> Model for Script<K> {
     ghost use Rattle.step_engine.specs.Step.{StepperView};
 
     ghost Value = { StepperView };
@@ -28,7 +29,7 @@ impl Model for Script {
     ghost view = { λ s. s.stepper };
 }
 
-impl Responder for Script {
+impl<K: Keeper> Responder for Script<K> {
     ghost use Rattle.step_engine.specs.Step.{step_responses};
 
     ghost responses = { step_responses };
@@ -47,7 +48,18 @@ impl Responder for Script {
     }
 }
 
-impl Script {
+impl<K: Keeper> Script<K> {
+    /// Before its first line.
+    fn new(alloc: Global, options: StepOptions) -> Script<K>
+        requires { options.is_traced ≡ true → K.keeps ≡ true }
+        ensures { result ≡ spec.new_script options }
+    {
+        Script {
+            stepper: Stepper::new(alloc, options),
+            rooms: Rooms::new(),
+        }
+    }
+
     /// Why the line that was answered last by a fault or a refusal is refused.
     fn reason(&mut self, line: &[u8]) -> Reason
         ensures { self.new ≡ self.old }
@@ -103,7 +115,7 @@ fn may_be_unserved(text: &[u8]) -> bool {
 #[derive(Drop)]
 struct ScriptReasons {}
 
-impl Reasons<Script> for ScriptReasons {
+impl<K: Keeper> Reasons<Script<K>> for ScriptReasons {
     #[inline(always)]
     fn is_due(&self, verdict: Verdict, text: &[u8]) -> bool {
         verdict.is_fault() || may_be_unserved(text)
@@ -111,7 +123,7 @@ impl Reasons<Script> for ScriptReasons {
 
     fn tell(
         &self,
-        script: &mut Script,
+        script: &mut Script<K>,
         line: &[u8],
         text: &[u8],
         reasons: &mut ReasonLines,
@@ -146,10 +158,21 @@ pub fn run_step<R: Read, W: Write, E: Write>(
         IsCaughtUp spec.step_responses (spec.new_script options)
         (R.remaining reader.old) (R.remaining reader.new) (W.contents writer.old) (W.contents writer.new)) }
 {
-    let script = Script {
-        stepper: Stepper::new(alloc, options),
-        rooms: Rooms::new(),
-    };
-    let reasoned = Reasoned::new(alloc, script, ScriptReasons {}, errors);
-    run(alloc, reasoned, reader, writer)
+    if options.is_traced {
+        let script: Script<Kept> = Script::new(alloc, options);
+        run(
+            alloc,
+            Reasoned::new(alloc, script, ScriptReasons {}, errors),
+            reader,
+            writer,
+        )
+    } else {
+        let script: Script<Counted> = Script::new(alloc, options);
+        run(
+            alloc,
+            Reasoned::new(alloc, script, ScriptReasons {}, errors),
+            reader,
+            writer,
+        )
+    }
 }

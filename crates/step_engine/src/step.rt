@@ -1,5 +1,5 @@
 //! The subcommand `step`: scripts of events for a fabric.
-ghost use Rattle.std.specs.Prelude.{◌≡◌, ◌≤◌, ◌+◌, ◌++◌, ◌∷◌, [], length, is_some, Ok, Err, IfOk, IfErr, OnOk, OnErr};
+ghost use Rattle.std.specs.Prelude.{◌≡◌, ◌≤◌, true, ◌+◌, ◌++◌, ◌∷◌, [], length, is_some, Ok, Err, IfOk, IfErr, OnOk, OnErr};
 ghost use Rattle.arrayvec.specs.ArrayString.{array_string_len};
 ghost use Rattle.fabric_core.specs.Answers.{answer};
 ghost use Rattle.fabric_steps.specs.Faults.{IsTold};
@@ -21,6 +21,7 @@ use requester_core::Answer;
 use script_text::{
     Line, read_line, write_config_fault, write_refusal, write_seen, write_settled, write_told,
 };
+use seq_memory::Keeper;
 use std::alloc::{AllocError, Global};
 use std::marker::Model;
 use std::mem;
@@ -29,8 +30,8 @@ use trace_engine::tell_trace;
 
 /// What is seen of an event that happens to the fabric.
 #[inline(always)]
-fn see<'a>(
-    fabric: &mut Fabric,
+fn see<'a, K: Keeper>(
+    fabric: &mut Fabric<K>,
     event: &EventRef<'_>,
     room: &'a mut Answer,
 ) -> Result<SeenRef<'a>, Refusal>
@@ -59,12 +60,12 @@ impl Rooms {
     }
 }
 
-/// A script that is run line by line.
+/// A script that is run line by line. Its fabric keeps the history where a trace is asked for.
 #[derive(Drop)]
-pub(crate) struct Stepper {
+pub(crate) struct Stepper<K: Keeper> {
     alloc: Global,
     options: StepOptions,
-    fabric: Option<Fabric>,
+    fabric: Option<Fabric<K>>,
     records: Vec<Record>,
     lines: u64,
     has_ended: bool,
@@ -74,16 +75,20 @@ pub(crate) struct Stepper {
     text: ArrayString<512>,
 }
 
-impl Model for Stepper {
+impl<K: Keeper> Model for Stepper<K> {
+    ghost use Rattle.std.specs.Prelude.{◌≡◌, true};
     ghost use Rattle.step_engine.specs.Step.{StepperView};
 
     ghost Value = { StepperView };
 
     ghost view = { λ s. record { options = s.options; fabric = s.fabric; records = s.records.items; lines = s.lines; has_ended = s.has_ended } };
+
+    ghost invariant = { λ s. s.options.is_traced ≡ true → K.keeps ≡ true };
 }
 
-impl Stepper {
-    pub(crate) fn new(alloc: Global, options: StepOptions) -> Stepper
+impl<K: Keeper> Stepper<K> {
+    pub(crate) fn new(alloc: Global, options: StepOptions) -> Stepper<K>
+        requires { options.is_traced ≡ true → K.keeps ≡ true }
         ensures { result ≡ spec.new_script options }
     {
         Stepper {
@@ -173,7 +178,7 @@ impl Stepper {
     }
 }
 
-impl Stepper {
+impl<K: Keeper> Stepper<K> {
     /// Adds what answers a line of the script, after it where that is asked for.
     fn put(
         &self,
@@ -248,7 +253,7 @@ impl Stepper {
     }
 }
 
-impl Stepper {
+impl<K: Keeper> Stepper<K> {
     /// The fabric of the script is made.
     fn make(&mut self, config: Config, out: &mut Vec<u8>) -> Result<Verdict, AllocError>
         ensures ok { IfOk result (λ verdict. IsAnswer self.new out.old.items out.new.items verdict (spec.made_once self.old self.old.fabric config)) }
@@ -257,7 +262,7 @@ impl Stepper {
         if self.fabric.is_some() {
             return self.no_line(out);
         }
-        match Fabric::new(config, self.alloc) {
+        match Fabric::with_keeper(config, self.alloc) {
             Ok(fabric) => {
                 self.fabric = Some(fabric);
                 self.count();
@@ -323,7 +328,7 @@ impl Stepper {
     }
 }
 
-impl Stepper {
+impl<K: Keeper> Stepper<K> {
     /// Adds a line for each answer that was collected.
     fn put_answers(
         &self,
@@ -384,7 +389,7 @@ impl Stepper {
     }
 }
 
-impl Stepper {
+impl<K: Keeper> Stepper<K> {
     /// Answers a line.
     #[inline(always)]
     pub(crate) fn answer(
@@ -434,10 +439,14 @@ impl Stepper {
         let Some(fabric) = &self.fabric else {
             return Ok(Verdict::Fine);
         };
+        let Some(history) = fabric.list() else {
+            // (not with a trace)
+            return Ok(Verdict::Fine);
+        };
         let trace = fabric.trace_of(records);
         let claim = Claim {
             trace: &trace,
-            history: fabric.history(),
+            history,
         };
         tell_trace(self.alloc, &claim, out)
     }

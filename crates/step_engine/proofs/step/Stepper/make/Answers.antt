@@ -20,6 +20,6 @@ is_made s c f new out none fault made_is now =
     (record { state = now ∙ ap (λ (g : Fabric). record s { lines = next_line s; fabric = Some g }) made_is; text = sym (append-nil out); is_fault = refl })
 
 pub returns-in-Ok-clause-ok : goal.returns-in-Ok-clause-ok
-returns-in-Ok-clause-ok c =
+returns-in-Ok-clause-ok g c =
     is_made c.args.self.now c.args.config c.in-Ok.fabric c.count.new.self c.args.out.now.items
     (sym (ap (λ (s : StepperView). s.fabric) c.self.view_is) ∙ none_of c.self.inside.fabric (sym c.is_some.ensures ∙ c.if-is_some.false)) c.in-Ok.ensures.faultless c.in-Ok.ensures.new (search rules)

@@ -5,7 +5,7 @@ use Rattle.step_engine.proofs.ToldLines.{told-next, told-past}
 use Rattle.step_engine.proofs.step.Stepper.put_answers.Goals as goal
 
 pub loop-answer-preserved : goal.loop-answer-preserved
-loop-answer-preserved c =
+loop-answer-preserved g c =
     let s = c.args.self.now in
     let line = c.args.line.now in
     let before = c.loop-answer.out.items in
@@ -15,5 +15,5 @@ loop-answer-preserved c =
     ∙ c.loop-answer.invariant
 
 pub returns : goal.returns
-returns c =
+returns g c =
     told-past c.args.self.now c.args.line.now c.args.answers.now c.loop-answer.answer-index c.loop-answer.out.items c.loop-answer-test.false ∙ c.loop-answer.invariant

@@ -7,7 +7,7 @@ use Rattle.step_engine.proofs.ToldLines.{told_settled}
 use Rattle.step_engine.proofs.step.Stepper.settle.Goals as goal
 
 pub returns-clause-ok : goal.returns-clause-ok
-returns-clause-ok c =
+returns-clause-ok g c =
     let inside = c.self.inside in
     let start : StepperView = record { options = inside.options; fabric = inside.fabric; records = inside.records.items; lines = inside.lines; has_ended = inside.has_ended } in
     let line = c.args.line.now in
