@@ -1,7 +1,8 @@
 #!/bin/sh
 # Runs the program on inputs that are too large for a test's table: a memory of 1 MiB with a trace of 200,001
 # records, a fabric of 1 MiB, a lane with 2047 packets that no Ack has told of, a requester with 256 open tags, logs
-# that are long or hard, and a chart of a long script. It tells each run that ends otherwise than it should:
+# that are long or hard, a chart of a long script, and requests whose history doesn't fit in the memory that there is. It
+# tells each run that ends otherwise than it should:
 # large_inputs.sh [PROGRAM], that of program.sh if none is named. With a folder in its place the inputs are written there
 # and nothing is run.
 unset CDPATH
@@ -212,6 +213,17 @@ mebibyte() {
     echo settle
 }
 
+# 168,000 writes that act. A history of them, of 176 bytes an entry, would take 28 MiB.
+served() {
+    awk 'BEGIN {
+        print "fabric 7 0 4096"
+        for (k = 0; k < 3000; k++) {
+            for (i = 1; i <= 7; i++) for (j = 0; j < 8; j++) print "submit " i " write 40 F 0 01020304"
+            print "settle"
+        }
+    }'
+}
+
 trace 0 > "$room/explained_trace"
 trace 1 > "$room/flawed_trace"
 window > "$room/window_script"
@@ -226,11 +238,12 @@ pairs 250 2000 > "$room/junk_log"
 lost_at_start > "$room/lost_at_start_log"
 sums > "$room/sums_log"
 mebibyte > "$room/mebibyte_script"
+served > "$room/served_script"
 if [ -n "$folder" ]; then
     cp "$room/explained_trace" "$room/flawed_trace" "$room/window_script" "$room/tags_script" \
         "$room/mixed_log" "$room/wrong_log" "$room/flushes_log" "$room/writes_log" "$room/far_log" \
         "$room/lost_answers_log" "$room/junk_log" "$room/lost_at_start_log" "$room/sums_log" "$room/mebibyte_script" \
-        "$folder"
+        "$room/served_script" "$folder"
     exit
 fi
 
@@ -320,6 +333,11 @@ ends "search beside 250 lost answers" 0 "$room/junk_log" search --limit 2000
 ends "search behind an AtomicOp that was lost at the start" 0 "$room/lost_at_start_log" search --limit 10000
 echo "limit 1000" > "$room/told"
 ends "search on the first and the last word of 1 MiB" 3 "$room/far_log" search --limit 1000
+within 60 16
+echo settled > "$room/told"
+ends "step in 16 MiB on 168,000 requests that act" 0 "$room/served_script" step
+echo "forward out 0" > "$room/told"
+ends "generate in 16 MiB with 2,000,000 events" 0 /dev/null generate --seed 1 --events 2000000
 seconds=600
 kilobytes=unlimited
 echo "none 96667" > "$room/told"
