@@ -1,9 +1,23 @@
 # Lines for `pciex endpoint`: a memory is set up at FEDC0000h, and then asked. Each request is followed by as many `next` as
-# it has completions, one for a posted write. The plan is `each`, the requests of lines.awk; `short`, reads of 128 bytes; or
-# `long`, reads of 4096 bytes, of 32 completions.
+# it has completions, one for a posted write. The plan is `each`, the requests of lines.awk; `short`, reads of 128 bytes;
+# `long`, reads of 4096 bytes, of 32 completions; or `linked`, reads of 4 bytes for `pciex endpoint --link`, each with an Ack
+# and an UpdateFC from the device, and an Ack of its completion.
 #
 #     awk -v plan=each -v requests=20000 -f bench/endpoint.awk
+# A packet of a peer, what the device sends then, and the Ack of its completion.
+function packet(tlp) {
+    printf "packet %04X %s good\nnext\nnext\nnext\ndllp 00000%03X good\n", sent % 4096, tlp, sent % 4096
+    sent++
+}
 BEGIN {
+    if (plan == "linked") {
+        print "up\ndllp 40080080 good\ndllp 50080020 good\ndllp 60000000 good\nnext\nnext\nnext\nnext\nnext\nnext"
+        print "dllp C0080080 good\ndllp D0080020 good\ndllp E0000000 good"
+        packet("44000001 0008010F 01000010 0000DCFE")
+        packet("44000001 00080201 01000004 02000000")
+        for (i = 0; i < requests; i++) packet(sprintf("00000001 0100050F FEDC%04X", i * 8 % 4096))
+        exit
+    }
     print "tlp 44000001 0008010F 01000010 0000DCFE\nnext"
     print "tlp 44000001 00080201 01000004 02000000\nnext"
     for (i = 0; i < requests; i++) {

@@ -3,6 +3,7 @@
 # With --alone ENGINE [FOLDER] it counts one engine's instructions a unit, in the whole program and in the program that
 # scripts/engine_alone.sh made in FOLDER, where each is built. With --threads [RUNS] it prints the processor seconds of
 # `run` by its number of workers, and of bench/lock.rs, which has the same fabric behind a lock, both in plain Rust. With
+# --limits [PROGRAM] it compares what the hand-tuned programs bench/limit_*.c and the program print, and counts both. With
 # --check FOLDER nothing is measured: each input and each program is made, small, and has to go through, over the workspace
 # of plain Rust in FOLDER and its optimized build (scripts/plain_rust.sh --check calls it).
 #
@@ -16,7 +17,7 @@
 set -eu
 unset CDPATH
 usage() {
-    echo "usage: run.sh [RUNS], run.sh --threads [RUNS], run.sh --alone ENGINE [FOLDER], or run.sh --check FOLDER" >&2
+    echo "usage: run.sh [RUNS], run.sh --threads [RUNS], run.sh --alone ENGINE [FOLDER], run.sh --limits [PROGRAM], or run.sh --check FOLDER" >&2
     exit 2
 }
 alone=''
@@ -28,6 +29,12 @@ if [ "${1:-}" = --alone ]; then
     [ $# -eq 2 ] || set -- "$1" "$2" "$(realpath -m -- "$3")"
     alone=$2
     program=${3:-${XDG_CACHE_HOME:-$HOME/.cache}/pciex/alone-$2}/crates/alone/out/alone
+    shift $#
+fi
+limits=''
+if [ "${1:-}" = --limits ]; then
+    case $#,${2-.} in 1,. | 2,[!-]*) ;; *) usage ;; esac
+    limits=$(realpath -m -- "${2:-$(dirname "$0")/../crates/pciex/out/pciex}")
     shift $#
 fi
 threads=''
@@ -61,13 +68,13 @@ input() {
         lines) awk -v lines="$2" -f bench/lines.awk > "$room/input" ;;
         trace) awk -v rounds="$2" -f bench/trace.awk > "$room/input" ;;
         script) awk -v rounds="$2" -f bench/script.awk > "$room/input" ;;
-        each | short | long) awk -v plan="$1" -v requests="$2" -f bench/endpoint.awk > "$room/input" ;;
+        each | short | long | linked) awk -v plan="$1" -v requests="$2" -f bench/endpoint.awk > "$room/input" ;;
         counter | mixed | locks) awk -v plan="$1" -v requests="$2" -f bench/log.awk > "$room/input" ;;
         nothing*) : > "$room/input" ;;
     esac
     case $1 in
         nothing*) units=$(($2 * ${1#nothing})) ;;
-        each | short | long) units=$2 ;;
+        each | short | long | linked) units=$2 ;;
         *) units=$(wc -l < "$room/input") ;;
     esac
 }
@@ -109,6 +116,52 @@ count() {
     counted "$kind" $((2 * small)) "$@"
     per_unit=$(((instructions - first) / (units - first_units)))
 }
+
+# prints KIND SCALE COMMAND..: runs the command on the input of this scale.
+prints() {
+    input "$1" "$2"
+    shift
+    of_scale "$@"
+    xargs -a "$room/words" -d '\n' sh -c 'exec "$@" < "$0"' "$room/input"
+}
+
+# limit NAME KIND SMALL WORDS WORD..: builds bench/limit_NAME.c, and compares what it prints, with these words, and the program
+# with the words behind. With --limits it counts both, and prints a row.
+limit() {
+    name=$1 kind=$2 small=$3 own=$4
+    shift 4
+    cc -O3 -march=x86-64-v2 -Wall -Wextra -Werror -std=gnu99 -o "$room/limit_$name" "bench/limit_$name.c"
+    prints "$kind" "$small" "$pciex" "$@" > "$room/wanted"
+    # shellcheck disable=SC2086 # the words of a command line
+    prints "$kind" "$small" "$room/limit_$name" $own > "$room/printed"
+    if ! cmp -s "$room/wanted" "$room/printed"; then
+        echo "bench: limit_$name doesn't print what pciex $* prints"
+        failed=1
+        return
+    fi
+    [ -n "$limits" ] || return 0
+    # shellcheck disable=SC2086 # the words of a command line
+    count "$kind" "$small" "$room/limit_$name" $own
+    least=$per_unit
+    count "$kind" "$small" "$pciex" "$@"
+    echo "| \`pciex $*\` | $kind | $least | $per_unit | $(echo "$least $per_unit" | awk '{ printf "%.1f", $2 / $1 }') |"
+}
+all_limits() {
+    limit tlp lines 10000 '' tlp
+    limit step script 10 '' step
+    limit generate nothing1 10000 '7 8 N' generate --seed 7 --lose 8 --events N
+    limit endpoint each 10000 '' endpoint
+    limit endpoint short 3200 '' endpoint
+    limit linked linked 5000 '' endpoint --link
+}
+if [ -n "$limits" ]; then
+    failed=0
+    pciex=$limits
+    echo "| Run | Input | Instructions a unit by hand | Instructions a unit | Factor |"
+    echo "|---|---|---|---|---|"
+    all_limits
+    exit $failed
+fi
 
 # lock_over FOLDER WORD..: builds bench/lock.rs over the workspace in FOLDER, into its folder target, with these words for
 # cargo.
@@ -177,9 +230,16 @@ if [ -n "$workspace" ]; then
     for kind in each short long; do
         goes $kind 9 "$built/pciex" endpoint
     done
+    goes linked 9 "$built/pciex" endpoint --link
     for kind in counter mixed locks; do
         goes $kind 99 "$built/pciex" search
     done
+    if [ "$(uname -m)" = x86_64 ]; then
+        pciex=$built/pciex
+        all_limits
+    else
+        echo "left out: the hand-tuned programs of bench/, which are for x86-64"
+    fi
     goes nothing1 1 "$workspace/target/debug/lock" 2 20
     "$built/pciex" run --requesters 2 --each 20 > "$room/counted"
     cmp "$room/counted" "$room/output" || failed=1
