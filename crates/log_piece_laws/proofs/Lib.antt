@@ -1,0 +1,12 @@
+mod Halves
+mod Cuts
+mod Lists
+mod Serving
+mod Twice
+mod Finer
+mod Places
+mod Growing
+mod Numbers
+mod Replies
+mod Running
+mod BySize
