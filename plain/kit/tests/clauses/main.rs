@@ -4,6 +4,7 @@
 //! Each test names the functions whose clauses it tries, `/// Of MODULE::TYPE: FUNCTION..`. `plain/called.py` tests that
 //! each function of this crate that the program or the library for C calls is named, and called here.
 
+mod commands;
 mod lists;
 mod maps;
 mod numbers;
