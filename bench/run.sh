@@ -148,6 +148,7 @@ limit() {
 }
 all_limits() {
     limit tlp lines 10000 '' tlp
+    limit check trace 540 '' check
     limit step script 10 '' step
     limit generate nothing1 10000 '7 8 N' generate --seed 7 --lose 8 --events N
     limit endpoint each 10000 '' endpoint
