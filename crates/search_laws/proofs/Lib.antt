@@ -1,0 +1,4 @@
+mod Spelled
+mod Pieces
+mod Told
+mod Found
