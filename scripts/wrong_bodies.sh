@@ -20,7 +20,7 @@ esac
 # dealt CRATE..: the crates of this share. A crate counts its lines, times its edits and two (its own check, and the seed).
 dealt() {
     for crate in "$@"; do
-        lines=$(find "crates/$crate/src" "crates/$crate/specs" "crates/$crate/proofs" -type f -exec cat {} + | wc -l)
+        lines=$(find "crates/$crate" -path "crates/$crate/out" -prune -o \( -name '*.rt' -o -name '*.antt' \) -type f -exec cat {} + | wc -l)
         echo "$(((lines + 300) * (2 + $(ls "crates/$crate/wrong-bodies" | wc -l)))) $crate"
     done | sort -rn | awk -v share="$share" '
         BEGIN { split(share, part, "/"); for (i = 1; i <= part[2]; i++) load[i] = 0 }
