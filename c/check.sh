@@ -160,17 +160,17 @@ echo "flaw 10 Reply 2" > "$room/flaw"
 sed 's/^ans 1 0 2 data 01020304/ans 1 0 2 data 00000000/' examples/trace.txt > "$room/flawed"
 examples
 
-# Swaps that stay unanswered, 65 of six requesters, and reads that contradict each other: each order of the Swaps is one to be
-# tried, and the work ends the search before its 1,000,000 choices.
+# Swaps and additions that stay unanswered, 65 of six requesters, and reads that contradict each other: each order of them is
+# one to be tried, and the work ends the search before its 1,000,000 choices.
 awk 'BEGIN {
     print "pciex-log 1"
     print "memory 0 4096 64"
-    for (k = 0; k < 65; k++) printf "sub %d %d swap 0 %02X000000\n", k % 6 + 1, int(k / 6), k + 1
+    for (k = 0; k < 65; k++) printf "sub %d %d %s 0 %02X000000\n", k % 6 + 1, int(k / 6), k % 2 ? "add" : "swap", k + 1
     for (k = 0; k < 3; k++) printf "sub 7 %d read 0 1 F 0\nans 7 %d data %s000000\n", k, k, k == 1 ? "09" : "05"
     print "end"
-}' > "$room/swaps"
+}' > "$room/open"
 echo "work 300000000" > "$room/work"
-wants "search on 65 open Swaps" 3 "$room/work" "$room/swaps" timeout 1800 "$room/search"
+wants "search on 65 open AtomicOps" 3 "$room/work" "$room/open" timeout 1800 "$room/search"
 
 # What a search says on standard error is what the program says there: the one beside the archive, or that of program.sh.
 program=$folder/pciex

@@ -288,10 +288,11 @@ fn reasons_and_pieces() {
 
 #[test]
 fn the_work_of_a_search_is_bounded() {
-    // Swaps that stay unanswered, and reads that contradict each other: each order of the Swaps is one to be tried.
+    // Swaps and additions that stay unanswered, and reads that contradict each other: each order of them is one to be tried.
     let mut log = "pciex-log 1\nmemory 0 4096 64\n".to_owned();
     for k in 0..65 {
-        log += &format!("sub {} {} swap 0 {:02X}000000\n", k % 6 + 1, k / 6, k + 1);
+        let word = if k % 2 == 1 { "add" } else { "swap" };
+        log += &format!("sub {} {} {word} 0 {:02X}000000\n", k % 6 + 1, k / 6, k + 1);
     }
     for (k, data) in ["05", "09", "05"].iter().enumerate() {
         log += &format!("sub 7 {k} read 0 1 F 0\nans 7 {k} data {data}000000\n");
