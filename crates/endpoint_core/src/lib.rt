@@ -23,4 +23,5 @@ pub use classes::receive;
 pub use device::Room;
 pub use endpoint::{Endpoint, Handled};
 pub use received::{Descriptor, Malformed, PacketRoom, Received};
+pub use requests::dw_in_front;
 pub use waiting::{MemoryRequest, Waiting};

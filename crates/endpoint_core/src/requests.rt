@@ -29,7 +29,7 @@ pub(crate) fn act_all(base: u64, bytes: &mut [u8], op: &OpRef<'_>, room: &mut Re
 }
 
 /// How many DW are in a read's first block, if it goes on in the next, and else 0.
-pub(crate) fn dw_in_front(op: &OpRef<'_>) -> u16
+pub fn dw_in_front(op: &OpRef<'_>) -> u16
     ensures value { result ≡ spec.dw_in_front op.now }
     ensures range { result ≤ 32 }
 {

@@ -6,9 +6,9 @@ ghost use Rattle.op_pieces.specs.Pieces.{dw_of, cut};
 ghost use Rattle.endpoint_core.specs.Classes.{becomes};
 ghost use Rattle.endpoint_log.specs.Steps as spec;
 
-use crate::moved::{dw_in_front, first_moved, moved, reply_in};
+use crate::moved::{first_moved, moved, reply_in};
 use config_core::Setup;
-use endpoint_core::{Endpoint, PacketRoom, Received, receive};
+use endpoint_core::{Endpoint, PacketRoom, Received, dw_in_front, receive};
 use history_words::AsClaim;
 use op_pieces::{back, dw_of, dw_to, front};
 use seq_memory::{Extent, LARGE_BLOCK};

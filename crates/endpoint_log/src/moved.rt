@@ -4,8 +4,9 @@ ghost use Rattle.tlp_core.specs.Operation.{address_of};
 ghost use Rattle.endpoint_core.specs.Steps as device;
 ghost use Rattle.endpoint_log.specs.Steps as spec;
 
-use op_pieces::{dw_to, front};
-use seq_memory::{LARGE_BLOCK, ReplyRef};
+use endpoint_core::dw_in_front;
+use op_pieces::front;
+use seq_memory::ReplyRef;
 use tlp_core::{Kind, OpRef, PayloadRef, TlpRef};
 
 /// The operation with an address that counts from the memory's first byte.
@@ -14,19 +15,6 @@ pub(crate) fn moved<'a>(base: u64, op: &OpRef<'a>) -> OpRef<'a>
     ensures { result ≡ spec.moved base op.now }
 {
     op.at(op.address() - base)
-}
-
-/// How many DW are in a read's first block, if it goes on in the next, and else 0.
-pub(crate) fn dw_in_front(op: &OpRef<'_>) -> u16
-    ensures { result ≡ device.dw_in_front op.now }
-{
-    match op {
-        OpRef::Read { address, dw, .. } => {
-            let front = dw_to(u64::from(LARGE_BLOCK), *address);
-            if *dw <= front { 0 } else { front }
-        }
-        _ => 0,
-    }
 }
 
 /// The first of a request's block requests, with an address that counts from the memory's first byte.

@@ -1,9 +1,16 @@
 -- A packet that enters a lane, by the answer.
 use Rattle.std.proofs.Common.{ℕ, ◌≡◌, ◌<◌, ◌∙◌, Bool, true, false, List, [], ◌∷◌, ◌++◌, length, refl, sym, ap, subst, arith, Option, Some, None, Result, Ok, Err, if◌then◌else◌}
-use Rattle.std.specs.Prelude.{nat_lt, ◌&&◌, slice_get, option_map}
+use Rattle.std.specs.Prelude.{nat_lt, ◌&&◌, ◌==◌, slice_get, option_map}
 use Rattle.std.proofs.lemmas.Bool.Decides.{nat_tests}
 use Rattle.std.proofs.lemmas.List.{length-append}
 use Rattle.tlp_core.specs.TlpView.{TlpView}
+use Rattle.tlp_core.specs.Ops.{Op}
+use Rattle.tlp_core.specs.Operation.{op_fault}
+use Rattle.tlp_core.specs.declared.fault.TlpFault.{TlpFault}
+use Rattle.requester_core.specs.Request.{request_for}
+use Rattle.requester_core.specs.RequesterView.{RequesterView, prepared, prepared_by, tag_for, lacks_tag, after_opened}
+use Rattle.requester_core.specs.declared.fault.SubmitRefusal.{SubmitRefusal}
+use Rattle.requester_core.specs.declared.fault.SubmitRefusal.TheVariants as causes
 use Rattle.tlp_core.specs.Layout.{Spells, canonical}
 use Rattle.flow_control.specs.declared.needs.Need.{Need}
 use Rattle.seq_memory.specs.History.{MemoryView}
@@ -20,7 +27,7 @@ use Rattle.lane_core.specs.Steps.{ReceiverEndView, SenderEndView, may_enter, ent
 use Rattle.fabric_steps.specs.declared.fault.Refusal.{Refusal}
 use Rattle.fabric_steps.specs.declared.fault.Refusal.TheVariants as refusals
 use Rattle.fabric_core.specs.ByParts.{Enters}
-use Rattle.fabric_core.specs.Answers.{Refuses, serving_grows, map_ok, enter_on, enter_if_any, item_at, act_on, ActFits}
+use Rattle.fabric_core.specs.Answers.{Refuses, lane_grows, serving_grows, and_then, map_ok, map_err, enter_on, enter_if_any, item_at, submit_on, act_on, ActFits}
 
 both : {X : Type 0} (a b : Bool) (x y z : X) → (a && b) ≡ true → (if a then (if b then x else y) else z) ≡ x
 both true true x y z e = refl
@@ -76,3 +83,17 @@ act_fits m t c is spelled = record { spelled = λ o e. subst (λ (p : TlpView). 
   where
     same : (o : TlpView) → completion_to m t ≡ Some o → c ≡ o
     same o e = let both : Some c ≡ Some o = sym is ∙ e in cc
+
+-- an operation for whose request the sender has no credits
+pub no_credits : (q : RequesterView) (s : SenderEndView) (op : Op) (need : Need) (r : Refusal) → ((port tag : ℕ) → need_of (request_for port tag op) ≡ need) → gate_covers s.gate need ≡ false
+    → ((n : ℕ) (t : TlpView) → prepared q op ≡ Ok (n, t) → r ≡ refusals.Lane (no_room.NoCredits need.class)) → ((x : SubmitRefusal) → prepared q op ≡ Err x → r ≡ refusals.Submit x)
+    → Refuses lane_grows (submit_on q s op) r
+no_credits q s op need r asked lacks lane cause = by (request_for q.port (tag_for q op) op) (asked q.port (tag_for q op)) (op_fault op) (lacks_tag q op) (q.next == 4294967295) lane cause
+  where
+    by : (t : TlpView) → need_of t ≡ need → (f : Option TlpFault) (a b : Bool)
+        → ((n : ℕ) (p : TlpView) → prepared_by f a b q.next t ≡ Ok (n, p) → r ≡ refusals.Lane (no_room.NoCredits need.class)) → ((x : SubmitRefusal) → prepared_by f a b q.next t ≡ Err x → r ≡ refusals.Submit x)
+        → Refuses {A = ℕ × RequesterView × SenderEndView} lane_grows (and_then (map_err refusals.Submit (prepared_by f a b q.next t)) (λ p. map_ok (enter_on s p.1 p.0) (λ s'. (p.0, after_opened q p.1, s')))) r
+    by t h (Some f) a b l e = e (causes.Profile f) refl
+    by t h None true b l e = e causes.TagsUsed refl
+    by t h None false true l e = e causes.NumbersUsed refl
+    by t h None false false l e = rw (h, lacks) (l q.next t refl)

@@ -1,10 +1,14 @@
 //! Each event over the parts that it uses. A refused event leaves them as they were.
-ghost use Rattle.std.specs.Prelude.{◌≡◌, ◌↔◌, ◌<◌, [], true, false, length, option_map, Some, IfOk, IfErr, OnOk, OnErr};
+ghost use Rattle.std.specs.Prelude.{◌≡◌, ◌↔◌, ◌<◌, ℕ, [], true, false, length, option_map, Some, Ok, Err, IfOk, IfErr, OnOk, OnErr};
 ghost use Rattle.dllp_core.specs.Layout.{FitsDataFC};
 ghost use Rattle.tlp_core.specs.Layout.{Spells, canonical};
+ghost use Rattle.tlp_core.specs.TlpView.{TlpView};
 ghost use Rattle.tlp_core.specs.Operation.{op_of};
+ghost use Rattle.requester_core.specs.Request.{request_for};
+ghost use Rattle.requester_core.specs.RequesterView.{prepared};
+ghost use Rattle.requester_core.specs.declared.fault.SubmitRefusal.{SubmitRefusal};
 ghost use Rattle.dllp_core.specs.declared.packet.Dllp.{Dllp};
-ghost use Rattle.flow_control.specs.Needs.{need_of};
+ghost use Rattle.flow_control.specs.Needs.{need_of, takes, units_of};
 ghost use Rattle.completer_core.specs.Serving.{completion_to, after_serving};
 ghost use Rattle.lane_core.specs.Steps.{may_enter, with_room, after_timer, after_retraining, transmitted, after_transmission, wire_after_transmit, all_but_first, delivered, after_deliver, dllp_of, after_send, wire_after_send, dllp_seen, sender_after};
 ghost use Rattle.lane_core.specs.Refusals.{LacksRoom};
@@ -12,7 +16,7 @@ ghost use Rattle.switch_core.specs.Forwarding.{Forwards};
 ghost use Rattle.fabric_core.specs.Answers.{Refuses, lane_grows, arrival_grows, serving_grows, enter_on, transmit_on, deliver_on, send_dllp_on, deliver_dllp_on, timer_on, retrained_on, submit_on, destination_on, forward_on, act_on, serve_on, collect_on, link_on, link_grows, SubmitFits, ForwardFits, ServeFits, ActFits};
 
 use completer_core::{need_for, serve_op};
-use dllp_core::Dllp;
+use dllp_core::{Class, Dllp};
 use fabric_steps::{LinkEvent, Refusal, SeenRef};
 use flow_control::Need;
 use lane_core::{
@@ -36,6 +40,47 @@ fn enter(sender: &mut SenderEnd, tlp: &Tlp, mark: u32) -> Result<(), LaneRefusal
     Ok(())
 }
 
+/// What a packet of a class takes whose payload has so many bytes.
+fn need_for_bytes(class: Class, bytes: u16) -> Need
+    ensures { result ≡ takes class (units_of bytes) }
+{
+    let data = Need::completion(bytes);
+    Need {
+        class,
+        header: 1,
+        units: data.units,
+    }
+}
+
+/// What the request for an operation takes of the credits.
+fn need_asked(op: &OpRef<'_>) -> Need
+    ensures { (port tag : ℕ) → need_of (request_for port tag op.now) ≡ result }
+{
+    match op {
+        OpRef::Read { .. } => need_for_bytes(Class::NonPosted, 0),
+        OpRef::Write { bytes, .. } => {
+            need_for_bytes(Class::Posted, bytes.as_slice().len() as u16)
+        }
+        OpRef::FetchAdd { width, .. } | OpRef::Swap { width, .. } => {
+            need_for_bytes(Class::NonPosted, u16::from(width.size()))
+        }
+        OpRef::Cas { width, .. } => {
+            need_for_bytes(Class::NonPosted, 2 * u16::from(width.size()))
+        }
+    }
+}
+
+/// Why an operation is refused that the sender has no credits for: `Submit` where no request is prepared, then `Lane`.
+fn refused_for(requester: &Requester, op: &OpRef<'_>, class: Class) -> Refusal
+    ensures prepared { (number : ℕ) (request : TlpView) → prepared requester.now op.now ≡ Ok (number, request) → result ≡ Refusal.Lane (LaneRefusal.NoCredits class) }
+    ensures refused { (r : SubmitRefusal) → prepared requester.now op.now ≡ Err r → result ≡ Refusal.Submit r }
+{
+    match requester.next_tag(op) {
+        Ok(_) => Refusal::Lane(LaneRefusal::NoCredits(class)),
+        Err(refusal) => Refusal::Submit(refusal),
+    }
+}
+
 /// The requester submits an operation: its request enters the lane, and its number is spent. Gives the number. `Submit`
 /// where no request is prepared, then `Lane`.
 pub fn submit(
@@ -49,6 +94,10 @@ pub fn submit(
     ensures err_requester { OnErr result (requester.new ≡ requester.old) }
     ensures err_sender { OnErr result (sender.new ≡ sender.old) }
 {
+    let need = need_asked(op);
+    if !sender.gate().fits(need) {
+        return Err(refused_for(requester, op, need.class));
+    }
     let (number, request) = match requester.prepare(op) {
         Ok(prepared) => prepared,
         Err(refusal) => return Err(Refusal::Submit(refusal)),

@@ -84,7 +84,8 @@ impl<'a> Records<'a> {
     /// The request that the record at the place submits.
     #[inline(always)]
     pub fn submitted(&self, place: usize) -> Option<EntryRef<'a>>
-        ensures { result ≡ option_and_then submitted (slice_get self.now place) }
+        ensures value { result ≡ option_and_then submitted (slice_get self.now place) }
+        ensures is { IfSome result (λ e. (n : ℕ) × (slice_get self.now place ≡ Some (kinds.Sub e.requester e.number e.op n))) }
     {
         match self.get(place) {
             Some(

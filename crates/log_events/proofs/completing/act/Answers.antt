@@ -27,7 +27,7 @@ returns-in-Some-waiting_at-clause-records c =
     let b = c.args.b in
     let e = c.in-Some.entry in
     let lent = c.records-records.ensures ∙ ap (λ (v : TraceView). v.records) c.seen.ensures in
-    let entry = sym c.in-Some.is ∙ c.submitted.ensures ∙ ap (λ (ys : List Record). option_and_then submitted (slice_get ys b)) lent in
+    let entry = sym c.in-Some.is ∙ c.submitted.ensures.value ∙ ap (λ (ys : List Record). option_and_then submitted (slice_get ys b)) lent in
     let place = c.in-Some-waiting_at.place in
     let told = waits_there c.records-records.result rs ps b c.of.result e place lent c.of.ensures c.in-Some-waiting_at.ensures.some in
     on_ok_weaker c.set_reply.result (λ some.
@@ -40,7 +40,7 @@ returns-in-Some-waiting_at-clause-partners c =
     let b = c.args.b in
     let e = c.in-Some.entry in
     let lent = c.records-records.ensures ∙ ap (λ (v : TraceView). v.records) c.seen.ensures in
-    let entry = sym c.in-Some.is ∙ c.submitted.ensures ∙ ap (λ (ys : List Record). option_and_then submitted (slice_get ys b)) lent in
+    let entry = sym c.in-Some.is ∙ c.submitted.ensures.value ∙ ap (λ (ys : List Record). option_and_then submitted (slice_get ys b)) lent in
     let place = c.in-Some-waiting_at.place in
     let told = waits_there c.records-records.result rs ps b c.of.result e place lent c.of.ensures c.in-Some-waiting_at.ensures.some in
     on_ok_weaker c.set_reply.result (λ some.
@@ -53,6 +53,6 @@ returns-in-None-clause-records c =
     let b = c.args.b in
     let e = c.in-Some.entry in
     let lent = c.records-records.ensures ∙ ap (λ (v : TraceView). v.records) c.seen.ensures in
-    let entry = sym c.in-Some.is ∙ c.submitted.ensures ∙ ap (λ (ys : List Record). option_and_then submitted (slice_get ys b)) lent in
+    let entry = sym c.in-Some.is ∙ c.submitted.ensures.value ∙ ap (λ (ys : List Record). option_and_then submitted (slice_get ys b)) lent in
     (acted_untold c.args.memory.now.extent ps c.args.bytes.now c.perform-made.new.bytes b rs e c.perform-made.result c.requires entry c.perform-made.ensures.bytes c.perform-made.ensures.reply
     (waits_not_there c.records-records.result rs ps b c.of.result e lent c.of.ensures c.in-None.ensures.none)).same
