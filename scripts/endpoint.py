@@ -24,7 +24,10 @@ REGISTERS = {
     0x054: (0x8000, 0, 0), DEVICE: (0, 0xF, 0xF0000), 0x05C: (0x00400011, 0, 0), 0x060: (0x00110000, 0xC3, 0),
     0x074: (0x380, 0, 0), 0x07C: (0x2, 0, 0),
 }
-PARITY, UNSUPPORTED, FATAL = (COMMAND, 1 << 31), (DEVICE, 1 << 19), (DEVICE, 1 << 18)
+# What sets which bits: Unsupported Request is bit 19, Fatal 18, Non-Fatal 17, Correctable and advisory errors 16.
+PARITY, FATAL, DROPPED, ADVISORY = (COMMAND, 1 << 31), (DEVICE, 1 << 18), (DEVICE, 1 << 17), (DEVICE, 1 << 16)
+REFUSED, UNCLAIMED = (DEVICE, 1 << 19 | 1 << 16), (DEVICE, 1 << 19 | 1 << 17)
+POISONED, TENTH_TAG_BITS, LN, TH = 0x40, 0x88, 2, 1
 FIRST, LAST = (0xF, 0xE, 0xC, 0x8), (0xF, 0x7, 0x3, 0x1)
 
 
@@ -38,6 +41,7 @@ class Tlp:
     """A request, as its fields."""
 
     def __init__(self, kind, address=0, data=b"", dw=None, first=15, last=None, tag=0, requester=8, tc=0, attr=0, flags=0):
+        self.hints, self.steering = 0, None
         self.kind, self.address, self.data, self.tag, self.requester = kind, address, data, tag, requester
         self.dw = len(data) // 4 if dw is None else dw
         self.first, self.last = first, (0 if self.dw == 1 or kind & 0xC else 15) if last is None else last
@@ -45,9 +49,9 @@ class Tlp:
 
     def bytes(self):
         long = self.address >= 2**32
-        head = bytes([self.kind | long << 5, self.tc << 4 | self.attr >> 2 << 2,
+        head = bytes([self.kind | long << 5, self.tc << 4 | self.attr >> 2 << 2 | self.hints,
                       self.flags | (self.attr & 3) << 4 | self.dw >> 8 & 3, self.dw & 255])
-        enables = self.last << 4 | self.first
+        enables = self.last << 4 | self.first if self.steering is None else self.steering
         head += self.requester.to_bytes(2, "big") + bytes([self.tag, enables])
         return head + self.address.to_bytes(8 if long else 4, "big") + self.data
 
@@ -91,12 +95,15 @@ class Model:
 
     def take(self, tlp):
         """What is answered to the request."""
+        poisoned = tlp.flags & POISONED and tlp.data
+        if poisoned:
+            self.note(PARITY)
         if tlp.kind != 0x40:
             self.waiting.append([tlp, 0])
             return "accept"
         offset = self.offset(tlp.address, len(tlp.data))
-        if offset is None:
-            self.note(UNSUPPORTED)
+        if poisoned or offset is None:
+            self.note(DROPPED if poisoned else UNCLAIMED)
             return "accept Unsupported"
         for at, byte in enumerate(tlp.data):
             enables = tlp.first if at < 4 else tlp.last if at >= len(tlp.data) - 4 else 15
@@ -112,18 +119,26 @@ class Model:
         if tlp.kind == 0x00:
             return self.read(tlp, done)
         self.waiting.popleft()
+        if tlp.flags & POISONED and tlp.data:
+            return self.refuse_poisoned(tlp)
         if tlp.kind in (0x04, 0x44, 0x05, 0x45):
             return self.configure(tlp)
         offset = self.offset(tlp.address, len(tlp.data))
         if tlp.kind in (0x02, 0x42) or offset is None:
-            self.note(UNSUPPORTED)
+            self.note(REFUSED)
             return tlp.completion(self.completer, 1, 4)
         return self.exchange(tlp, offset)
+
+    def refuse_poisoned(self, tlp):
+        """An AtomicOp, or a write of a register or of I/O."""
+        supported = tlp.kind & 0xC == 0xC or tlp.kind == 0x44 and not tlp.address >> 16 & 7
+        self.note(ADVISORY if supported else REFUSED)
+        return tlp.completion(self.completer, 1, 4)
 
     def configure(self, tlp):
         register, target = tlp.address & 0xFFC, tlp.address >> 16
         if tlp.kind & 1 or target & 7:
-            self.note(UNSUPPORTED)
+            self.note(REFUSED)
             return tlp.completion(self.completer, 1, 4)
         if tlp.kind == 0x04:
             value = self.registers.get(register, 0)
@@ -138,7 +153,7 @@ class Model:
         offset = self.offset(tlp.address, 4 * tlp.dw)
         if offset is None:
             self.waiting.popleft()
-            self.note(UNSUPPORTED)
+            self.note(REFUSED)
             return tlp.completion(self.completer, 1, count)
         start = tlp.address + done
         stop = min((start // BLOCK + 1) * BLOCK, tlp.address + 4 * tlp.dw)
@@ -288,13 +303,22 @@ class RootComplex:
         self.fetch_all()
 
     def poisoned(self):
+        tlp = random.choice((
+            self.request(self.base), Tlp(0x44, random.choice((0x100, 0x101)) << 16 | BAR, bytes(4), tag=self.next_tag()),
+            Tlp(0x42, 0x1000, random.randbytes(4), tag=self.next_tag()),
+        ))
+        tlp.flags = POISONED
+        self.send(tlp)
+        self.fetch_all()
+
+    def with_hints(self):
+        """Bits that a receiver ignores; a read with TH has a Steering Tag in place of its enables."""
         tlp = self.request(self.base)
-        tlp.flags = 0x40
-        self.model.note(PARITY)
-        self.expect("tlp " + tlp.bytes().hex(), "accept Unsupported" if tlp.kind == 0x40 else "accept")
-        if tlp.kind != 0x40:
-            groups = tlp.completion(self.model.completer, 1, 4).hex().upper()
-            self.expect("next", "tlp " + " ".join(groups[i:i + 8] for i in range(0, len(groups), 8)))
+        tlp.hints = random.choice((0, TENTH_TAG_BITS)) | random.choice((0, LN)) | random.choice((0, TH))
+        if tlp.kind == 0x00 and tlp.hints & TH:
+            tlp.first, tlp.last, tlp.steering = 15, 15 if tlp.dw > 1 else 0, random.randrange(256)
+        self.send(tlp)
+        self.fetch_all()
 
     def with_digest(self):
         tlp = self.request(self.base)
@@ -308,7 +332,6 @@ class RootComplex:
         base = self.base.to_bytes(8, "big").hex()
         line, name = random.choice((
             ("20000001", "Short"), ("80000001 0008000F 00000000 00000000", "Prefix"), ("01000001 0008000F 00000000", "Kind"),
-            ("20800001 0008000F " + base, "TenBitTag"), ("20010001 0008000F " + base, "Hints"),
             ("20000401 0008000F " + base, "Translated"), ("60000002 000800FF " + base + "00000000", "LengthMismatch"),
             ("60000021 000800FF " + base + "00" * 132, "PayloadTooLong"), ("20000002 0008000F " + base, "ByteEnables"),
             ("6C000003 00080000 " + base + "00" * 12, "OperandSize"),
@@ -323,10 +346,12 @@ class RootComplex:
         """TLPs that have no completion."""
         line, answer = random.choice((
             ("74000001 00000050 00000000 00000000 19000000", "Ignored"), ("34000000 0000007F 00000000 00000000", "Ignored"),
-            ("34000000 00000014 00000000 00000000", "Unsupported"), ("4A000001 00000004 00086300 34121E7C", "Unexpected"),
+            ("33000000 00000000 00000000 00000000", "Ignored"), ("34000000 00000014 00000000 00000000", "Unsupported"),
+            ("4A000001 00000004 00086300 34121E7C", "Unexpected"), ("4B000001 00000004 00086300 34121E7C", "Unexpected"),
+            ("0B000000 00002004 00086300", "Unexpected"),
         ))
-        if answer == "Unsupported":
-            self.model.note(UNSUPPORTED)
+        if answer in ("Unsupported", "Unexpected"):
+            self.model.note(UNCLAIMED if answer == "Unsupported" else ADVISORY)
         self.expect("tlp " + line, "accept " + answer)
 
     def in_d3hot(self):
@@ -340,7 +365,7 @@ class RootComplex:
 
     def disturbances(self, count):
         for _ in range(count):
-            random.choice((self.refused, self.poisoned, self.with_digest, self.malformed, self.others))()
+            random.choice((self.refused, self.poisoned, self.with_hints, self.with_digest, self.malformed, self.others))()
             if random.random() < 0.05:
                 self.in_d3hot()
             if random.random() < 0.1:

@@ -380,15 +380,31 @@ static void to_another_function(void)
     completion(&r, CPL, UR, 4, 0, 0);
 }
 
+/* A write, which is dropped, an AtomicOp, which is completed as not supported, or a read, in which EP counts for nothing. */
 static void poisoned(void)
 {
     uint8_t bytes[128];
-    request r = draw(2) == 0 ? drawn_write(BASE, bytes) : access_to(0x00, BASE, 32);
-    const bool is_write = r.bytes[0] & 0x40;
-    r.bytes[2] |= 0x40;
-    send(&r, is_write ? PCIEX_TLP_UNSUPPORTED : PCIEX_TLP_ACCEPTED, "a poisoned request");
-    if (!is_write) {
+    request r;
+    switch (draw(3)) {
+    case 0:
+        r = drawn_write(BASE, bytes);
+        r.bytes[2] |= 0x40;
+        send(&r, PCIEX_TLP_UNSUPPORTED, "a poisoned write");
+        break;
+    case 1:
+        r = begin(0x4C, 1, (uint8_t)draw(8), (uint8_t)draw(8));
+        at(&r, BASE + 4 * draw(SIZE / 4), 0, 0);
+        draw_bytes(bytes, 4);
+        payload(&r, bytes, 4);
+        r.bytes[2] |= 0x40;
+        send(&r, PCIEX_TLP_ACCEPTED, "a poisoned AtomicOp");
         completion(&r, CPL, UR, 4, 0, 0);
+        break;
+    default:
+        r = access_to(0x00, BASE, 32);
+        r.bytes[2] |= 0x40;
+        send(&r, PCIEX_TLP_ACCEPTED, "a read with EP");
+        check_read(&r);
     }
 }
 
@@ -564,7 +580,7 @@ int main(int count, char **words)
     for (unsigned reg = 0x100; reg < 4096; reg += 4) {
         wants(read_register(reg) == 0, "a register that there isn't");
     }
-    wants((read_register(capability(0x10) + 8) >> 16 & 15) == 12, "other errors than UR and a fatal one");
+    wants((read_register(capability(0x10) + 8) >> 16 & 15) == 15, "a kind of error that isn't reported");
     wants(read_register(4) >> 31, "no poisoned TLP was detected");
     wants(pciex_endpoint_bytes(&device, bytes, SIZE) == 0 && memcmp(bytes, memory, SIZE) == 0, "another memory");
     check_trace();

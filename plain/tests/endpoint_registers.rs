@@ -51,13 +51,13 @@ fn an_enumeration_reads_and_writes() {
                 line(0x100, 15, 0xFFFF_FFFF, 0),
             ],
         );
-        registers.note(Noted::UnsupportedRequest);
+        registers.note(Noted::Refused);
         right &= registers.claims(0xFEDC_0FFC, 4) == Some(0xFFC);
         right &= registers.claims(0xFEDC_0FFC, 8).is_none();
         right &= reads_right(
             &mut registers,
             &[
-                line(0x058, 3, 0xFFFF_FFFF, 0x0008_000F),
+                line(0x058, 3, 0xFFFF_FFFF, 0x0009_000F),
                 line(0x058, 12, 0xFFFF_FFFF, 0x0000_000F),
             ],
         );

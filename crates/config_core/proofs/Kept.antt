@@ -9,10 +9,10 @@ use Rattle.std.proofs.lemmas.Nat.{and_comm, and_assoc, and-not, or_disjoint, and
 use Rattle.config_core.specs.SetupView.{SetupView, is_size}
 use Rattle.config_core.specs.RegistersView.{RegistersView}
 use Rattle.config_core.specs.Registers.{after_reset, after_write, base_of, lanes, offered, register_at, row, value, written}
-use Rattle.config_core.specs.Changes.{Change, Write, Error, after_change, after_changes, leaves, writes_no_one, is_write}
+use Rattle.config_core.specs.Changes.{Change, Write, Error, Poison, after_change, after_changes, leaves, writes_no_one, is_write}
 use Rattle.config_core.proofs.Bits.{none_in, none_of, none_cleared, untouched, set_bits, cleared_bits, spared_bits, clear_bits}
 use Rattle.config_core.proofs.Table.{Sizes, sizes, fits_at}
-use Rattle.config_core.proofs.Writes.{change_setup, by_write, error_leaves, error_sets}
+use Rattle.config_core.proofs.Writes.{change_setup, by_write, error_leaves, error_sets, poison_leaves, poison_sets}
 
 both_true : (a b : Bool) → (a && b) ≡ true → (a ≡ true) × (b ≡ true)
 both_true true b h = (refl, h)
@@ -39,6 +39,7 @@ one_stays r (Write o e v) p mask size small w c = by_write {P = bit_and (value (
     (none_in (register_at r.setup p).written (lanes e) mask w)
     (none_of (bit_and (register_at r.setup p).cleared (lanes e)) (offered p v (value r p)) mask (none_in (register_at r.setup p).cleared (lanes e) mask c)))
 one_stays r (Error error) p mask size small w c = error_leaves r error p mask c
+one_stays r Poison p mask size small w c = poison_leaves r p mask c
 
 pub stays : (r : RegistersView) (changes : List Change) (p mask : ℕ) → is_size r.setup.size ≡ true → mask < 2 ^ 32 → bit_and (register_at r.setup p).written mask ≡ 0
     → bit_and (register_at r.setup p).cleared mask ≡ 0 → bit_and (value (after_changes r changes) p) mask ≡ bit_and (value r p) mask
@@ -65,6 +66,7 @@ one_left r (Write o e v) p mask size w left = by_write {P = bit_and (value (writ
     ap (λ x. bit_and x mask) is ∙ untouched reg e (offered p v (value r p)) (value r p) mask f.few (omega (arith, f.few, w, and_le_l reg.written mask))
     (none_of (lanes e) reg.written mask none) (none_of (bit_and reg.cleared (lanes e)) (offered p v (value r p)) mask (none_of (lanes e) reg.cleared mask none)))
 one_left r (Error error) p mask size w left = error_leaves r error p mask (none_cleared (register_at r.setup p) mask (fits_at r.setup p size) w)
+one_left r Poison p mask size w left = poison_leaves r p mask (none_cleared (register_at r.setup p) mask (fits_at r.setup p size) w)
 
 all_left : (r : RegistersView) (changes : List Change) (p mask : ℕ) → is_size r.setup.size ≡ true → bit_and (register_at r.setup p).written mask ≡ mask
     → list_all (leaves p mask) changes ≡ true → bit_and (value (after_changes r changes) p) mask ≡ bit_and (value r p) mask
@@ -134,6 +136,7 @@ one_set r (Write o e v) p mask size c none set = by_write {P = bit_and (value (w
     (part_of (offered p v (value r p)) v mask (same_offer p v (value r p) r.setup mask c) (lanes e) ∙ not_enabled o p (bit_and v (bit_and (lanes e) mask)) same none)
     ∙ set)
 one_set r (Error error) p mask size c none set = error_sets r error p mask set
+one_set r Poison p mask size c none set = poison_sets r p mask set
 
 pub stays_set : (r : RegistersView) (changes : List Change) (p mask : ℕ) → is_size r.setup.size ≡ true → bit_and (register_at r.setup p).cleared mask ≡ mask
     → list_all (writes_no_one p mask) changes ≡ true → bit_and (value r p) mask ≡ mask → bit_and (value (after_changes r changes) p) mask ≡ mask
@@ -150,6 +153,7 @@ one_clear r (Write o e v) p mask size c write none = by_write {P = bit_and (valu
     (λ constant is. ap (λ x. bit_and x mask) is ∙ none)
     (λ same is. ap (λ x. bit_and x mask) is ∙ clear_bits (register_at r.setup p) e (offered p v (value r p)) (value r p) mask (fits_at r.setup p size) c none)
 one_clear r (Error error) p mask size c write none = absurd (cc write)
+one_clear r Poison p mask size c write none = absurd (cc write)
 
 pub stays_clear : (r : RegistersView) (changes : List Change) (p mask : ℕ) → is_size r.setup.size ≡ true → bit_and (register_at r.setup p).cleared mask ≡ mask
     → list_all is_write changes ≡ true → bit_and (value r p) mask ≡ 0 → bit_and (value (after_changes r changes) p) mask ≡ 0

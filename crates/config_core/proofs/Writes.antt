@@ -7,8 +7,8 @@ use Rattle.std.proofs.lemmas.Nat.{and_or_apart}
 use Rattle.config_core.specs.declared.registers.Noted.{Noted}
 use Rattle.config_core.specs.declared.registers.Noted.TheVariants as noted
 use Rattle.config_core.specs.RegistersView.{RegistersView}
-use Rattle.config_core.specs.Registers.{value, put, written, offered, after_write, after_error, register_at}
-use Rattle.config_core.specs.Changes.{Change, Write, Error, after_change}
+use Rattle.config_core.specs.Registers.{value, put, written, offered, after_write, after_error, after_poison, device_bits, register_at}
+use Rattle.config_core.specs.Changes.{Change, Write, Error, Poison, after_change}
 use Rattle.config_core.proofs.Bits.{part, still_set}
 use Rattle.config_core.proofs.Table.{IsConstant, constant_at}
 
@@ -100,14 +100,10 @@ put_setup r o new = elim (cases_Bool (o == 4)) [
   ]
 ]
 
-pub error_setup : (r : RegistersView) (error : Noted) → (after_error r error).setup ≡ r.setup
-error_setup r noted.UnsupportedRequest = refl
-error_setup r noted.FatalError = refl
-error_setup r noted.ParityError = refl
-
 pub change_setup : (r : RegistersView) (change : Change) → (after_change r change).setup ≡ r.setup
 change_setup r (Write o enables new) = put_setup r o (after_write (register_at r.setup o) enables (offered o new (value r o)) (value r o))
-change_setup r (Error error) = error_setup r error
+change_setup r (Error error) = refl
+change_setup r Poison = refl
 
 -- what a write of the register at o does to the one at p
 pub by_write : {P : Type 0} → (r : RegistersView) (o enables new p : ℕ) → ((o == p) ≡ false → value (written r o enables new) p ≡ value r p → P)
@@ -125,45 +121,46 @@ by_write {P = P} r o enables new p other fixed here = elim (cases_Bool (o == p))
 
 -- ---- an error
 
-unsupported_by : {P : Type 0} → (r : RegistersView) (p : ℕ) → (value (after_error r noted.UnsupportedRequest) p ≡ value r p → P) → (p ≡ 88 → P) → P
-unsupported_by r p other here = elim (cases_Bool (p == 88)) [
+error_by : {P : Type 0} → (r : RegistersView) (error : Noted) (p : ℕ) → (value (after_error r error) p ≡ value r p → P) → (p ≡ 88 → P) → P
+error_by r error p other here = elim (cases_Bool (p == 88)) [
   | inl same ↦ here (eqb-true p 88 same)
   | inr ne ↦ other (rw ne refl)
 ]
 
-fatal_by : {P : Type 0} → (r : RegistersView) (p : ℕ) → (value (after_error r noted.FatalError) p ≡ value r p → P) → (p ≡ 88 → P) → P
-fatal_by r p other here = elim (cases_Bool (p == 88)) [
-  | inl same ↦ here (eqb-true p 88 same)
-  | inr ne ↦ other (rw ne refl)
-]
-
-parity_by : {P : Type 0} → (r : RegistersView) (p : ℕ) → (value (after_error r noted.ParityError) p ≡ value r p → P) → (p ≡ 4 → P) → P
-parity_by r p other here = elim (cases_Bool (p == 4)) [
+poison_by : {P : Type 0} → (r : RegistersView) (p : ℕ) → (value (after_poison r) p ≡ value r p → P) → (p ≡ 4 → P) → P
+poison_by r p other here = elim (cases_Bool (p == 4)) [
   | inl same ↦ here (eqb-true p 4 same)
   | inr ne ↦ other (rw ne refl)
 ]
 
+-- its bits are among those that a 1 clears
+among : (error : Noted) → bit_and (device_bits error) 0x000F0000 ≡ device_bits error
+among noted.Refused = refl
+among noted.Unclaimed = refl
+among noted.Unexpected = refl
+among noted.Poisoned = refl
+among noted.Dropped = refl
+among noted.Fatal = refl
+
 -- an error leaves the bits that no 1 clears
 pub error_leaves : (r : RegistersView) (error : Noted) (p mask : ℕ) → bit_and (register_at r.setup p).cleared mask ≡ 0
     → bit_and (value (after_error r error) p) mask ≡ bit_and (value r p) mask
-error_leaves r noted.UnsupportedRequest p mask none = unsupported_by {P = bit_and (value (after_error r noted.UnsupportedRequest) p) mask ≡ bit_and (value r p) mask} r p (λ is. ap (λ v. bit_and v mask) is)
-    (λ is. subst (λ (k : ℕ). bit_and (value (after_error r noted.UnsupportedRequest) k) mask ≡ bit_and (value r k) mask) (sym is)
-    (and_or_apart mask r.device 0x00080000 (part 0x00080000 0x000F0000 mask refl (subst (λ (k : ℕ). bit_and (register_at r.setup k).cleared mask ≡ 0) is none))))
-error_leaves r noted.FatalError p mask none = fatal_by {P = bit_and (value (after_error r noted.FatalError) p) mask ≡ bit_and (value r p) mask} r p (λ is. ap (λ v. bit_and v mask) is)
-    (λ is. subst (λ (k : ℕ). bit_and (value (after_error r noted.FatalError) k) mask ≡ bit_and (value r k) mask) (sym is)
-    (and_or_apart mask r.device 0x00040000 (part 0x00040000 0x000F0000 mask refl (subst (λ (k : ℕ). bit_and (register_at r.setup k).cleared mask ≡ 0) is none))))
-error_leaves r noted.ParityError p mask none = parity_by {P = bit_and (value (after_error r noted.ParityError) p) mask ≡ bit_and (value r p) mask} r p (λ is. ap (λ v. bit_and v mask) is)
-    (λ is. subst (λ (k : ℕ). bit_and (value (after_error r noted.ParityError) k) mask ≡ bit_and (value r k) mask) (sym is)
+error_leaves r error p mask none = error_by {P = bit_and (value (after_error r error) p) mask ≡ bit_and (value r p) mask} r error p (λ is. ap (λ v. bit_and v mask) is)
+    (λ is. subst (λ (k : ℕ). bit_and (value (after_error r error) k) mask ≡ bit_and (value r k) mask) (sym is)
+    (and_or_apart mask r.device (device_bits error) (part (device_bits error) 0x000F0000 mask (among error) (subst (λ (k : ℕ). bit_and (register_at r.setup k).cleared mask ≡ 0) is none))))
+
+pub poison_leaves : (r : RegistersView) (p mask : ℕ) → bit_and (register_at r.setup p).cleared mask ≡ 0 → bit_and (value (after_poison r) p) mask ≡ bit_and (value r p) mask
+poison_leaves r p mask none = poison_by {P = bit_and (value (after_poison r) p) mask ≡ bit_and (value r p) mask} r p (λ is. ap (λ v. bit_and v mask) is)
+    (λ is. subst (λ (k : ℕ). bit_and (value (after_poison r) k) mask ≡ bit_and (value r k) mask) (sym is)
     (and_or_apart mask r.command 0x80000000 (part 0x80000000 0xF9000000 mask refl (subst (λ (k : ℕ). bit_and (register_at r.setup k).cleared mask ≡ 0) is none))))
 
 -- .. and clears none
 pub error_sets : (r : RegistersView) (error : Noted) (p mask : ℕ) → bit_and (value r p) mask ≡ mask → bit_and (value (after_error r error) p) mask ≡ mask
-error_sets r noted.UnsupportedRequest p mask set = unsupported_by {P = bit_and (value (after_error r noted.UnsupportedRequest) p) mask ≡ mask} r p (λ is. ap (λ v. bit_and v mask) is ∙ set)
-    (λ is. subst (λ (k : ℕ). bit_and (value (after_error r noted.UnsupportedRequest) k) mask ≡ mask) (sym is)
-    (still_set r.device 0x00080000 mask (subst (λ (k : ℕ). bit_and (value r k) mask ≡ mask) is set)))
-error_sets r noted.FatalError p mask set = fatal_by {P = bit_and (value (after_error r noted.FatalError) p) mask ≡ mask} r p (λ is. ap (λ v. bit_and v mask) is ∙ set)
-    (λ is. subst (λ (k : ℕ). bit_and (value (after_error r noted.FatalError) k) mask ≡ mask) (sym is)
-    (still_set r.device 0x00040000 mask (subst (λ (k : ℕ). bit_and (value r k) mask ≡ mask) is set)))
-error_sets r noted.ParityError p mask set = parity_by {P = bit_and (value (after_error r noted.ParityError) p) mask ≡ mask} r p (λ is. ap (λ v. bit_and v mask) is ∙ set)
-    (λ is. subst (λ (k : ℕ). bit_and (value (after_error r noted.ParityError) k) mask ≡ mask) (sym is)
+error_sets r error p mask set = error_by {P = bit_and (value (after_error r error) p) mask ≡ mask} r error p (λ is. ap (λ v. bit_and v mask) is ∙ set)
+    (λ is. subst (λ (k : ℕ). bit_and (value (after_error r error) k) mask ≡ mask) (sym is)
+    (still_set r.device (device_bits error) mask (subst (λ (k : ℕ). bit_and (value r k) mask ≡ mask) is set)))
+
+pub poison_sets : (r : RegistersView) (p mask : ℕ) → bit_and (value r p) mask ≡ mask → bit_and (value (after_poison r) p) mask ≡ mask
+poison_sets r p mask set = poison_by {P = bit_and (value (after_poison r) p) mask ≡ mask} r p (λ is. ap (λ v. bit_and v mask) is ∙ set)
+    (λ is. subst (λ (k : ℕ). bit_and (value (after_poison r) k) mask ≡ mask) (sym is)
     (still_set r.command 0x80000000 mask (subst (λ (k : ℕ). bit_and (value r k) mask ≡ mask) is set)))

@@ -103,11 +103,22 @@ abbrev pub written : RegistersView → ℕ → ℕ → ℕ → RegistersView
 written r offset enables new =
     put r offset (after_write (register_at r.setup offset) enables (offered offset new (value r offset)) (value r offset))
 
--- Device Status and Status: a bit for each kind of error
+-- Device Status: bit 19 Unsupported Request, 18 Fatal, 17 Non-Fatal, 16 Correctable Error Detected, which stands for the
+-- advisory ones, too
+abbrev pub device_bits : Noted → ℕ
+device_bits noted.Refused = 0x00090000
+device_bits noted.Unclaimed = 0x000A0000
+device_bits noted.Unexpected = 0x00010000
+device_bits noted.Poisoned = 0x00010000
+device_bits noted.Dropped = 0x00020000
+device_bits noted.Fatal = 0x00040000
+
 abbrev pub after_error : RegistersView → Noted → RegistersView
-after_error r noted.UnsupportedRequest = record r { device = bit_or r.device 0x00080000 }
-after_error r noted.FatalError = record r { device = bit_or r.device 0x00040000 }
-after_error r noted.ParityError = record r { command = bit_or r.command 0x80000000 }
+after_error r error = record r { device = bit_or r.device (device_bits error) }
+
+-- Status: Detected Parity Error
+abbrev pub after_poison : RegistersView → RegistersView
+after_poison r = record r { command = bit_or r.command 0x80000000 }
 
 -- ---- the memory's place
 

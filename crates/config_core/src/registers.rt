@@ -6,15 +6,38 @@ use crate::register::register_at;
 use crate::setup::Setup;
 use std::marker::Model;
 
-/// An error that a register reports.
+/// An error that Device Status reports, at 058h (section 7.5.3.5): bit 19 is Unsupported Request Detected, 18 Fatal, 17
+/// Non-Fatal and 16 Correctable Error Detected. An advisory error is told as a correctable one (section 6.2.3.2.4).
 #[derive(Clone, Copy)]
 pub enum Noted {
-    /// A request that the device doesn't support: Unsupported Request Detected, bit 19 of 058h.
-    UnsupportedRequest,
-    /// A malformed packet: Fatal Error Detected, bit 18 of 058h.
-    FatalError,
-    /// A poisoned packet: Detected Parity Error, bit 31 of 004h.
-    ParityError,
+    /// A non-posted request that the device doesn't support, which is completed so: bits 19 and 16, as it is advisory.
+    Refused,
+    /// A posted request or a message that the device doesn't support: bits 19 and 17.
+    Unclaimed,
+    /// A completion that nobody asked for: bit 16, as it is advisory.
+    Unexpected,
+    /// A poisoned non-posted request, which is completed as not supported: bit 16, as it is advisory.
+    Poisoned,
+    /// Poisoned data that is dropped: bit 17.
+    Dropped,
+    /// A malformed packet: bit 18.
+    Fatal,
+}
+
+impl Noted {
+    /// The bits of 058h that it sets.
+    pub fn bits(self) -> u32
+        ensures value { result ≡ spec.device_bits self }
+        ensures range { result < 2 ^ 32 }
+    {
+        match self {
+            Noted::Refused => 0x0009_0000,
+            Noted::Unclaimed => 0x000A_0000,
+            Noted::Unexpected | Noted::Poisoned => 0x0001_0000,
+            Noted::Dropped => 0x0002_0000,
+            Noted::Fatal => 0x0004_0000,
+        }
+    }
 }
 
 /// The values of the registers that change. The others are those of the table.
@@ -150,15 +173,18 @@ impl Registers {
         );
     }
 
-    /// Reports an error in its bit.
+    /// Reports an error in its bits.
     pub fn note(&mut self, error: Noted)
         ensures { self.new ≡ spec.after_error self.old error }
     {
-        match error {
-            Noted::UnsupportedRequest => self.device |= 0x0008_0000,
-            Noted::FatalError => self.device |= 0x0004_0000,
-            Noted::ParityError => self.command |= 0x8000_0000,
-        }
+        self.device |= error.bits();
+    }
+
+    /// Reports that poisoned data came: Detected Parity Error, bit 31 of 004h (section 7.5.1.1.4).
+    pub fn note_poison(&mut self)
+        ensures { self.new ≡ spec.after_poison self.old }
+    {
+        self.command |= 0x8000_0000;
     }
 
     /// Whether the memory answers: Memory Space Enable is 1, and PowerState is D0.

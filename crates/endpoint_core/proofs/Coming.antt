@@ -107,23 +107,23 @@ of_configuration : (p : Bool) (r : Result CfgRequest CfgFault) → Asks (classes
 of_configuration p (Err f) = malformed _
 of_configuration p (Ok r) = either p _ _ (refused _ _) (configures r)
 
-of_io : (p : Bool) (b : List ℕ) → Asks (classes.of_io p b)
-of_io p b =
+of_io : (b : List ℕ) → Asks (classes.of_io b)
+of_io b =
     either (nat_lt (length b) 12) _ _ (malformed (faulty.Packet faults.Short))
-    (either (not (length b == classes.io_size (slice_index b 0)) || not (dw_count b == 1)) _ _ (malformed (faulty.Packet faults.LengthMismatch)) (refused (classes.descriptor_at b) (classes.error_of p)))
+    (either (not (length b == classes.io_size (slice_index b 0)) || not (dw_count b == 1)) _ _ (malformed (faulty.Packet faults.LengthMismatch)) (refused (classes.descriptor_at b) noted.Refused))
 
 of_message : (p : Bool) (b : List ℕ) → Asks (classes.of_message p b)
 of_message p b =
     either (nat_lt (length b) 16) _ _ (malformed (faulty.Packet faults.Short))
     (either (not (length b - 16 == classes.message_data b)) _ _ (malformed (faulty.Packet faults.LengthMismatch))
     (either (nat_lt 128 (classes.message_data b)) _ _ (malformed (faulty.Packet faults.PayloadTooLong))
-    (either p _ _ (unsupported noted.ParityError)
-    (either (classes.is_ignored (slice_index b 7)) _ _ ignored (unsupported noted.UnsupportedRequest)))))
+    (either (not (classes.is_ignored (slice_index b 7))) _ _ (unsupported noted.Unclaimed)
+    (either p _ _ (unsupported noted.Dropped) ignored))))
 
 of_plain : (p : Bool) (b : List ℕ) → Asks (classes.of_plain p b)
 of_plain p b =
     either (configuration.is_kind (slice_index b 0)) _ _ (of_configuration p (configuration.reading b))
-    (either (classes.is_io (slice_index b 0)) _ _ (of_io p b)
+    (either (classes.is_io (slice_index b 0)) _ _ (of_io b)
     (either (classes.is_message (slice_index b 0)) _ _ (of_message p b)
     (of_packet p b (first_fault b) (kind_of (slice_index b 0)))))
 

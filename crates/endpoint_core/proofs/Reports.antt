@@ -1,25 +1,27 @@
 -- The registers are what writes and errors make of them.
-use Rattle.std.proofs.Common.{◌≡◌, ◌∙◌, ℕ, Bool, true, false, List, [], ◌∷◌, Option, Some, None, cond, refl, ap, sym}
+use Rattle.std.proofs.Common.{◌≡◌, ◌∙◌, ℕ, Bool, true, false, List, [], ◌∷◌, ◌++◌, Option, Some, None, cond, refl, ap, sym}
 use Rattle.std.specs.Prelude.{not}
 use Rattle.std.proofs.lemmas.List.Sums.{fold-append}
 use Rattle.tlp_core.specs.Ops.{Op}
 use Rattle.tlp_core.specs.Operation.{op_of}
 use Rattle.config_core.specs.RegistersView.{RegistersView}
+use Rattle.config_core.specs.Registers.{after_poison}
+use Rattle.config_core.specs.declared.registers.Noted.TheVariants as noted
 use Rattle.config_core.specs.declared.request.CfgRequest.{CfgRequest}
 use Rattle.endpoint_core.specs.declared.received.Received.{Received}
 use Rattle.endpoint_core.specs.declared.received.Received.TheVariants as received
-use Rattle.endpoint_core.specs.Classes.{becomes}
+use Rattle.endpoint_core.specs.Classes.{becomes, carries_poison}
 use Rattle.endpoint_core.specs.declared.waiting.Waiting.{Waiting}
 use Rattle.endpoint_core.specs.declared.waiting.Waiting.TheVariants as waits
 use Rattle.endpoint_core.specs.EndpointView.{DeviceView, EndpointView}
-use Rattle.endpoint_core.specs.Steps.{base_of_op, posted, posted_at, memory_acted, acted_at, configured, is_supported, acted_on, taken_as}
-use Rattle.endpoint_core.specs.Runs.{Call, Take, Act, Reset, after_call, after_calls, RegisterEffect, after_effect, report_at, report_op, register_effects_as, configuration_effects, register_effects_by, register_effects, all_of, all_register_effects, registers_by}
+use Rattle.endpoint_core.specs.Steps.{base_of_op, posted, posted_at, memory_acted, acted_at, configured, is_supported, acted_on, taken_as, with_poison}
+use Rattle.endpoint_core.specs.Runs.{Call, Take, Act, Reset, after_call, after_calls, RegisterEffect, after_effect, report_at, report_op, register_effects_as, configuration_effects, register_effects_by, register_effects, all_of, all_register_effects, registers_by, Poison, poison_effects}
 
-posted_reports : (d : DeviceView) (op : Op) (o : Option ℕ) → (posted_at d op o).registers ≡ registers_by d.registers (report_at o)
+posted_reports : (d : DeviceView) (op : Op) (o : Option ℕ) → (posted_at d op o).registers ≡ registers_by d.registers (report_at noted.Unclaimed o)
 posted_reports d op (Some base) = refl
 posted_reports d op None = refl
 
-posted_by : (d : DeviceView) (o : Option Op) → (posted d o).registers ≡ registers_by d.registers (report_op d o)
+posted_by : (d : DeviceView) (o : Option Op) → (posted d o).registers ≡ registers_by d.registers (report_op d noted.Unclaimed o)
 posted_by d (Some op) = posted_reports d op (base_of_op d op)
 posted_by d None = refl
 
@@ -33,11 +35,11 @@ taken_reports e received.Ignored = refl
 taken_reports e received.Unexpected = refl
 taken_reports e (received.Malformed f) = refl
 
-acted_reports : (d : DeviceView) (op : Op) (o : Option ℕ) → (acted_at d op o).registers ≡ registers_by d.registers (report_at o)
+acted_reports : (d : DeviceView) (op : Op) (o : Option ℕ) → (acted_at d op o).registers ≡ registers_by d.registers (report_at noted.Refused o)
 acted_reports d op (Some base) = refl
 acted_reports d op None = refl
 
-memory_reports : (d : DeviceView) (o : Option Op) → (memory_acted d o).registers ≡ registers_by d.registers (report_op d o)
+memory_reports : (d : DeviceView) (o : Option Op) → (memory_acted d o).registers ≡ registers_by d.registers (report_op d noted.Refused o)
 memory_reports d (Some op) = acted_reports d op (base_of_op d op)
 memory_reports d None = refl
 
@@ -54,8 +56,13 @@ head_reports e (waits.Memory t ∷ ws) = memory_reports e.device (op_of t)
 head_reports e (waits.Configuration r ∷ ws) = configured_reports e.device r
 head_reports e (waits.Refused d n ∷ ws) = refl
 
+poisoned : (came : Bool) (d : DeviceView) (r : RegistersView) (es : List RegisterEffect) → d.registers ≡ registers_by r es
+    → (with_poison came d).registers ≡ registers_by r (es ++ poison_effects came)
+poisoned true d r es is = ap after_poison is ∙ sym (fold-append after_effect r es (Poison ∷ []))
+poisoned false d r es is = is ∙ sym (fold-append after_effect r es [])
+
 call_reports : (e : EndpointView) (c : Call) → (after_call e c).device.registers ≡ registers_by e.device.registers (register_effects e c)
-call_reports e (Take b) = taken_reports e (becomes b)
+call_reports e (Take b) = poisoned (carries_poison b) (taken_as e (becomes b)).device e.device.registers (register_effects_as e.device (becomes b)) (taken_reports e (becomes b))
 call_reports e Act = head_reports e e.waiting
 call_reports e Reset = refl
 

@@ -1,5 +1,5 @@
 -- Lists of calls of a device: the requests that come, wait, act and are completed, and what is done to the registers.
-use Rattle.std.specs.Prelude.{ℕ, List, [], ◌∷◌, ◌++◌, fold, map, flat_map, Option, Some, None, ◌%◌, ◌==◌, not, if◌then◌else◌}
+use Rattle.std.specs.Prelude.{ℕ, Bool, List, [], ◌∷◌, ◌++◌, fold, map, flat_map, Option, Some, None, ◌%◌, ◌==◌, not, if◌then◌else◌}
 use Rattle.seq_memory.specs.declared.limits.TheConstants.{LARGE_BLOCK}
 use Rattle.tlp_core.specs.Ops.{Op}
 use Rattle.tlp_core.specs.Operation.{op_of}
@@ -7,12 +7,12 @@ use Rattle.seq_memory.specs.Step.{after}
 use Rattle.config_core.specs.declared.registers.Noted.{Noted}
 use Rattle.config_core.specs.declared.registers.Noted.TheVariants as noted
 use Rattle.config_core.specs.RegistersView.{RegistersView}
-use Rattle.config_core.specs.Registers.{after_error, after_reset, written}
+use Rattle.config_core.specs.Registers.{after_error, after_poison, after_reset, written}
 use Rattle.config_core.specs.declared.request.CfgRequest.{CfgRequest}
 use Rattle.endpoint_core.specs.DescriptorView.{DescriptorView}
 use Rattle.endpoint_core.specs.declared.received.Received.{Received}
 use Rattle.endpoint_core.specs.declared.received.Received.TheVariants as received
-use Rattle.endpoint_core.specs.Classes.{becomes, descriptor_of, descriptor_for}
+use Rattle.endpoint_core.specs.Classes.{becomes, carries_poison, descriptor_of, descriptor_for}
 use Rattle.endpoint_core.specs.declared.waiting.Waiting.{Waiting}
 use Rattle.endpoint_core.specs.declared.waiting.Waiting.TheVariants as waits
 use Rattle.endpoint_core.specs.EndpointView.{DeviceView, EndpointView}
@@ -173,42 +173,49 @@ pub data RegisterEffect : Type 0 where
   Write : ℕ → ℕ → ℕ → RegisterEffect
   -- an error is reported
   Report : Noted → RegisterEffect
+  -- poisoned data came
+  Poison : RegisterEffect
   -- all registers are what they are after a reset
   Restore : RegisterEffect
 
 abbrev pub after_effect : RegistersView → RegisterEffect → RegistersView
 after_effect r (Write offset enables new) = written r offset enables new
 after_effect r (Report n) = after_error r n
+after_effect r Poison = after_poison r
 after_effect r Restore = after_reset r.setup
 
 -- a request that isn't claimed is reported
-abbrev pub report_at : Option ℕ → List RegisterEffect
-report_at (Some base) = []
-report_at None = Report noted.UnsupportedRequest ∷ []
+abbrev pub report_at : Noted → Option ℕ → List RegisterEffect
+report_at n (Some base) = []
+report_at n None = Report n ∷ []
 
-abbrev pub report_op : DeviceView → Option Op → List RegisterEffect
-report_op d (Some op) = report_at (base_of_op d op)
-report_op d None = []
+abbrev pub report_op : DeviceView → Noted → Option Op → List RegisterEffect
+report_op d n (Some op) = report_at n (base_of_op d op)
+report_op d n None = []
 
 abbrev pub register_effects_as : DeviceView → Received → List RegisterEffect
-register_effects_as d (received.Posted t) = report_op d (op_of t)
+register_effects_as d (received.Posted t) = report_op d noted.Unclaimed (op_of t)
 register_effects_as d (received.Unsupported n) = Report n ∷ []
-register_effects_as d (received.Malformed f) = Report noted.FatalError ∷ []
+register_effects_as d received.Unexpected = Report noted.Unexpected ∷ []
+register_effects_as d (received.Malformed f) = Report noted.Fatal ∷ []
 register_effects_as d _ = []
 
 abbrev pub configuration_effects : CfgRequest → List RegisterEffect
 configuration_effects r =
-    if not (is_supported r) then Report noted.UnsupportedRequest ∷ []
+    if not (is_supported r) then Report noted.Refused ∷ []
     else (if r.writes then Write r.register (r.enables % 16) r.value ∷ [] else [])
 
 abbrev pub register_effects_by : DeviceView → List Waiting → List RegisterEffect
 register_effects_by d [] = []
-register_effects_by d (waits.Memory t ∷ ws) = report_op d (op_of t)
+register_effects_by d (waits.Memory t ∷ ws) = report_op d noted.Refused (op_of t)
 register_effects_by d (waits.Configuration r ∷ ws) = configuration_effects r
 register_effects_by d (waits.Refused c n ∷ ws) = Report n ∷ []
 
+abbrev pub poison_effects : Bool → List RegisterEffect
+poison_effects poisoned = if poisoned then Poison ∷ [] else []
+
 abbrev pub register_effects : EndpointView → Call → List RegisterEffect
-register_effects e (Take b) = register_effects_as e.device (becomes b)
+register_effects e (Take b) = register_effects_as e.device (becomes b) ++ poison_effects (carries_poison b)
 register_effects e Act = register_effects_by e.device e.waiting
 register_effects e Reset = Restore ∷ []
 

@@ -20,12 +20,13 @@ use Rattle.flow_control.specs.Needs.{completion_need}
 use Rattle.config_core.specs.declared.registers.Noted.{Noted}
 use Rattle.config_core.specs.declared.registers.Noted.TheVariants as noted
 use Rattle.config_core.specs.SetupView.{SetupView}
-use Rattle.config_core.specs.Registers.{after_reset, after_error, written, value, claimed, base_of}
+use Rattle.config_core.specs.Registers.{after_reset, after_error, after_poison, written, value, claimed, base_of}
 use Rattle.config_core.specs.declared.request.CfgRequest.{CfgRequest}
 use Rattle.endpoint_core.specs.DescriptorView.{DescriptorView}
 use Rattle.endpoint_core.specs.declared.received.Received.{Received}
 use Rattle.endpoint_core.specs.declared.received.Received.TheVariants as received
-use Rattle.endpoint_core.specs.Classes.{becomes, descriptor_of, descriptor_for}
+use Rattle.endpoint_core.specs.Classes.{becomes, carries_poison, descriptor_of, descriptor_for}
+pub use Rattle.endpoint_core.specs.Classes.{is_supported}
 use Rattle.endpoint_core.specs.declared.waiting.Waiting.{Waiting}
 use Rattle.endpoint_core.specs.declared.waiting.Waiting.TheVariants as waits
 use Rattle.endpoint_core.specs.declared.endpoint.Handled.{Handled}
@@ -39,6 +40,10 @@ new_device s bytes = record { registers = after_reset s; completer = 0; bytes = 
 -- an error is reported
 abbrev pub noting : DeviceView → Noted → DeviceView
 noting d n = record d { registers = after_error d.registers n }
+
+-- where poisoned data came, Status tells so
+abbrev pub with_poison : Bool → DeviceView → DeviceView
+with_poison came d = record d { registers = if came then after_poison d.registers else d.registers }
 
 -- ---- memory requests
 
@@ -61,7 +66,7 @@ after_all base m ops = fold (λ m op. after base LARGE_BLOCK m op) m ops
 -- a posted request that is claimed acts, block by block
 abbrev pub posted_at : DeviceView → Op → Option ℕ → DeviceView
 posted_at d op (Some base) = record d { bytes = after_all base d.bytes (blocks_of op) }
-posted_at d op None = noting d noted.UnsupportedRequest
+posted_at d op None = noting d noted.Unclaimed
 
 abbrev pub posted : DeviceView → Option Op → DeviceView
 posted d (Some op) = posted_at d op (base_of_op d op)
@@ -90,7 +95,7 @@ behind n t = record t { length = t.length - n; body = body_behind n t.length t.b
 -- the first block request of a claimed request acts
 abbrev pub acted_at : DeviceView → Op → Option ℕ → DeviceView
 acted_at d op (Some base) = record d { bytes = after base LARGE_BLOCK d.bytes (first_block op) }
-acted_at d op None = noting d noted.UnsupportedRequest
+acted_at d op None = noting d noted.Refused
 
 abbrev pub memory_acted : DeviceView → Option Op → DeviceView
 memory_acted d (Some op) = acted_at d op (base_of_op d op)
@@ -140,17 +145,13 @@ abbrev pub completion_with : DescriptorView → ℕ → ℕ → TlpView
 completion_with d id word =
     record { kind = kinds.CompletionData; tc = d.tc; attr = d.attr; length = 1; requester = d.requester; tag = d.tag; body = bodies.Completion id statuses.Success 4 0; payload = little_bytes 4 word }
 
--- of Type 0, to function 0
-abbrev pub is_supported : CfgRequest → Bool
-is_supported r = not r.is_type_1 && (r.function == 0)
-
 -- bus and device number of a write, of function 0
 abbrev pub captured : CfgRequest → ℕ
 captured r = r.bus * 256 + r.device % 32 * 8
 
 abbrev pub configured : DeviceView → CfgRequest → DeviceView
 configured d r =
-    if not (is_supported r) then noting d noted.UnsupportedRequest
+    if not (is_supported r) then noting d noted.Refused
     else (if r.writes then record d { registers = written d.registers r.register (r.enables % 16) r.value; completer = captured r }
     else d)
 
@@ -247,12 +248,12 @@ taken_as e (received.Configuration r) = queued e (waits.Configuration r)
 taken_as e (received.Refused d n) = queued e (waits.Refused d n)
 taken_as e (received.Unsupported n) = on_device e (noting e.device n)
 taken_as e received.Ignored = e
-taken_as e received.Unexpected = e
-taken_as e (received.Malformed f) = on_device e (noting e.device noted.FatalError)
+taken_as e received.Unexpected = on_device e (noting e.device noted.Unexpected)
+taken_as e (received.Malformed f) = on_device e (noting e.device noted.Fatal)
 
 -- after a TLP of these bytes came
 abbrev pub taken : EndpointView → List ℕ → EndpointView
-taken e b = taken_as e (becomes b)
+taken e b = on_device (taken_as e (becomes b)) (with_poison (carries_poison b) (taken_as e (becomes b)).device)
 
 -- the BAR claims what it asks for
 abbrev pub is_claimed : DeviceView → Option Op → Bool

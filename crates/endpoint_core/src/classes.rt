@@ -1,5 +1,5 @@
 //! Which TLP it is.
-ghost use Rattle.std.specs.Prelude.{◌≡◌, ◌≤◌, ◌==◌, length, slice_index};
+ghost use Rattle.std.specs.Prelude.{◌≡◌, ◌≤◌, ◌==◌, ◌&&◌, Ok, length, not, slice_index, true};
 ghost use Rattle.config_core.specs.Layout.{is_kind, reading as cfg_reading};
 ghost use Rattle.tlp_core.specs.Faults.{reading};
 ghost use Rattle.tlp_core.specs.Layout.{dw_count};
@@ -10,14 +10,59 @@ use byteorder::{BigEndian, ByteOrder};
 use config_core::{CfgRequest, Noted};
 use tlp_core::{Body, Kind, MAX_PAYLOAD, TlpFault, TlpRef};
 
-/// The bytes without TD and EP, and without a digest.
+/// Fmt and Type, where a locked completion is a completion.
+fn plain_code(code: u8) -> u8
+    ensures { result ≡ spec.plain_code code }
+{
+    match code {
+        0x0B => 0x0A,
+        0x4B => 0x4A,
+        _ => code,
+    }
+}
+
+/// Byte 1 without what a receiver ignores there.
+fn plain_hints(bytes: &[u8]) -> u8
+    requires { 12 ≤ length bytes.now }
+    ensures { result ≡ spec.plain_hints bytes.now }
+{
+    let hints = bytes[1];
+    let tc = hints / 16 % 8 * 16;
+    if is_configuration(bytes[0]) {
+        tc
+    } else {
+        tc + hints / 4 % 2 * 4
+    }
+}
+
+/// A memory read.
+fn is_read(code: u8) -> bool
+    ensures { result ≡ spec.is_read code }
+{
+    matches!(code, 0x00 | 0x20)
+}
+
+/// Byte 7, in place of a read's Steering Tag the enables of all its bytes.
+fn plain_enables(bytes: &[u8]) -> u8
+    requires { 12 ≤ length bytes.now }
+    ensures { result ≡ spec.plain_enables bytes.now }
+{
+    if !is_read(bytes[0]) || bytes[1] % 2 == 0 {
+        return bytes[7];
+    }
+    if dw_at(bytes) == 1 { 0x0F } else { 0xFF }
+}
+
+/// The bytes without what a receiver ignores, and without a digest.
 fn plain<'r>(bytes: &'r [u8], room: &'r mut PacketRoom) -> &'r [u8]
     requires some { 12 ≤ length bytes.now }
     requires few { length bytes.now ≤ 148 }
     ensures { result.now ≡ spec.plain bytes.now }
 {
+    let code = plain_code(bytes[0]);
+    let hints = plain_hints(bytes);
     let byte = bytes[2];
-    if byte / 64 == 0 {
+    if byte / 64 == 0 && hints == bytes[1] && code == bytes[0] {
         return bytes;
     }
     let end = if byte / 128 == 1 {
@@ -25,9 +70,13 @@ fn plain<'r>(bytes: &'r [u8], room: &'r mut PacketRoom) -> &'r [u8]
     } else {
         bytes.len()
     };
+    let enables = plain_enables(bytes);
     let place = &mut room.bytes[..end];
     place.copy_from_slice(&bytes[..end]);
+    place[0] = code;
+    place[1] = hints;
     place[2] = byte % 64;
+    place[7] = enables;
     place
 }
 
@@ -35,17 +84,7 @@ fn is_poisoned(bytes: &[u8]) -> bool
     requires { 12 ≤ length bytes.now }
     ensures { result ≡ spec.is_poisoned bytes.now }
 {
-    bytes[2] / 64 % 2 == 1
-}
-
-fn error_of(poisoned: bool) -> Noted
-    ensures { result ≡ spec.error_of poisoned }
-{
-    if poisoned {
-        Noted::ParityError
-    } else {
-        Noted::UnsupportedRequest
-    }
+    bytes[0] / 64 % 2 == 1 && bytes[2] / 64 % 2 == 1
 }
 
 /// Length, in DW.
@@ -100,10 +139,9 @@ fn poisoned_by_kind<'a>(packet: &TlpRef<'_>) -> Received<'a>
     ensures { result ≡ spec.poisoned_by_kind packet.now.kind packet.now }
 {
     match packet.header.kind {
-        Kind::MemoryWrite | Kind::Completion | Kind::CompletionData => {
-            Received::Unsupported(Noted::ParityError)
-        }
-        _ => Received::Refused(descriptor_of(packet), Noted::ParityError),
+        Kind::MemoryWrite => Received::Unsupported(Noted::Dropped),
+        Kind::Completion | Kind::CompletionData => Received::Unexpected,
+        _ => Received::Refused(descriptor_of(packet), Noted::Poisoned),
     }
 }
 
@@ -136,14 +174,31 @@ pub(crate) fn descriptor_for(request: &CfgRequest) -> Descriptor
     }
 }
 
+/// Of Type 0, to function 0.
+pub(crate) fn is_supported(request: &CfgRequest) -> bool
+    ensures { result ≡ spec.is_supported request.now }
+{
+    !request.is_type_1 && request.function == 0
+}
+
+/// A poisoned configuration request.
+fn poisoned_configuration<'a>(request: &CfgRequest) -> Received<'a>
+    ensures { result ≡ spec.of_configuration true (Ok request.now) }
+{
+    let error = if is_supported(request) {
+        Noted::Poisoned
+    } else {
+        Noted::Refused
+    };
+    Received::Refused(descriptor_for(request), error)
+}
+
 fn of_configuration<'a>(poisoned: bool, bytes: &[u8]) -> Received<'a>
     ensures { result ≡ spec.of_configuration poisoned (cfg_reading bytes.now) }
 {
     match config_core::decode(bytes) {
         Err(fault) => Received::Malformed(Malformed::Configuration(fault)),
-        Ok(request) if poisoned => {
-            Received::Refused(descriptor_for(&request), Noted::ParityError)
-        }
+        Ok(request) if poisoned => poisoned_configuration(&request),
         Ok(request) => Received::Configuration(request),
     }
 }
@@ -167,8 +222,8 @@ fn descriptor_at(bytes: &[u8]) -> Descriptor
 }
 
 /// An I/O request.
-fn of_io<'a>(poisoned: bool, bytes: &[u8]) -> Received<'a>
-    ensures { result ≡ spec.of_io poisoned bytes.now }
+fn of_io<'a>(bytes: &[u8]) -> Received<'a>
+    ensures { result ≡ spec.of_io bytes.now }
 {
     if bytes.len() < 12 {
         return malformed(TlpFault::Short);
@@ -177,7 +232,7 @@ fn of_io<'a>(poisoned: bool, bytes: &[u8]) -> Received<'a>
     if bytes.len() != size || dw_at(bytes) != 1 {
         return malformed(TlpFault::LengthMismatch);
     }
-    Received::Refused(descriptor_at(bytes), error_of(poisoned))
+    Received::Refused(descriptor_at(bytes), Noted::Refused)
 }
 
 fn is_ignored(code: u8) -> bool
@@ -185,7 +240,7 @@ fn is_ignored(code: u8) -> bool
 {
     matches!(
         code,
-        0x40 | 0x41 | 0x43 | 0x44 | 0x45 | 0x47 | 0x48 | 0x50 | 0x7F
+        0x00 | 0x40 | 0x41 | 0x43 | 0x44 | 0x45 | 0x47 | 0x48 | 0x50 | 0x7F
     )
 }
 
@@ -214,13 +269,13 @@ fn of_message<'a>(poisoned: bool, bytes: &[u8]) -> Received<'a>
     if usize::from(data) > MAX_PAYLOAD {
         return malformed(TlpFault::PayloadTooLong);
     }
-    if poisoned {
-        return Received::Unsupported(Noted::ParityError);
+    if !is_ignored(bytes[7]) {
+        return Received::Unsupported(Noted::Unclaimed);
     }
-    if is_ignored(bytes[7]) {
-        Received::Ignored
+    if poisoned {
+        Received::Unsupported(Noted::Dropped)
     } else {
-        Received::Unsupported(Noted::UnsupportedRequest)
+        Received::Ignored
     }
 }
 
@@ -251,7 +306,7 @@ fn of_plain(poisoned: bool, bytes: &[u8]) -> Received<'_>
         return of_configuration(poisoned, bytes);
     }
     if is_io(code) {
-        return of_io(poisoned, bytes);
+        return of_io(bytes);
     }
     if is_message(code) {
         return of_message(poisoned, bytes);
@@ -271,4 +326,15 @@ pub fn receive<'r>(bytes: &'r [u8], room: &'r mut PacketRoom) -> Received<'r>
     }
     let poisoned = is_poisoned(bytes);
     of_plain(poisoned, plain(bytes, room))
+}
+
+/// Whether poisoned data comes in the TLP of which this becomes.
+pub(crate) fn carries_poison(bytes: &[u8], received: &Received<'_>) -> bool
+    requires { received.now ≡ spec.becomes bytes.now }
+    ensures { result ≡ spec.carries_poison bytes.now }
+{
+    if matches!(received, Received::Malformed(_)) || bytes.len() < 12 {
+        return false;
+    }
+    is_poisoned(bytes)
 }

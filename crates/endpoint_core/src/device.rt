@@ -7,7 +7,7 @@ ghost use Rattle.endpoint_core.specs.Steps as spec;
 ghost use Rattle.endpoint_core.specs.Blocks as blocks;
 
 use crate::Descriptor;
-use crate::classes::descriptor_for;
+use crate::classes::{descriptor_for, is_supported};
 use crate::completions::{Place, answer_first, refused, with_word, without_data};
 use crate::requests::{act_all, block_bytes, dw_in_front};
 use crate::waiting::Waiting;
@@ -77,13 +77,6 @@ fn zeros(alloc: Global, size: u32) -> Result<Vec<u8>, AllocError>
     vec![in alloc; 0u8; size as usize]
 }
 
-/// Of Type 0, to function 0.
-fn is_supported(request: &CfgRequest) -> bool
-    ensures { result ≡ spec.is_supported request.now }
-{
-    !request.is_type_1 && request.function == 0
-}
-
 /// The Completer ID that a write gives.
 fn captured(request: &CfgRequest) -> u16
     ensures { result ≡ spec.captured request.now }
@@ -126,6 +119,15 @@ impl Device {
         self.registers.note(error);
     }
 
+    /// Reports that poisoned data came, if it did.
+    pub(crate) fn note_poison(&mut self, poisoned: bool)
+        ensures { self.new ≡ spec.with_poison poisoned self.old }
+    {
+        if poisoned {
+            self.registers.note_poison();
+        }
+    }
+
     /// The address of the memory's first byte, if the BAR claims a place of so many bytes.
     pub(crate) fn base_for(&self, address: u64, bytes: u32) -> Option<u64>
         ensures value { result ≡ spec.base_for self.now address bytes }
@@ -150,7 +152,7 @@ impl Device {
             return true;
         };
         let Some(base) = self.base_for(op.address(), op.size()) else {
-            self.note(Noted::UnsupportedRequest);
+            self.note(Noted::Unclaimed);
             return false;
         };
         act_all(base, &mut self.bytes, &op, room);
@@ -194,7 +196,7 @@ impl Device {
         };
         let completer = self.completer;
         let Some(base) = self.base_for(op.address(), op.size()) else {
-            self.note(Noted::UnsupportedRequest);
+            self.note(Noted::Refused);
             return whole(refused(request, completer));
         };
         let done = dw_in_front(&op);
@@ -212,7 +214,7 @@ impl Device {
     {
         let descriptor = descriptor_for(request);
         if !is_supported(request) {
-            self.note(Noted::UnsupportedRequest);
+            self.note(Noted::Refused);
             return without_data(descriptor, self.completer, Status::Unsupported, 4);
         }
         if !request.writes {

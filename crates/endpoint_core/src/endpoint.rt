@@ -1,14 +1,18 @@
 //! A device and its queue of non-posted requests.
 ghost use Rattle.std.specs.Prelude.{◌≡◌, ◌+◌, ◌≤◌, ◌^◌, length, IfOk, IfSome, IsErr, OnSome, OnOk, OnErr};
 ghost use Rattle.tlp_core.specs.Operation.{address_of, count_of};
+ghost use Rattle.tlp_core.specs.TlpView.{TlpView};
+ghost use Rattle.tlp_core.specs.declared.packet.Kind.{Kind};
 ghost use Rattle.endpoint_core.specs.Steps as spec;
 ghost use Rattle.endpoint_core.specs.Blocks as blocks;
 
+use crate::classes::{carries_poison, receive};
 use crate::device::{Device, Room};
+use crate::received::{Malformed, Received};
 use crate::waiting::{MemoryRequest, Waiting, go_on};
-use crate::{Malformed, Received, receive};
 use config_core::{Noted, Setup};
 use flow_control::Need;
+use seq_memory::ReplyData;
 use std::alloc::{AllocError, Global};
 use std::collections::VecDeque;
 use std::marker::Model;
@@ -82,17 +86,23 @@ impl Endpoint {
         Ok(Handled::Waits)
     }
 
-    /// What the bytes of a TLP do when it comes: a posted request acts, a non-posted one waits, and an error is reported.
-    /// Fails only where there is no memory for a request that would wait, and then nothing changed.
-    pub fn take(&mut self, tlp: &[u8], room: &mut Room) -> Result<Handled, AllocError>
-        ensures ok { OnOk result (self.new ≡ spec.taken self.old tlp.now) }
-        ensures answer { IfOk result (λ h. h ≡ spec.handled self.old tlp.now) }
-        ensures no_memory { IsErr result → spec.handled self.old tlp.now ≡ Handled.Waits }
+    /// What a TLP does of which this becomes.
+    #[inline(always)]
+    fn take_as(
+        &mut self,
+        received: Received<'_>,
+        room: &mut ReplyData,
+    ) -> Result<Handled, AllocError>
+        requires posted { (t : TlpView) → received ≡ Received.Posted t → t.kind ≡ Kind.MemoryWrite }
+        requires non_posted { (t : TlpView) → received ≡ Received.NonPosted t → blocks.IsNonPosted t.kind }
+        ensures ok { OnOk result (self.new ≡ spec.taken_as self.old received.entry) }
+        ensures answer { IfOk result (λ h. h ≡ spec.handled_as self.old.device received.entry) }
+        ensures no_memory { IsErr result → spec.handled_as self.old.device received.entry ≡ Handled.Waits }
         ensures err { OnErr result (self.new ≡ self.old) }
     {
-        match receive(tlp, &mut room.packet) {
+        match received {
             Received::Posted(request) => {
-                if self.device.post(&request, &mut room.data) {
+                if self.device.post(&request, room) {
                     Ok(Handled::Done)
                 } else {
                     Ok(Handled::Unsupported)
@@ -110,12 +120,30 @@ impl Endpoint {
                 Ok(Handled::Unsupported)
             }
             Received::Ignored => Ok(Handled::Ignored),
-            Received::Unexpected => Ok(Handled::Unexpected),
+            Received::Unexpected => {
+                self.device.note(Noted::Unexpected);
+                Ok(Handled::Unexpected)
+            }
             Received::Malformed(fault) => {
-                self.device.note(Noted::FatalError);
+                self.device.note(Noted::Fatal);
                 Ok(Handled::Malformed(fault))
             }
         }
+    }
+
+    /// What the bytes of a TLP do when it comes: a posted request acts, a non-posted one waits, and an error is reported.
+    /// Fails only where there is no memory for a request that would wait, and then nothing changed.
+    pub fn take(&mut self, tlp: &[u8], room: &mut Room) -> Result<Handled, AllocError>
+        ensures ok { OnOk result (self.new ≡ spec.taken self.old tlp.now) }
+        ensures answer { IfOk result (λ h. h ≡ spec.handled self.old tlp.now) }
+        ensures no_memory { IsErr result → spec.handled self.old tlp.now ≡ Handled.Waits }
+        ensures err { OnErr result (self.new ≡ self.old) }
+    {
+        let received = receive(tlp, &mut room.packet);
+        let poisoned = carries_poison(tlp, &received);
+        let handled = self.take_as(received, &mut room.data)?;
+        self.device.note_poison(poisoned);
+        Ok(handled)
     }
 
     /// The oldest request that waits acts, a read by one block of 128 bytes. Its completion lends its payload from the room.

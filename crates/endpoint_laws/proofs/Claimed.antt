@@ -18,11 +18,10 @@ use Rattle.op_pieces.specs.Pieces.{dw_to, front}
 use Rattle.completer_core.specs.Completion.{completion, completion_of, unless_posted}
 use Rattle.config_core.specs.SetupView.{SetupView}
 use Rattle.config_core.specs.RegistersView.{RegistersView}
-use Rattle.config_core.specs.Registers.{base_of, is_on, after_error}
-use Rattle.config_core.specs.declared.registers.Noted.{Noted}
+use Rattle.config_core.specs.Registers.{base_of, is_on}
 use Rattle.endpoint_core.specs.EndpointView.{DeviceView}
-use Rattle.endpoint_core.specs.Steps.{base_of_op, dw_before_end, dw_in_front, first_block, body_behind, behind, completion_at, from, noting}
-use Rattle.endpoint_laws.proofs.Registers.{error_on, error_base}
+use Rattle.endpoint_core.specs.Steps.{base_of_op, dw_before_end, dw_in_front, first_block, body_behind, behind, completion_at, from}
+use Rattle.endpoint_laws.proofs.Registers.{KeepsPlace}
 use Rattle.endpoint_laws.proofs.Served.{IsPlace}
 
 -- ---- what the BAR claims
@@ -77,15 +76,12 @@ is_claimed d base op c =
     c.on (is_le (base_of r) (address_of op) at.low) (is_le (address_of op + count_of op) (base_of r + r.setup.size) at.high) (is_le (address_of op + count_of op) (2 ^ 64) c.fits)
     ∙ ap Some c.is
 
-same_setup : (r : RegistersView) (n : Noted) → (after_error r n).setup ≡ r.setup → (after_error r n).setup.size ≡ r.setup.size
-same_setup r n e = ap (λ (s : SetupView). s.size) e
-
--- an error moves nothing
-pub claimed_noting : (d : DeviceView) (n : Noted) (base : ℕ) (op : Op) → (after_error d.registers n).setup ≡ d.registers.setup → IsClaimed d base op → IsClaimed (noting d n) base op
-claimed_noting d n base op e c = record {
-  on = error_on d.registers n ∙ c.on;
-  is = error_base d.registers n ∙ c.is;
-  place = subst (λ (x : ℕ). IsPlace base x op) (sym (same_setup d.registers n e)) c.place;
+-- registers that keep the memory's place keep what is claimed
+pub claimed_with : (d : DeviceView) (q : RegistersView) (base : ℕ) (op : Op) → KeepsPlace d.registers q → IsClaimed d base op → IsClaimed (record d { registers = q }) base op
+claimed_with d q base op k c = record {
+  on = k.on ∙ c.on;
+  is = k.base ∙ c.is;
+  place = subst (λ (s : SetupView). IsPlace base s.size op) (sym k.setup) c.place;
   fits = c.fits;
 }
 

@@ -1,6 +1,6 @@
 -- Memory requests that come have no fault.
 use Rattle.std.proofs.Common.{◌≡◌, ℕ, zero, suc, ◌+◌, ◌*◌, ◌/◌, ◌%◌, ◌^◌, ◌<◌, ◌≤◌, ◌⊎◌, inl, inr, Bool, true, false, List, [], ◌∷◌, Option, Some, None, cond, refl, sym, subst, arith, length, take, drop}
-use Rattle.std.specs.Prelude.{◌-◌, ◌==◌, ◌||◌, not, nat_lt, slice_index, slice_set, Result, Ok, Err, IsTrue, if◌then◌else◌}
+use Rattle.std.specs.Prelude.{◌-◌, ◌==◌, ◌&&◌, ◌||◌, not, nat_lt, slice_index, slice_set, Result, Ok, Err, IsTrue, if◌then◌else◌}
 use Rattle.std.proofs.lemmas.Bool.Decides.{nat_tests}
 use Rattle.std.proofs.lemmas.List.{get_or-drop}
 use Rattle.byteorder.specs.Endian.{little_number}
@@ -14,7 +14,7 @@ use Rattle.tlp_core.specs.declared.packet.Kind.TheVariants as kinds
 use Rattle.tlp_core.specs.declared.packet.Body.{Body}
 use Rattle.tlp_core.specs.declared.packet.Body.TheVariants as bodies
 use Rattle.tlp_core.specs.TlpView.{TlpView, FitsKind}
-use Rattle.tlp_core.specs.Bits.{IsBytes}
+use Rattle.tlp_core.specs.Bits.{IsBytes, has_bit}
 use Rattle.tlp_core.specs.Enables.{are_enables}
 use Rattle.tlp_core.specs.Layout.{Spells, dw_count, header_length}
 use Rattle.tlp_core.specs.Faults.{reading}
@@ -207,18 +207,18 @@ of_configuration : (p : Bool) (r : Result CfgRequest CfgFault) → Asks (classes
 of_configuration p (Err f) = malformed _
 of_configuration p (Ok r) = either p _ _ (refused _ _) (configures r)
 
-of_io : (p : Bool) (b : List ℕ) → Asks (classes.of_io p b)
-of_io p b =
+of_io : (b : List ℕ) → Asks (classes.of_io b)
+of_io b =
     either (nat_lt (length b) 12) _ _ (malformed (faulty.Packet faults.Short))
-    (either (not (length b == classes.io_size (slice_index b 0)) || not (dw_count b == 1)) _ _ (malformed (faulty.Packet faults.LengthMismatch)) (refused (classes.descriptor_at b) (classes.error_of p)))
+    (either (not (length b == classes.io_size (slice_index b 0)) || not (dw_count b == 1)) _ _ (malformed (faulty.Packet faults.LengthMismatch)) (refused (classes.descriptor_at b) noted.Refused))
 
 of_message : (p : Bool) (b : List ℕ) → Asks (classes.of_message p b)
 of_message p b =
     either (nat_lt (length b) 16) _ _ (malformed (faulty.Packet faults.Short))
     (either (not (length b - 16 == classes.message_data b)) _ _ (malformed (faulty.Packet faults.LengthMismatch))
     (either (nat_lt 128 (classes.message_data b)) _ _ (malformed (faulty.Packet faults.PayloadTooLong))
-    (either p _ _ (unsupported noted.ParityError)
-    (either (classes.is_ignored (slice_index b 7)) _ _ ignored (unsupported noted.UnsupportedRequest)))))
+    (either (not (classes.is_ignored (slice_index b 7))) _ _ (unsupported noted.Unclaimed)
+    (either p _ _ (unsupported noted.Dropped) ignored))))
 
 read_op : Spelled → (b : List ℕ) → IsBytes b → (t : TlpView) → reading b ≡ Ok t → IsSound (is_write t.kind) (op_of t)
 read_op spelled b bytes t e =
@@ -228,11 +228,11 @@ read_op spelled b bytes t e =
 of_plain : Spelled → (p : Bool) (b : List ℕ) → IsBytes b → Asks (classes.of_plain p b)
 of_plain spelled p b bytes =
     either (configuration.is_kind (slice_index b 0)) _ _ (of_configuration p (configuration.reading b))
-    (either (classes.is_io (slice_index b 0)) _ _ (of_io p b)
+    (either (classes.is_io (slice_index b 0)) _ _ (of_io b)
     (either (classes.is_message (slice_index b 0)) _ _ (of_message p b)
     (of_packet p (reading b) (read_op spelled b bytes))))
 
--- ---- without TD and EP
+-- ---- without what a receiver ignores
 
 pub taken_small : (n i : ℕ) (xs : List ℕ) → ((j : ℕ) → slice_index xs j < 256) → slice_index (take n xs) i < 256
 taken_small zero i xs h = omega arith
@@ -251,11 +251,31 @@ bytes_by : (b : Bool) (xs ys : List ℕ) → IsBytes xs → IsBytes ys → IsByt
 bytes_by true xs ys p q = p
 bytes_by false xs ys p q = q
 
+set_bytes : (k v : ℕ) (xs : List ℕ) → v < 256 → IsBytes xs → IsBytes (slice_set xs k v)
+set_bytes k v xs s h i = set_small k i v xs s h
+
+small_by : (b : Bool) (x y : ℕ) → x < 256 → y < 256 → cond b x y < 256
+small_by true x y p q = p
+small_by false x y p q = q
+
+code_small : (code : ℕ) → code < 256 → classes.plain_code code < 256
+code_small code h = small_by (code == 0x0B) 0x0A _ (omega arith) (small_by (code == 0x4B) 0x4A code (omega arith) h)
+
+hints_small : (b : List ℕ) → classes.plain_hints b < 256
+hints_small b = small_by (configuration.is_kind (slice_index b 0)) _ _ (omega arith) (omega arith)
+
+enables_small : (b : List ℕ) → IsBytes b → classes.plain_enables b < 256
+enables_small b h =
+    small_by (classes.is_read (slice_index b 0) && has_bit b 1 0) _ (slice_index b 7) (small_by (dw_count b == 1) 0x0F 0xFF (omega arith) (omega arith)) (h 7)
+
 plain_bytes : (b : List ℕ) → IsBytes b → IsBytes (classes.plain b)
 plain_bytes b h =
     let n = (if slice_index b 2 / 128 == 1 then length b - 4 else length b) in
-    bytes_by (slice_index b 2 / 64 == 0) b (slice_set (take n b) 2 (slice_index b 2 % 64)) h
-    (λ i. set_small 2 i (slice_index b 2 % 64) (take n b) (omega arith) (λ j. taken_small n j b h))
+    bytes_by (classes.is_plain b) b _ h
+    (set_bytes 7 (classes.plain_enables b) _ (enables_small b h)
+    (set_bytes 2 (slice_index b 2 % 64) _ (omega arith)
+    (set_bytes 1 (classes.plain_hints b) _ (hints_small b)
+    (set_bytes 0 (classes.plain_code (slice_index b 0)) (take n b) (code_small (slice_index b 0) (h 0)) (λ j. taken_small n j b h)))))
 
 pub becomes_asked : Spelled → (b : List ℕ) → IsBytes b → Asks (classes.becomes b)
 becomes_asked spelled b bytes =

@@ -1,16 +1,15 @@
 -- The memory's place in registers that change.
 use Rattle.std.proofs.Common.{◌≡◌, ◌∙◌, ℕ, ◌+◌, ◌-◌, ◌*◌, ◌/◌, ◌%◌, ◌^◌, ◌<◌, ◌⊎◌, inl, inr, max, Bool, true, false, cond, List, [], ◌∷◌, refl, sym, ap, subst, arith}
-use Rattle.std.specs.Prelude.{bit_and, bit_or, ◌==◌}
+use Rattle.std.specs.Prelude.{bit_and, bit_or, ◌==◌, if◌then◌else◌}
 use Rattle.std.specs.Int.{bit_at}
 use Rattle.std.proofs.lemmas.Bool.Decides.{nat_tests}
 use Rattle.std.proofs.lemmas.Nat.{and_mask}
 use Rattle.std.proofs.lemmas.Nat.Bits.{bit_at_lowest, bit_at-suc, bit_at_or}
 use Rattle.config_core.specs.declared.registers.Noted.{Noted}
-use Rattle.config_core.specs.declared.registers.Noted.TheVariants as noted
 use Rattle.config_core.specs.SetupView.{SetupView, is_size}
 use Rattle.config_core.specs.RegistersView.{RegistersView}
-use Rattle.config_core.specs.Registers.{register_at, value, put, after_error, after_reset, base_of, is_on}
-use Rattle.config_core.specs.Changes.{Change, Write, Error, after_change, after_changes}
+use Rattle.config_core.specs.Registers.{register_at, value, put, after_error, after_poison, after_reset, base_of, is_on}
+use Rattle.config_core.specs.Changes.{Change, Write, Error, Poison, after_change, after_changes}
 
 -- the law of read-only bits
 abbrev pub Stays : Type 0
@@ -48,9 +47,8 @@ put_setup r o new =
 
 pub change_setup : (r : RegistersView) (change : Change) → (after_change r change).setup ≡ r.setup
 change_setup r (Write o enables new) = put_setup r o _
-change_setup r (Error noted.UnsupportedRequest) = refl
-change_setup r (Error noted.FatalError) = refl
-change_setup r (Error noted.ParityError) = refl
+change_setup r (Error n) = refl
+change_setup r Poison = refl
 
 pub change_sized : Stays → (r : RegistersView) (change : Change) → IsSized r → IsSized (after_change r change)
 change_sized stays r change s = record {
@@ -68,7 +66,7 @@ whole high low h = omega (arith, h)
 pub base_whole : (r : RegistersView) → IsSized r → base_of r % 128 ≡ 0
 base_whole r s = whole r.bar_high r.bar_low (sym (and_mask r.bar_low 7) ∙ s.low)
 
--- ---- an error moves no memory
+-- ---- an error moves no memory, nor does poisoned data
 
 second_bit : (n : ℕ) → n / 2 % 2 ≡ bit_at n 1
 second_bit n = sym (bit_at-suc n 0 ∙ bit_at_lowest (n / 2))
@@ -79,12 +77,16 @@ max_none x = omega arith
 parity_on : (c : ℕ) → bit_or c 2147483648 / 2 % 2 ≡ c / 2 % 2
 parity_on c = second_bit (bit_or c 2147483648) ∙ (bit_at_or c 2147483648 1 ∙ (ap (λ (x : ℕ). max (bit_at c 1) x) (sym (second_bit 2147483648)) ∙ (max_none (bit_at c 1) ∙ sym (second_bit c))))
 
-pub error_on : (r : RegistersView) (n : Noted) → is_on (after_error r n) ≡ is_on r
-error_on r noted.UnsupportedRequest = refl
-error_on r noted.FatalError = refl
-error_on r noted.ParityError = rw (parity_on r.command) refl
+-- the memory is where it was
+pub record KeepsPlace (r q : RegistersView) : Type 0 where
+  pub setup : q.setup ≡ r.setup
+  pub on : is_on q ≡ is_on r
+  pub base : base_of q ≡ base_of r
+  pub sized : IsSized r → IsSized q
 
-pub error_base : (r : RegistersView) (n : Noted) → base_of (after_error r n) ≡ base_of r
-error_base r noted.UnsupportedRequest = refl
-error_base r noted.FatalError = refl
-error_base r noted.ParityError = refl
+pub error_keeps : Stays → (r : RegistersView) (n : Noted) → KeepsPlace r (after_error r n)
+error_keeps stays r n = record { setup = refl; on = refl; base = refl; sized = change_sized stays r (Error n) }
+
+pub poison_keeps : Stays → (r : RegistersView) (came : Bool) → KeepsPlace r (if came then after_poison r else r)
+poison_keeps stays r true = record { setup = refl; on = rw (parity_on r.command) refl; base = refl; sized = change_sized stays r Poison }
+poison_keeps stays r false = record { setup = refl; on = refl; base = refl; sized = λ s. s }

@@ -12,9 +12,9 @@ use Rattle.history_words.specs.declared.record.RecordOf.TheVariants.{Sub, Ans}
 use Rattle.history_words.specs.Clocks.{IsClocked}
 use Rattle.history_words.specs.Trace.{Explains}
 use Rattle.config_core.specs.SetupView.{SetupView, is_size}
-use Rattle.endpoint_core.specs.Classes.{becomes}
+use Rattle.endpoint_core.specs.Classes.{becomes, carries_poison}
 use Rattle.endpoint_core.specs.EndpointView.{EndpointView}
-use Rattle.endpoint_core.specs.Steps.{new_endpoint, acted}
+use Rattle.endpoint_core.specs.Steps.{new_endpoint, acted, taken_as}
 use Rattle.endpoint_core.specs.Runs.{Call, Take, Act, Reset, after_call, after_calls, all_of, all_coming, all_leaving, blocks_coming, blocks_leaving, blocks_waiting}
 use Rattle.endpoint_log.specs.LogView.{LogView}
 use Rattle.endpoint_log.specs.Steps.{new_log, no_claim}
@@ -24,9 +24,9 @@ use Rattle.endpoint_laws.proofs.State.{State}
 use Rattle.endpoint_laws.proofs.Registers.{Stays, reset_sized}
 use Rattle.endpoint_laws.proofs.Coming.{Spelled, becomes_asked}
 use Rattle.endpoint_laws.proofs.Logging.{Laws, memory}
-use Rattle.endpoint_laws.proofs.Told.{Carries, IsTold, took_told, acts_told, resets_told}
+use Rattle.endpoint_laws.proofs.Told.{Carries, IsTold, poison_told, took_told, acts_told, resets_told}
 use Rattle.endpoint_laws.proofs.Facts.{submitted_fact, answered_fact, entered_fact}
-use Rattle.endpoint_laws.proofs.Traced.{IsTraced, Moves, took, acts, resets}
+use Rattle.endpoint_laws.proofs.Traced.{IsTraced, Moves, poison_traced, took, acts, resets}
 
 -- each block request that came leaves the queue once, or waits
 abbrev pub Leaves : Type 0
@@ -90,7 +90,10 @@ pub record IsWhole (size : ℕ) (e : EndpointView) (l : LogView) : Type 0 where
 one_call : Laws → Carries → Stays → Spelled → (size : ℕ) (e : EndpointView) (l : LogView) (c : Call) (cs : List Call) → AreBytes (c ∷ cs) → Moves e → IsWhole size e l → IsWhole size (after_call e c) (logged e l c) × AreBytes cs
 one_call w carries stays spelled size e l (Take b) cs bytes m i =
     let a = becomes_asked spelled b bytes.0 in
-    (record { traced = took w stays e l (becomes b) a i.traced; told = took_told w carries size e l (becomes b) a i.traced i.told }, bytes.1)
+    let came = carries_poison b in
+    let after = taken_as e (becomes b) in
+    let l' = logged e l (Take b) in
+    (record { traced = poison_traced stays came after l' (took w stays e l (becomes b) a i.traced); told = poison_told size came after l' (took_told w carries size e l (becomes b) a i.traced i.told) }, bytes.1)
 one_call w carries stays spelled size e l Act cs bytes m i = (record { traced = acts w stays e l m i.traced; told = acts_told w size e l i.traced i.told }, bytes)
 one_call w carries stays spelled size e l Reset cs bytes m i = (record { traced = resets e l i.traced; told = resets_told size e l i.told }, bytes)
 

@@ -162,6 +162,10 @@ faultless_fresh ws (Some k) a = faultless_drop ws a
 noted_told : (size : ℕ) (e : EndpointView) (l : LogView) (n : Noted) → IsTold size e l → IsTold size (device.on_device e (device.noting e.device n)) l
 noted_told size e l n t = record { setup = ap (λ (s : SetupView). s.size) (change_setup e.device.registers (Error n)) ∙ t.setup; made = t.made; fresh = t.fresh }
 
+pub poison_told : (size : ℕ) (came : Bool) (e : EndpointView) (l : LogView) → IsTold size e l → IsTold size (device.on_device e (device.with_poison came e.device)) l
+poison_told size true e l t = record { setup = t.setup; made = t.made; fresh = t.fresh }
+poison_told size false e l t = record { setup = t.setup; made = t.made; fresh = t.fresh }
+
 queued_told : (size : ℕ) (e : EndpointView) (l : LogView) (w : Waiting) → FaultlessIn w → IsTraced e l → IsTold size e l → IsTold size (device.queued e w) l
 queued_told size e l w f i t = record { setup = t.setup; made = t.made; fresh = fresh_more e l w l.begun i.under_way t.fresh f }
 
@@ -175,7 +179,7 @@ posted_fresh base l (b ∷ bs) = posted_fresh base (log.posts base l b) bs
 
 posted_at_told : Laws → Carries → (size : ℕ) (e : EndpointView) (l : LogView) (op : Op) (b : Option ℕ) → op_fault op ≡ None → is_posted op ≡ true → IsBytes (bytes_of op) → device.base_of_op e.device op ≡ b → IsTraced e l → IsTold size e l
     → IsTold size (device.on_device e (device.posted_at e.device op b)) (log.posted_at op l b)
-posted_at_told w carries size e l op None none is bytes un i t = noted_told size e l noted.UnsupportedRequest t
+posted_at_told w carries size e l op None none is bytes un i t = noted_told size e l noted.Unclaimed t
 posted_at_told w carries size e l op (Some base) none is bytes claimed i t =
     let c : IsClaimed e.device base op = claimed_is e.device base op claimed in
     let place : IsPlace base size op = subst (λ (x : ℕ). IsPlace base x op) t.setup c.place in
@@ -196,8 +200,8 @@ took_told w carries size e l (received.Configuration r) a i p = queued_told size
 took_told w carries size e l (received.Refused d n) a i p = queued_told size e l (waits.Refused d n) tt i p
 took_told w carries size e l (received.Unsupported n) a i p = noted_told size e l n p
 took_told w carries size e l received.Ignored a i p = p
-took_told w carries size e l received.Unexpected a i p = p
-took_told w carries size e l (received.Malformed f) a i p = noted_told size e l noted.FatalError p
+took_told w carries size e l received.Unexpected a i p = noted_told size e l noted.Unexpected p
+took_told w carries size e l (received.Malformed f) a i p = noted_told size e l noted.Fatal p
 
 -- ---- the oldest request acts
 
@@ -210,7 +214,7 @@ size_by false x y n p q = q
 
 configured_size : (d : DeviceView) (r : CfgRequest) → (device.configured d r).registers.setup.size ≡ d.registers.setup.size
 configured_size d r =
-    size_by (not (device.is_supported r)) _ _ d.registers.setup.size (ap (λ (s : SetupView). s.size) (change_setup d.registers (Error noted.UnsupportedRequest)))
+    size_by (not (device.is_supported r)) _ _ d.registers.setup.size (ap (λ (s : SetupView). s.size) (change_setup d.registers (Error noted.Refused)))
     (size_by r.writes _ _ d.registers.setup.size (ap (λ (s : SetupView). s.size) (change_setup d.registers (Write r.register (r.enables % 16) r.value))) refl)
 
 begun_made : Laws → (size base : ℕ) (op : Op) (l : LogView) (o : Option ℕ) (t : TlpView) (ws : List Waiting) → base % 128 ≡ 0 → op_of t ≡ Some op → IsPlace base size op → AreFresh o (waits.Memory t ∷ ws) → AreMade size l.claim.records → AreMade size (log.begins_at base op l o).claim.records
@@ -230,7 +234,7 @@ fresh_by false t ws k a = a
 
 claimed_told : Laws → (size : ℕ) (d : DeviceView) (t : TlpView) (ws : List Waiting) (op : Op) (l : LogView) (b : Option ℕ) (c : Option TlpView) → op_of t ≡ Some op → device.base_of_op d op ≡ b → IsSized d.registers → IsTold size (at d (waits.Memory t ∷ ws)) l
     → IsTold size (at (device.acted_at d op b) (device.advanced (device.done_at op b) (waits.Memory t ∷ ws))) (log.answered_by (log.entered_at op l b) (log.number_at l b) c)
-claimed_told w size d t ws op l None c asks un s p = drops_told size d (device.noting d noted.UnsupportedRequest) (waits.Memory t) ws l (ap (λ (x : SetupView). x.size) (change_setup d.registers (Error noted.UnsupportedRequest))) p
+claimed_told w size d t ws op l None c asks un s p = drops_told size d (device.noting d noted.Refused) (waits.Memory t) ws l (ap (λ (x : SetupView). x.size) (change_setup d.registers (Error noted.Refused))) p
 claimed_told w size d t ws op l (Some base) c asks claimed s p =
     let k : IsClaimed d base op = claimed_is d base op claimed in
     let place : IsPlace base size op = subst (λ (x : ℕ). IsPlace base x op) p.setup k.place in

@@ -1,6 +1,6 @@
 -- What is recorded of a device stays explained, whatever it is asked.
 use Rattle.std.proofs.Common.{◌≡◌, ◌≢◌, ◌∙◌, ℕ, ◌+◌, ◌-◌, ◌%◌, Bool, true, false, List, [], ◌∷◌, ◌++◌, length, map, cond, Option, Some, None, refl, sym, ap, subst, arith}
-use Rattle.std.specs.Prelude.{◌==◌, not, flat_map}
+use Rattle.std.specs.Prelude.{◌==◌, not, flat_map, if◌then◌else◌}
 use Rattle.std.proofs.lemmas.Bool.Decides.{nat_tests}
 use Rattle.std.proofs.lemmas.Grind.{flat_map-append}
 use Rattle.std.proofs.lemmas.List.{append-nil, append_cancel_right}
@@ -12,7 +12,8 @@ use Rattle.seq_memory.specs.Step.{after, answer, bytes_at, read_back, data_of}
 use Rattle.config_core.specs.declared.registers.Noted.{Noted}
 use Rattle.config_core.specs.declared.registers.Noted.TheVariants as noted
 use Rattle.config_core.specs.SetupView.{SetupView}
-use Rattle.config_core.specs.Registers.{written}
+use Rattle.config_core.specs.RegistersView.{RegistersView}
+use Rattle.config_core.specs.Registers.{written, after_error, after_poison}
 use Rattle.config_core.specs.Changes.{Write, Error}
 use Rattle.config_core.specs.declared.request.CfgRequest.{CfgRequest}
 use Rattle.endpoint_core.specs.declared.received.Received.{Received}
@@ -25,10 +26,10 @@ use Rattle.endpoint_core.specs.Runs.{blocks_in, blocks_by, blocks_waiting, block
 use Rattle.endpoint_log.specs.LogView.{LogView}
 use Rattle.endpoint_log.specs.Steps as log
 use Rattle.endpoint_laws.proofs.State.{AreOpen}
-use Rattle.endpoint_laws.proofs.Registers.{Stays, IsSized, change_setup, change_sized, reset_sized, base_whole}
+use Rattle.endpoint_laws.proofs.Registers.{Stays, IsSized, KeepsPlace, change_setup, change_sized, error_keeps, poison_keeps, reset_sized, base_whole}
 use Rattle.endpoint_laws.proofs.Coming.{IsSound, Asks, asked_of, posted_of}
 use Rattle.endpoint_laws.proofs.Served.{IsPlace, AllGood, AreBlocks, served, answer_served}
-use Rattle.endpoint_laws.proofs.Claimed.{IsClaimed, claimed_is, is_claimed, claimed_noting, first_posted, first_place, IsRest, rest_of, rest_claimed, reads_data, carries, completes}
+use Rattle.endpoint_laws.proofs.Claimed.{IsClaimed, claimed_is, is_claimed, claimed_with, first_posted, first_place, IsRest, rest_of, rest_claimed, reads_data, carries, completes}
 use Rattle.endpoint_laws.proofs.Logging.{Laws, Has, has_length, good_blocks, waiting_blocks, post_all, post_all_open, post_all_begun, submitted_all, submit_all, submit_all_open, entering, answering, act_one, act_one_open}
 
 -- the block requests from number k on are those of the oldest request that waits, which is claimed
@@ -80,31 +81,34 @@ other_bytes d bytes base op c = record { on = c.on; is = c.is; place = c.place; 
 rebegun : (size : ℕ) (m : List ℕ) (l : LogView) (o : Option ℕ) → Has size m l → Has size m (record l { begun = o })
 rebegun size m l o h = record { extent = h.extent; bytes = h.bytes; state = h.state }
 
--- ---- an error is reported
+-- ---- registers keep the memory's place
 
-note_under_way : (e : EndpointView) (l : LogView) (n : Noted) (o : Option ℕ) → UnderWay e l o → UnderWay (device.on_device e (device.noting e.device n)) l o
-note_under_way e l n None u = tt
-note_under_way e l n (Some k) u = record {
+kept_under_way : (e : EndpointView) (l : LogView) (q : RegistersView) (o : Option ℕ) → KeepsPlace e.device.registers q → UnderWay e l o → UnderWay (device.on_device e (record e.device { registers = q })) l o
+kept_under_way e l q None k u = tt
+kept_under_way e l q (Some n) k u = record {
   base = u.base;
   t = u.t;
   op = u.op;
   ws = u.ws;
   head = u.head;
   asks = u.asks;
-  claimed = claimed_noting e.device n u.base u.op (change_setup e.device.registers (Error n)) u.claimed;
+  claimed = claimed_with e.device q u.base u.op k u.claimed;
   open_ones = u.open_ones;
 }
 
-note_has : (d : DeviceView) (l : LogView) (n : Noted) → Has d.registers.setup.size d.bytes l → Has (device.noting d n).registers.setup.size d.bytes l
-note_has d l n h = subst (λ (s : SetupView). Has s.size d.bytes l) (sym (change_setup d.registers (Error n))) h
+kept_traced : (e : EndpointView) (l : LogView) (q : RegistersView) → KeepsPlace e.device.registers q → IsTraced e l → IsTraced (device.on_device e (record e.device { registers = q })) l
+kept_traced e l q k i = record {
+  registers = k.sized i.registers;
+  has = subst (λ (s : SetupView). Has s.size e.device.bytes l) (sym k.setup) i.has;
+  blocks = i.blocks;
+  under_way = kept_under_way e l q l.begun k i.under_way;
+}
 
 note_traced : Stays → (e : EndpointView) (l : LogView) (n : Noted) → IsTraced e l → IsTraced (device.on_device e (device.noting e.device n)) l
-note_traced stays e l n i = record {
-  registers = change_sized stays e.device.registers (Error n) i.registers;
-  has = note_has e.device l n i.has;
-  blocks = i.blocks;
-  under_way = note_under_way e l n l.begun i.under_way;
-}
+note_traced stays e l n i = kept_traced e l (after_error e.device.registers n) (error_keeps stays e.device.registers n) i
+
+pub poison_traced : Stays → (came : Bool) (e : EndpointView) (l : LogView) → IsTraced e l → IsTraced (device.on_device e (device.with_poison came e.device)) l
+poison_traced stays came e l i = kept_traced e l (if came then after_poison e.device.registers else e.device.registers) (poison_keeps stays e.device.registers came) i
 
 -- ---- a TLP comes
 
@@ -149,7 +153,7 @@ post_under_way w e l base op (Some k) whole h g u = record {
 
 post_at : Laws → Stays → (e : EndpointView) (l : LogView) (op : Op) (b : Option ℕ) → op_fault op ≡ None → is_posted op ≡ true → device.base_of_op e.device op ≡ b → IsTraced e l
     → IsTraced (device.on_device e (device.posted_at e.device op b)) (log.posted_at op l b)
-post_at w stays e l op None none is none_claimed i = note_traced stays e l noted.UnsupportedRequest i
+post_at w stays e l op None none is none_claimed i = note_traced stays e l noted.Unclaimed i
 post_at w stays e l op (Some base) none is claimed i =
     let size = e.device.registers.setup.size in
     let c : IsClaimed e.device base op = claimed_is e.device base op claimed in
@@ -174,8 +178,8 @@ took w stays e l (received.Configuration r) a i = queue_traced e l (waits.Config
 took w stays e l (received.Refused d n) a i = queue_traced e l (waits.Refused d n) tt i
 took w stays e l (received.Unsupported n) a i = note_traced stays e l n i
 took w stays e l received.Ignored a i = i
-took w stays e l received.Unexpected a i = i
-took w stays e l (received.Malformed f) a i = note_traced stays e l noted.FatalError i
+took w stays e l received.Unexpected a i = note_traced stays e l noted.Unexpected i
+took w stays e l (received.Malformed f) a i = note_traced stays e l noted.Fatal i
 
 -- ---- a request acts that is no memory request
 
@@ -199,7 +203,7 @@ written_like stays d r s = record { sized = change_sized stays d.registers (Writ
 
 configured_like : Stays → (d : DeviceView) (r : CfgRequest) → IsSized d.registers → IsLike d (device.configured d r)
 configured_like stays d r s =
-    like_by (not (device.is_supported r)) d _ _ (noted_like stays d noted.UnsupportedRequest s) (like_by r.writes d _ _ (written_like stays d r s) (same_like d s))
+    like_by (not (device.is_supported r)) d _ _ (noted_like stays d noted.Refused s) (like_by r.writes d _ _ (written_like stays d r s) (same_like d s))
 
 like_has : (d c : DeviceView) (l : LogView) → IsLike d c → Has d.registers.setup.size d.bytes l → Has c.registers.setup.size c.bytes l
 like_has d c l k h = subst (λ (m : List ℕ). Has c.registers.setup.size m l) (sym k.bytes) (subst (λ (s : SetupView). Has s.size d.bytes l) (sym k.setup) h)
@@ -371,9 +375,9 @@ claimed_acts : Laws → Stays → (d : DeviceView) (t : TlpView) (ws : List Wait
     → IsTraced (at (device.acted_at d op b) (device.advanced (device.done_at op b) (waits.Memory t ∷ ws))) (log.answered_by (log.entered_at op l b) (log.number_at l b) (device.completion_at d t op b))
 claimed_acts w stays d t ws op l (Some base) asks claimed moves i = acts_first w d t ws base op l i asks (claimed_is d base op claimed) moves
 claimed_acts w stays d t ws op l None asks none moves i =
-    drops d (device.noting d noted.UnsupportedRequest) t ws l
+    drops d (device.noting d noted.Refused) t ws l
     (λ base other e claimed. let same : op ≡ other = cc in let clash : Some base ≡ None = sym claimed ∙ (ap (device.base_of_op d) (sym same) ∙ none) in cc)
-    (noted_like stays d noted.UnsupportedRequest i.registers) i
+    (noted_like stays d noted.Refused i.registers) i
 
 memory_acts : Laws → Stays → (d : DeviceView) (t : TlpView) (ws : List Waiting) (l : LogView) (o : Option Op) → op_of t ≡ o
     → blocks_in o ++ flat_map blocks_by ws ≡ leaving_op d o ++ flat_map blocks_by (device.advanced (device.memory_done d o) (waits.Memory t ∷ ws)) → IsTraced (at d (waits.Memory t ∷ ws)) l

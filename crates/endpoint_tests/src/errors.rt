@@ -23,11 +23,11 @@ fn come(endpoint: &mut Endpoint, room: &mut Room) -> bool {
         && answers(endpoint, room, "")
 }
 
-/// Unsupported Request Detected, Fatal Error Detected, and Detected Parity Error; then a reset.
+/// Each bit of Device Status that reports an error, and Detected Parity Error; then a reset.
 fn are_reported(endpoint: &mut Endpoint, room: &mut Room) -> bool {
     take(endpoint, room, "04000001 0008710F 01000058") == Some(Handled::Waits)
         && take(endpoint, room, "04000001 0008720F 01000004") == Some(Handled::Waits)
-        && answers(endpoint, room, "4A000001 00000004 00087100 00000C00")
+        && answers(endpoint, room, "4A000001 00000004 00087100 00000F00")
         && answers(endpoint, room, "4A000001 00000004 00087200 00001080")
 }
 

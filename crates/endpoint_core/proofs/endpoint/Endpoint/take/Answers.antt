@@ -1,9 +1,9 @@
-use Rattle.std.proofs.Common.{sym}
+use Rattle.std.proofs.Common.{sym, ◌∙◌}
 use Rattle.endpoint_core.proofs.Coming.{posted_write, non_posted}
 use Rattle.endpoint_core.proofs.endpoint.Endpoint.take.Goals as goal
 
-pub post-requires : goal.post-requires
-post-requires c = posted_write c.args.tlp.now c.in-Posted.request (sym c.in-Posted.ensures.becomes)
+pub take_as-requires-clause-posted : goal.take_as-requires-clause-posted
+take_as-requires-clause-posted c = λ t is. posted_write c.args.tlp.now t (sym c.receive-received.ensures.becomes ∙ is)
 
-pub of-requires : goal.of-requires
-of-requires c = non_posted c.args.tlp.now c.in-NonPosted.request (sym c.in-NonPosted.ensures.becomes)
+pub take_as-requires-clause-non_posted : goal.take_as-requires-clause-non_posted
+take_as-requires-clause-non_posted c = λ t is. non_posted c.args.tlp.now t (sym c.receive-received.ensures.becomes ∙ is)
