@@ -1,4 +1,4 @@
--- The run of a traced script to its end.
+-- The run of a script to its end.
 use Rattle.std.proofs.Common.{◌≡◌, ◌∙◌, ◌++◌, ◌+◌, inl, inr, ℕ, Bool, true, false, List, [], ◌∷◌, length, refl, sym, ap, ap₂, subst, Option, Some, None, Result, Err, if◌then◌else◌}
 use Rattle.std.specs.Prelude.{◌-◌, ◌^◌, min, fold, map, nat_lt}
 use Rattle.std.proofs.lemmas.List.{append-nil, append_assoc}
@@ -21,6 +21,7 @@ use Rattle.fabric_core.specs.Runs.{Runs}
 use Rattle.fabric_core.specs.Answers.{answer}
 use Rattle.fabric_settle.specs.Happenings.{Happening, Leads}
 use Rattle.fabric_settle.specs.Keeping.{with_record}
+use Rattle.fabric_settle.specs.Rounds.{Settling, settlement}
 use Rattle.fabric_steps.specs.Faults.{IsTold}
 use Rattle.fabric_core.specs.New.{new_fabric, config_fault}
 use Rattle.operation_text.specs.Words.{words}
@@ -29,11 +30,13 @@ use Rattle.script_text.specs.declared.line.Line.{Line}
 use Rattle.script_text.specs.declared.line.Line.TheVariants as lines
 use Rattle.script_text.specs.Forms.{line_of}
 use Rattle.script_text.specs.Names.{refusal_text}
+use Rattle.script_text.specs.Texts.{seen_text}
 use Rattle.hex_text.specs.Lines.{lines_of, bare, said, is_skipped}
 use Rattle.line_loop.specs.Run.{Answer, Run as Output, with_answer, after_line, after_end, new_run}
 use Rattle.step_engine.specs.Script.{script_of, event_line, IsScript, Progress, progress, LineDoes, LinesDo, RunsThrough}
+use Rattle.step_engine.specs.declared.options.StepOptions.{StepOptions}
 use Rattle.step_engine.specs.Options.{traced}
-use Rattle.step_engine.specs.Step.{StepperView, nothing, counted, made, answered, refused, by_line, step_long_line, step_responses, claim_with, out_step_with}
+use Rattle.step_engine.specs.Step.{StepperView, nothing, counted, shown, refused_line, refused_by, made, recorded, answered, recorded_all, settled_lines, settles_telling, settles_traced, by_line, step_long_line, step_responses, claim_with, out_step_with}
 
 -- ---- the history explains the records
 
@@ -116,15 +119,32 @@ pub record Answers : Type 0 where
   pub new : (c : Config) (f : Fabric) → IsNewWith c f → (f ≡ new_fabric c) × (config_fault c ≡ None)
   pub refused : (f : Fabric) (event : Event) (r : Refusal) → Refused f event r → IsTold r → answer f event ≡ Err r
 
--- the traced script so far
-abbrev at : Bool → Bool → Option Fabric → List Record → ℕ → StepperView
-at keeps echoes o rs n = record { options = traced keeps echoes; fabric = o; records = rs; lines = n; has_ended = false }
+-- the records that a run keeps
+abbrev kept : Bool → List Record → List Record
+kept traced rs = if traced then rs else []
 
-abbrev run_at : Bool → Bool → Progress → ℕ → Output StepperView
-run_at keeps echoes p n = record { state = at keeps echoes (Some p.fabric) p.records n; text = []; status = p.status }
+-- the script so far
+abbrev at : StepOptions → Option Fabric → List Record → ℕ → StepperView
+at o f rs n = record { options = o; fabric = f; records = rs; lines = n; has_ended = false }
+
+abbrev run_at : StepOptions → Progress → ℕ → List ℕ → Output StepperView
+run_at o p n text = record { state = at o (Some p.fabric) (kept o.is_traced p.records) n; text = text; status = p.status }
 
 abbrev runs_on : Output StepperView → List (List ℕ) → Output StepperView
 runs_on run ls = fold (after_line step_responses) run ls
+
+-- with a trace nothing is written before the end
+abbrev IsSilent : StepOptions → List ℕ → Type 0
+IsSilent o text = o.is_traced ≡ true → text ≡ []
+
+record ComesTo (o : StepOptions) (run : Output StepperView) (p : Progress) : Type 0 where
+  lines : ℕ
+  text : List ℕ
+  silent : IsSilent o text
+  is : run ≡ run_at o p lines text
+
+abbrev next : ℕ → ℕ
+next n = min (n + 1) (2 ^ 64 - 1)
 
 -- one line, by its tests and what it says
 abbrev by_tests : Bool → Bool → List ℕ → Option Line → StepperView → Answer StepperView
@@ -142,90 +162,140 @@ first_same x y xs ys e = cc
 rest_same : {X : Type 0} (x y : X) (xs ys : List X) → x ∷ xs ≡ y ∷ ys → xs ≡ ys
 rest_same x y xs ys e = cc
 
--- a refusal that is passed over, in a run that goes on after it
-passed : (keeps echoes : Bool) (p : Progress) (n : ℕ) (line name : List ℕ) → keeps ≡ true
-    → with_answer (run_at keeps echoes p n) (refused (at keeps echoes (Some p.fabric) p.records n) line name) ≡ run_at keeps echoes (progress p.fabric p.records 1) (min (n + 1) (2 ^ 64 - 1))
-passed true echoes p n line name e = refl
-passed false echoes p n line name e = absurd cc
+-- ---- with a trace, and without
+
+still : (traced : Bool) (text more : List ℕ) → (traced ≡ true → text ≡ []) → traced ≡ true → text ++ (if traced then [] else more) ≡ []
+still true text more e t = ap (λ (x : List ℕ). x ++ []) (e t)
+still false text more e t = absurd cc
+
+none_kept : (traced : Bool) → [] ≡ kept traced []
+none_kept true = refl
+none_kept false = refl
+
+one_kept : (traced : Bool) (rs rs' : List Record) (event : Event) (what : Seen) (n : ℕ) → rs' ≡ rs ++ records_of event what n → recorded traced (kept traced rs) event what n ≡ kept traced rs'
+one_kept true rs rs' event what n e = sym e
+one_kept false rs rs' event what n e = refl
+
+settled_as : (traced : Bool) (run : Output StepperView) (s : StepperView) (line : List ℕ) (rs rs' : List Record) (t : Settling) → s.records ≡ kept traced rs → rs' ≡ recorded_all rs t
+    → with_answer run (if traced then settles_traced s t else settles_telling s line t)
+    ≡ record {
+      state = record s { lines = next s.lines; fabric = Some t.fabric; records = kept traced rs' };
+      text = run.text ++ (if traced then [] else settled_lines s.options.echoes line (recorded_all [] t));
+      status = run.status;
+    }
+settled_as true run s line rs rs' t before after =
+    ap (λ (xs : List Record). record { state = record s { lines = next s.lines; fabric = Some t.fabric; records = xs }; text = run.text ++ []; status = run.status })
+    (ap (λ (xs : List Record). recorded_all xs t) before ∙ sym after)
+settled_as false run s line rs rs' t before after =
+    ap (λ (xs : List Record). record { state = record s { lines = next s.lines; fabric = Some t.fabric; records = xs }; text = run.text ++ settled_lines s.options.echoes line (recorded_all [] t); status = run.status }) before
+
+-- ---- line by line
 
 -- the run after a line is that of what the line does
-after_one : Answers → (keeps echoes : Bool) (line : List ℕ) (l : Option Line) (p p' : Progress) (n : ℕ) → IsSoundFabric p.fabric → LineDoes keeps p l p'
-    → with_answer (run_at keeps echoes p n) (by_line (at keeps echoes (Some p.fabric) p.records n) line l) ≡ run_at keeps echoes p' (min (n + 1) (2 ^ 64 - 1))
-after_one a keeps echoes line None p p' n s h = absurd h
-after_one a keeps echoes line (Some (lines.Fabric c)) p p' n s h = absurd h
-after_one a keeps echoes line (Some (lines.Event event)) p p' n s (inl h) =
+after_one : Answers → (o : StepOptions) (line : List ℕ) (l : Option Line) (p p' : Progress) (n : ℕ) (text : List ℕ) → IsSilent o text → LineDoes o.keeps_going p l p'
+    → ComesTo o (with_answer (run_at o p n text) (by_line (at o (Some p.fabric) (kept o.is_traced p.records) n) line l)) p'
+after_one a o line None p p' n text e h = absurd h
+after_one a o line (Some (lines.Fabric c)) p p' n text e h = absurd h
+after_one a o line (Some (lines.Event event)) p p' n text e (inl h) =
     let g = h.recorded in
-    let start = at keeps echoes (Some p.fabric) p.records n in
-    ap (λ (x : Result (Seen × Fabric) Refusal). with_answer (run_at keeps echoes p n) (answered start line event (length p.fabric.memory.entries) x)) g.happens.0
-    ∙ ap₂ (λ (rs : List Record) (status : ℕ). run_at keeps echoes (progress p'.fabric rs status) (min (n + 1) (2 ^ 64 - 1))) (sym g.now) (sym h.status)
-after_one a keeps echoes line (Some (lines.Event event)) p p' n s (inr h) =
-    let start = at keeps echoes (Some p.fabric) p.records n in
-    ap (λ (x : Result (Seen × Fabric) Refusal). with_answer (run_at keeps echoes p n) (answered start line event (length p.fabric.memory.entries) x)) (a.refused p.fabric event h.1.refusal h.1.refused h.1.told)
-    ∙ passed keeps echoes p n line (refusal_text h.1.refusal) h.0
-    ∙ ap (λ (x : Progress). run_at keeps echoes x (min (n + 1) (2 ^ 64 - 1))) (sym h.1.now)
-after_one a keeps echoes line (Some lines.Settle) p p' n s h =
-    ap₂ (λ (f : Fabric) (rs : List Record). run_at keeps echoes (progress f rs p.status) (min (n + 1) (2 ^ 64 - 1))) (sym h.fabric) (sym h.records)
-    ∙ ap (λ (status : ℕ). run_at keeps echoes (progress p'.fabric p'.records status) (min (n + 1) (2 ^ 64 - 1))) (sym h.status)
+    let start = at o (Some p.fabric) (kept o.is_traced p.records) n in
+    let length_before = length p.fabric.memory.entries in
+    let told = shown o.echoes line (seen_text event g.what) in
+    let now = text ++ (if o.is_traced then [] else told) in
+    record {
+      lines = next n;
+      text = now;
+      silent = still o.is_traced text told e;
+      is = ap (λ (x : Result (Seen × Fabric) Refusal). with_answer (run_at o p n text) (answered start line event length_before x)) g.happens.0
+          ∙ ap₂ (λ (rs : List Record) (status : ℕ). record { state = at o (Some p'.fabric) rs (next n); text = now; status = status })
+          (one_kept o.is_traced p.records p'.records event g.what length_before g.now) (sym h.status);
+    }
+after_one a o line (Some (lines.Event event)) p p' n text e (inr h) =
+    let start = at o (Some p.fabric) (kept o.is_traced p.records) n in
+    let told = shown o.echoes line (refused_line start (refusal_text h.1.refusal)) in
+    record {
+      lines = next n;
+      text = text ++ (if o.is_traced then [] else told);
+      silent = still o.is_traced text told e;
+      is = ap (λ (x : Result (Seen × Fabric) Refusal). with_answer (run_at o p n text) (answered start line event (length p.fabric.memory.entries) x))
+          (a.refused p.fabric event h.1.refusal h.1.refused h.1.told)
+          ∙ ap (λ (b : Bool). with_answer (run_at o p n text) (refused_by b start told)) h.0
+          ∙ ap (λ (x : Progress). run_at o x (next n) (text ++ (if o.is_traced then [] else told))) (sym h.1.now);
+    }
+after_one a o line (Some lines.Settle) p p' n text e h =
+    let told = settled_lines o.echoes line (recorded_all [] (settlement p.fabric)) in
+    let now = text ++ (if o.is_traced then [] else told) in
+    record {
+      lines = next n;
+      text = now;
+      silent = still o.is_traced text told e;
+      is = settled_as o.is_traced (run_at o p n text) (at o (Some p.fabric) (kept o.is_traced p.records) n) line p.records p'.records (settlement p.fabric) refl h.records
+          ∙ ap₂ (λ (f : Fabric) (status : ℕ). record { state = at o (Some f) (kept o.is_traced p'.records) (next n); text = now; status = status }) (sym h.fabric) (sym h.status);
+    }
 
-abbrev Ends : Bool → Bool → Output StepperView → List (List ℕ) → Progress → Type 0
-Ends keeps echoes run ls p = (m : ℕ) × (runs_on run ls ≡ run_at keeps echoes p m)
+abbrev Later : StepOptions → List (List ℕ) → Type 0
+Later o ls = (p p' : Progress) (n : ℕ) (text : List ℕ) → IsSilent o text → LinesDo o.keeps_going p (script_of ls) p' → ComesTo o (runs_on (run_at o p n text) ls) p'
 
-abbrev Later : Bool → Bool → List (List ℕ) → Type 0
-Later keeps echoes ls = (p p' : Progress) (n : ℕ) → IsRight p → LinesDo keeps p (script_of ls) p' → Ends keeps echoes (run_at keeps echoes p n) ls p'
+later_by : Answers → (o : StepOptions) (long skipped : Bool) (line : List ℕ) (l : Option Line) (ls : List (List ℕ)) → Later o ls →
+    (p p' : Progress) (n : ℕ) (text : List ℕ) → IsSilent o text → LinesDo o.keeps_going p (put long skipped l (script_of ls)) p' → ComesTo o (on_from long skipped line l (run_at o p n text) ls) p'
+later_by a o true skipped line l ls more p p' n text e h = absurd h.1
+later_by a o false true line l ls more p p' n text e h = more p p' (next n) (text ++ []) (λ t. ap (λ (x : List ℕ). x ++ []) (e t)) h
+later_by a o false false line l ls more p p' n text e h =
+    let one = after_one a o line l p h.0 n text e h.1 in
+    let all = more h.0 p' one.lines one.text one.silent h.2 in
+    record { lines = all.lines; text = all.text; silent = all.silent; is = ap (λ (x : Output StepperView). runs_on x ls) one.is ∙ all.is }
 
-later_by : Laws → Answers → (keeps echoes : Bool) (long skipped : Bool) (line : List ℕ) (l : Option Line) (ls : List (List ℕ)) → Later keeps echoes ls →
-    (p p' : Progress) (n : ℕ) → IsRight p → LinesDo keeps p (put long skipped l (script_of ls)) p' → (m : ℕ) × (on_from long skipped line l (run_at keeps echoes p n) ls ≡ run_at keeps echoes p' m)
-later_by w a keeps echoes true skipped line l ls more p p' n r h = absurd h.1
-later_by w a keeps echoes false true line l ls more p p' n r h = more p p' (min (n + 1) (2 ^ 64 - 1)) r h
-later_by w a keeps echoes false false line l ls more p p' n r h =
-    let all = more h.0 p' (min (n + 1) (2 ^ 64 - 1)) (right_after w keeps p l h.0 h.1 r) h.2 in
-    (all.0, ap (λ (x : Output StepperView). runs_on x ls) (after_one a keeps echoes line l p h.0 n r.0 h.1) ∙ all.1)
+lines_run : Answers → (o : StepOptions) (ls : List (List ℕ)) → Later o ls
+lines_run a o [] p p' n text e h = record { lines = n; text = text; silent = e; is = ap (λ (x : Progress). run_at o x n text) (sym h) }
+lines_run a o (line ∷ ls) p p' n text e h =
+    later_by a o (nat_lt 512 (length (bare line))) (is_skipped (said line)) (said line) (line_of (words (said line))) ls (lines_run a o ls) p p' n text e h
 
-lines_run : Laws → Answers → (keeps echoes : Bool) (ls : List (List ℕ)) → Later keeps echoes ls
-lines_run w a keeps echoes [] p p' n r h = (n, ap (λ (x : Progress). run_at keeps echoes x n) (sym h))
-lines_run w a keeps echoes (line ∷ ls) p p' n r h =
-    later_by w a keeps echoes (nat_lt 512 (length (bare line))) (is_skipped (said line)) (said line) (line_of (words (said line))) ls (lines_run w a keeps echoes ls) p p' n r h
+abbrev start_at : StepOptions → ℕ → List ℕ → Output StepperView
+start_at o n text = record { state = at o None [] n; text = text; status = 0 }
 
-abbrev start_at : Bool → Bool → ℕ → Output StepperView
-start_at keeps echoes n = new_run (at keeps echoes None [] n)
+abbrev Scripts : StepOptions → List (List ℕ) → Type 0
+Scripts o ls = (c : Config) (after : List (Option Line)) (p : Progress) (n : ℕ) (text : List ℕ) → IsSilent o text → config_fault c ≡ None
+    → script_of ls ≡ Some (lines.Fabric c) ∷ after → LinesDo o.keeps_going (progress (new_fabric c) [] 0) after p → ComesTo o (runs_on (start_at o n text) ls) p
 
-abbrev Scripts : Bool → Bool → List (List ℕ) → Type 0
-Scripts keeps echoes ls = (c : Config) (after : List (Option Line)) (p : Progress) (n : ℕ) → config_fault c ≡ None → IsRight (progress (new_fabric c) [] 0)
-    → script_of ls ≡ Some (lines.Fabric c) ∷ after → LinesDo keeps (progress (new_fabric c) [] 0) after p → Ends keeps echoes (start_at keeps echoes n) ls p
+script_by : Answers → (o : StepOptions) (long skipped : Bool) (line : List ℕ) (l : Option Line) (ls : List (List ℕ)) → Scripts o ls →
+    (c : Config) (after : List (Option Line)) (p : Progress) (n : ℕ) (text : List ℕ) → IsSilent o text → config_fault c ≡ None
+    → put long skipped l (script_of ls) ≡ Some (lines.Fabric c) ∷ after → LinesDo o.keeps_going (progress (new_fabric c) [] 0) after p
+    → ComesTo o (on_from long skipped line l (start_at o n text) ls) p
+script_by a o true skipped line l ls more c after p n text e k is h = absurd cc
+script_by a o false true line l ls more c after p n text e k is h = more c after p (next n) (text ++ []) (λ t. ap (λ (x : List ℕ). x ++ []) (e t)) k is h
+script_by a o false false line l ls more c after p n text e k is h =
+    let first = progress (new_fabric c) [] 0 in
+    let rest = rest_same l (Some (lines.Fabric c)) (script_of ls) after is in
+    let all = lines_run a o ls first p (next n) (text ++ []) (λ t. ap (λ (x : List ℕ). x ++ []) (e t)) (subst (λ (xs : List (Option Line)). LinesDo o.keeps_going first xs p) (sym rest) h) in
+    record {
+      lines = all.lines;
+      text = all.text;
+      silent = all.silent;
+      is = ap (λ (x : Option Line). on_from false false line x (start_at o n text) ls) (first_same l (Some (lines.Fabric c)) (script_of ls) after is)
+          ∙ ap (λ (x : Option ConfigFault). runs_on (with_answer (start_at o n text) (made (at o None [] n) c x)) ls) k
+          ∙ ap (λ (rs : List Record). runs_on (record { state = at o (Some (new_fabric c)) rs (next n); text = text ++ []; status = 0 }) ls) (none_kept o.is_traced)
+          ∙ all.is;
+    }
 
-script_by : Laws → Answers → (keeps echoes : Bool) (long skipped : Bool) (line : List ℕ) (l : Option Line) (ls : List (List ℕ)) → Scripts keeps echoes ls →
-    (c : Config) (after : List (Option Line)) (p : Progress) (n : ℕ) → config_fault c ≡ None → IsRight (progress (new_fabric c) [] 0)
-    → put long skipped l (script_of ls) ≡ Some (lines.Fabric c) ∷ after → LinesDo keeps (progress (new_fabric c) [] 0) after p
-    → (m : ℕ) × (on_from long skipped line l (start_at keeps echoes n) ls ≡ run_at keeps echoes p m)
-script_by w a keeps echoes true skipped line l ls more c after p n k r e h = absurd cc
-script_by w a keeps echoes false true line l ls more c after p n k r e h = more c after p (min (n + 1) (2 ^ 64 - 1)) k r e h
-script_by w a keeps echoes false false line l ls more c after p n k r e h =
-    let s = at keeps echoes None [] n in
-    let all = lines_run w a keeps echoes ls (progress (new_fabric c) [] 0) p (min (n + 1) (2 ^ 64 - 1)) r
-    (subst (λ (xs : List (Option Line)). LinesDo keeps (progress (new_fabric c) [] 0) xs p) (sym (rest_same l (Some (lines.Fabric c)) (script_of ls) after e)) h) in (
-      all.0,
-      ap (λ (o : Option Line). on_from false false line o (start_at keeps echoes n) ls) (first_same l (Some (lines.Fabric c)) (script_of ls) after e)
-          ∙ ap (λ (x : Option ConfigFault). runs_on (with_answer (start_at keeps echoes n) (made s c x)) ls) k
-          ∙ all.1,
-    )
+scripts_run : Answers → (o : StepOptions) (ls : List (List ℕ)) → Scripts o ls
+scripts_run a o [] c after p n text e k is h = absurd cc
+scripts_run a o (line ∷ ls) c after p n text e k is h =
+    script_by a o (nat_lt 512 (length (bare line))) (is_skipped (said line)) (said line) (line_of (words (said line))) ls (scripts_run a o ls) c after p n text e k is h
 
-scripts_run : Laws → Answers → (keeps echoes : Bool) (ls : List (List ℕ)) → Scripts keeps echoes ls
-scripts_run w a keeps echoes [] c after p n k r e h = absurd cc
-scripts_run w a keeps echoes (line ∷ ls) c after p n k r e h =
-    script_by w a keeps echoes (nat_lt 512 (length (bare line))) (is_skipped (said line)) (said line) (line_of (words (said line))) ls (scripts_run w a keeps echoes ls) c after p n k r e h
+comes_to : Answers → (o : StepOptions) (input : List ℕ) (p : Progress) → RunsThrough o.keeps_going input p → ComesTo o (runs_on (start_at o 0 []) (lines_of input)) p
+comes_to a o input p h =
+    let made_is = a.new h.config h.fabric h.is_new in
+    scripts_run a o (lines_of input) h.config h.after p 0 [] (λ t. refl) made_is.1 h.says (subst (λ (f : Fabric). LinesDo o.keeps_going (progress f [] 0) h.after p) made_is.0 h.goes_on)
+
+pub status_is : Answers → (o : StepOptions) (input : List ℕ) (p : Progress) → RunsThrough o.keeps_going input p → (out_step_with o input).status ≡ p.status
+status_is a o input p h = ap (λ (x : Output StepperView). (after_end step_responses x).status) (comes_to a o input p h).is
 
 -- the trace is told at the end
-abbrev told : Bool → Bool → ℕ → Progress → Output StepperView
-told keeps echoes m p = record { state = at keeps echoes (Some p.fabric) [] m; text = trace_text (claim_with p.fabric p.records); status = p.status }
-
-pub is_told : Laws → Answers → (keeps echoes : Bool) (input : List ℕ) (p : Progress) → RunsThrough keeps input p
-    → (m : ℕ) × (out_step_with (traced keeps echoes) input ≡ told keeps echoes m p)
-is_told w a keeps echoes input p h =
-    let made_is = a.new h.config h.fabric h.is_new in
-    let all = scripts_run w a keeps echoes (lines_of input) h.config h.after p 0 made_is.1
-    (subst (λ (f : Fabric). IsRight (progress f [] 0)) made_is.0 (new_right w h.config h.fabric h.is_new)) h.says
-    (subst (λ (f : Fabric). LinesDo keeps (progress f [] 0) h.after p) made_is.0 h.goes_on) in
-    (all.0, ap (after_end step_responses) all.1)
+pub text_is : Answers → (keeps echoes : Bool) (input : List ℕ) (p : Progress) → RunsThrough keeps input p
+    → (out_step_with (traced keeps echoes) input).text ≡ trace_text (claim_with p.fabric p.records)
+text_is a keeps echoes input p h =
+    let all = comes_to a (traced keeps echoes) input p h in
+    ap (λ (x : Output StepperView). (after_end step_responses x).text) all.is ∙ ap (λ (t : List ℕ). t ++ trace_text (claim_with p.fabric p.records)) (all.silent refl)
 
 -- ---- scripts of events that all happen
 

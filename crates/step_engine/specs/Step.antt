@@ -48,11 +48,8 @@ abbrev pub nothing : StepperView → Answer StepperView
 nothing s = record { state = s; text = []; is_fault = false }
 
 -- what answers a line is a line of its own, after the other where that is asked for
-abbrev pub echo_of : StepperView → List ℕ → List ℕ
-echo_of s line = if s.options.echoes then line ++ codes " -> " else []
-
-abbrev pub shown : StepperView → List ℕ → List ℕ → List ℕ
-shown s line text = echo_of s line ++ (text ++ 10 ∷ [])
+abbrev pub shown : Bool → List ℕ → List ℕ → List ℕ
+shown echoes line text = (if echoes then line ++ codes " -> " else []) ++ (text ++ 10 ∷ [])
 
 -- ---- what ends a run
 
@@ -62,12 +59,9 @@ fault_line s name = codes "fault " ++ (decimal (next_line s) ++ 32 ∷ name)
 abbrev pub refused_line : StepperView → List ℕ → List ℕ
 refused_line s name = codes "refused " ++ (decimal (next_line s) ++ 32 ∷ name)
 
-abbrev pub ended : StepperView → StepperView
-ended s = record s { lines = next_line s; has_ended = true }
-
 -- the run ends with this text
 abbrev pub ends : StepperView → List ℕ → Answer StepperView
-ends s text = record { state = ended s; text = text; is_fault = true }
+ends s text = record { state = record s { lines = next_line s; has_ended = true }; text = text; is_fault = true }
 
 abbrev pub fault : StepperView → List ℕ → Answer StepperView
 fault s name = ends s (fault_line s name ++ 10 ∷ [])
@@ -75,14 +69,16 @@ fault s name = ends s (fault_line s name ++ 10 ∷ [])
 abbrev pub no_line : StepperView → Answer StepperView
 no_line s = fault s (codes "Script")
 
--- the run goes on after this text, of which a trace has nothing
-abbrev pub passes : StepperView → List ℕ → Answer StepperView
-passes s text = record { state = counted s; text = if s.options.is_traced then [] else text; is_fault = true }
+-- a refusal ends the run after this text; or the run goes on, and a trace has nothing of it
+abbrev pub refused_by : Bool → StepperView → List ℕ → Answer StepperView
+refused_by keeps_going s text = record {
+  state = record s { lines = next_line s; has_ended = not keeps_going };
+  text = if keeps_going && s.options.is_traced then [] else text;
+  is_fault = true;
+}
 
--- a refusal ends the run, or is told and changes nothing
 abbrev pub refused : StepperView → List ℕ → List ℕ → Answer StepperView
-refused s line name =
-    if s.options.keeps_going then passes s (shown s line (refused_line s name)) else ends s (shown s line (refused_line s name))
+refused s line name = refused_by s.options.keeps_going s (shown s.options.echoes line (refused_line s name))
 
 -- ---- the first line
 
@@ -99,7 +95,7 @@ made_once s (Some f) c = no_line s
 
 -- the result is told, or the trace grows
 abbrev pub result_text : StepperView → List ℕ → Event → Seen → List ℕ
-result_text s line event what = if s.options.is_traced then [] else shown s line (seen_text event what)
+result_text s line event what = if s.options.is_traced then [] else shown s.options.echoes line (seen_text event what)
 
 abbrev pub recorded : Bool → List Record → Event → Seen → ℕ → List Record
 recorded traced rs event what n = if traced then rs ++ records_of event what n else rs
@@ -123,19 +119,19 @@ happened s line (Some f) event = answered s line event (length f.memory.entries)
 -- ---- rounds of events until nothing moves
 
 -- what is collected is told as by events, each in a line
-unfoldable pub told_lines : StepperView → List ℕ → List Record → List ℕ
-told_lines s line [] = []
-told_lines s line (r ∷ rs) = shown s line (told_text r) ++ told_lines s line rs
+unfoldable pub told_lines : Bool → List ℕ → List Record → List ℕ
+told_lines echoes line [] = []
+told_lines echoes line (r ∷ rs) = shown echoes line (told_text r) ++ told_lines echoes line rs
 
 -- the records with those of what happened
 abbrev pub recorded_all : List Record → Settling → List Record
 recorded_all rs t = fold with_record rs t.happened
 
-abbrev pub settled_lines : StepperView → List ℕ → Settling → List ℕ
-settled_lines s line t = told_lines s line (recorded_all [] t) ++ shown s line settled_text
+abbrev pub settled_lines : Bool → List ℕ → List Record → List ℕ
+settled_lines echoes line answers = told_lines echoes line answers ++ shown echoes line settled_text
 
 abbrev pub settles_telling : StepperView → List ℕ → Settling → Answer StepperView
-settles_telling s line t = record { state = record s { lines = next_line s; fabric = Some t.fabric }; text = settled_lines s line t; is_fault = false }
+settles_telling s line t = record { state = record s { lines = next_line s; fabric = Some t.fabric }; text = settled_lines s.options.echoes line (recorded_all [] t); is_fault = false }
 
 abbrev pub settles_traced : StepperView → Settling → Answer StepperView
 settles_traced s t = record { state = record s { lines = next_line s; fabric = Some t.fabric; records = recorded_all s.records t }; text = []; is_fault = false }

@@ -1,10 +1,13 @@
 //! The lines that answer a script.
-ghost use Rattle.std.specs.Prelude.{◌≡◌, ◌≤◌, ◌++◌, ◌∷◌, [], if◌then◌else◌, length, take, codes, OnOk, OnErr};
+ghost use Rattle.std.specs.Prelude.{◌≡◌, ◌≤◌, ◌++◌, ◌∷◌, [], length, take, codes, OnOk, OnErr};
 ghost use Rattle.std.specs.Fmt.{decimal};
 ghost use Rattle.arrayvec.specs.ArrayString.{array_string_len};
+ghost use Rattle.step_engine.specs.Step as spec;
 
 use arrayvec::ArrayString;
+use history_words::Record;
 use operation_text::write_decimal;
+use script_text::{write_settled, write_told};
 use std::alloc::AllocError;
 
 /// The beginning of the line that ends a run.
@@ -55,7 +58,7 @@ pub(crate) fn put_shown(
     out: &mut Vec<u8>,
 ) -> Result<(), AllocError>
     requires { array_string_len text.old ≤ 320 }
-    ensures ok { OnOk result (out.new.items ≡ out.old.items ++ ((if echoes then line.now ++ codes " -> " else []) ++ (text.old.bytes ++ 10 ∷ []))) }
+    ensures ok { OnOk result (out.new.items ≡ out.old.items ++ spec.shown echoes line.now text.old.bytes) }
     ensures err { OnErr result (out.new.items ≡ out.old.items) }
 {
     text.push_str("\n");
@@ -65,4 +68,36 @@ pub(crate) fn put_shown(
         out.extend_from_slice(text.as_bytes())?;
     }
     Ok(())
+}
+
+/// Adds a line for each answer that was collected.
+fn put_answers(
+    echoes: bool,
+    line: &[u8],
+    answers: &[Record],
+    out: &mut Vec<u8>,
+) -> Result<(), AllocError>
+    ensures { OnOk result (out.new.items ≡ out.old.items ++ spec.told_lines echoes line.now answers.now) }
+{
+    for answer in answers {
+        let mut text = ArrayString::new();
+        write_told(answer, &mut text);
+        put_shown(echoes, line, &mut text, out)?;
+    }
+    Ok(())
+}
+
+/// Adds what was collected, and that the fabric came to rest. After an `Err` a part of it may be there.
+pub(crate) fn put_settled(
+    echoes: bool,
+    line: &[u8],
+    answers: &[Record],
+    out: &mut Vec<u8>,
+) -> Result<(), AllocError>
+    ensures { OnOk result (out.new.items ≡ out.old.items ++ spec.settled_lines echoes line.now answers.now) }
+{
+    put_answers(echoes, line, answers, out)?;
+    let mut text = ArrayString::new();
+    write_settled(&mut text);
+    put_shown(echoes, line, &mut text, out)
 }

@@ -11,6 +11,7 @@ ghost use Rattle.fabric_core.specs.Runs.{Runs};
 ghost use Rattle.trace_engine.specs.Check.{out_check, out_check_clocked};
 ghost use Rattle.trace_text.specs.Tellable.{IsTellable};
 ghost use Rattle.trace_text.specs.Texts.{trace_text};
+ghost use Rattle.step_engine.specs.declared.options.StepOptions.{StepOptions};
 ghost use Rattle.step_engine.specs.Options.{traced};
 ghost use Rattle.step_engine.specs.Script.{IsScript, Progress, RunsThrough};
 ghost use Rattle.step_engine.specs.Step.{claim_with, out_step, out_step_with};
@@ -24,13 +25,13 @@ use trace_engine::laws::{a_clocked_trace_is_ok, an_explained_trace_is_ok};
 use trace_text::told_trace_is_read_back;
 
 /// Where each line of a script is an event that happens, or `settle`, or with `--keep-going` an event that is refused,
-/// its run with `--trace` writes the trace of what happened with the fabric's history, and ends with status 1 where an
-/// event was refused, else 0; and the history explains that trace, whose `n` are those of a history that grew.
+/// its run ends with status 1 where an event was refused, else 0, and with `--trace` it writes the trace of what happened
+/// with the fabric's history; and the history explains that trace, whose `n` are those of a history that grew.
 pub fn what_a_script_does_is_explained()
     ensures text { (keeps_going echoes : Bool) (input : List ℕ) (p : Progress) →
         RunsThrough keeps_going input p → (out_step_with (traced keeps_going echoes) input).text ≡ trace_text (claim_with p.fabric p.records) }
-    ensures status { (keeps_going echoes : Bool) (input : List ℕ) (p : Progress) →
-        RunsThrough keeps_going input p → (out_step_with (traced keeps_going echoes) input).status ≡ p.status }
+    ensures status { (options : StepOptions) (input : List ℕ) (p : Progress) →
+        RunsThrough options.keeps_going input p → (out_step_with options input).status ≡ p.status }
     ensures explained { (keeps_going : Bool) (input : List ℕ) (p : Progress) → RunsThrough keeps_going input p → Explains (claim_with p.fabric p.records) }
     ensures clocked { (keeps_going : Bool) (input : List ℕ) (p : Progress) → RunsThrough keeps_going input p → IsClocked (claim_with p.fabric p.records) }
 {

@@ -5,11 +5,11 @@ ghost use Rattle.fabric_core.specs.Answers.{answer};
 ghost use Rattle.fabric_steps.specs.Faults.{IsTold};
 ghost use Rattle.fabric_core.specs.Config.{fault_name};
 ghost use Rattle.script_text.specs.Names.{refusal_text};
-ghost use Rattle.script_text.specs.Texts.{seen_text, settled_text};
+ghost use Rattle.script_text.specs.Texts.{seen_text};
 ghost use Rattle.line_loop.specs.Run.{IsAnswer};
 ghost use Rattle.step_engine.specs.Step as spec;
 
-use crate::answering::{ending, put_shown};
+use crate::answering::{ending, put_settled, put_shown};
 use crate::options::StepOptions;
 use arrayvec::ArrayString;
 use fabric_core::{ANSWER_ROOM, Config, ConfigFault, EventRef, Fabric, Refusal, SeenRef};
@@ -18,9 +18,7 @@ use hex_text::is_skipped;
 use history_words::{Claim, Record};
 use line_loop::Verdict;
 use requester_core::Answer;
-use script_text::{
-    Line, read_line, write_config_fault, write_refusal, write_seen, write_settled, write_told,
-};
+use script_text::{Line, read_line, write_config_fault, write_refusal, write_seen};
 use seq_memory::Keeper;
 use std::alloc::{AllocError, Global};
 use std::marker::Model;
@@ -103,13 +101,6 @@ impl<K: Keeper> Stepper<K> {
         }
     }
 
-    /// The number of lines so far, skipped ones counted.
-    pub(crate) fn lines(&self) -> u64
-        ensures { result ≡ self.now.lines }
-    {
-        self.lines
-    }
-
     /// Whether the script has its fabric.
     pub(crate) fn has_fabric(&self) -> bool
         ensures { result ≡ is_some self.now.fabric }
@@ -137,14 +128,6 @@ impl<K: Keeper> Stepper<K> {
         self.lines = self.next_line();
     }
 
-    /// The line is the last one.
-    fn finish(&mut self)
-        ensures { self.new ≡ spec.ended self.old }
-    {
-        self.count();
-        self.has_ended = true;
-    }
-
     /// Ends the run with this line.
     fn end(&mut self, mut line: ArrayString<512>, out: &mut Vec<u8>) -> Result<Verdict, AllocError>
         requires { array_string_len line ≤ 64 }
@@ -153,7 +136,8 @@ impl<K: Keeper> Stepper<K> {
     {
         line.push_str("\n");
         out.extend_from_slice(line.as_bytes())?;
-        self.finish();
+        self.count();
+        self.has_ended = true;
         Ok(Verdict::Fault)
     }
 
@@ -176,60 +160,8 @@ impl<K: Keeper> Stepper<K> {
         write_config_fault(&fault, &mut line);
         self.end(line, out)
     }
-}
 
-impl<K: Keeper> Stepper<K> {
-    /// Adds what answers a line of the script, after it where that is asked for.
-    fn put(
-        &self,
-        line: &[u8],
-        text: &mut ArrayString<512>,
-        out: &mut Vec<u8>,
-    ) -> Result<(), AllocError>
-        requires { array_string_len text.old ≤ 320 }
-        ensures ok { OnOk result (out.new.items ≡ out.old.items ++ spec.shown self.now line.now text.old.bytes) }
-        ensures err { OnErr result (out.new.items ≡ out.old.items) }
-    {
-        put_shown(self.options.echoes, line, text, out)
-    }
-
-    /// Goes on after a refusal, which changes nothing.
-    fn pass(
-        &mut self,
-        line: &[u8],
-        text: &mut ArrayString<512>,
-        out: &mut Vec<u8>,
-    ) -> Result<Verdict, AllocError>
-        requires { array_string_len text.old ≤ 320 }
-        ensures ok { IfOk result (λ verdict. IsAnswer self.new out.old.items out.new.items verdict
-            (spec.passes self.old (spec.shown self.old line.now text.old.bytes))) }
-        ensures err { OnErr result (out.new.items ≡ out.old.items) }
-    {
-        if !self.options.is_traced {
-            self.put(line, text, out)?;
-        }
-        self.count();
-        Ok(Verdict::Fault)
-    }
-
-    /// Ends the run with a refusal.
-    fn stop(
-        &mut self,
-        line: &[u8],
-        text: &mut ArrayString<512>,
-        out: &mut Vec<u8>,
-    ) -> Result<Verdict, AllocError>
-        requires { array_string_len text.old ≤ 320 }
-        ensures ok { IfOk result (λ verdict. IsAnswer self.new out.old.items out.new.items verdict
-            (spec.ends self.old (spec.shown self.old line.now text.old.bytes))) }
-        ensures err { OnErr result (out.new.items ≡ out.old.items) }
-    {
-        self.put(line, text, out)?;
-        self.finish();
-        Ok(Verdict::Fault)
-    }
-
-    /// An event was refused; out of memory is no answer.
+    /// An event was refused, which ends the run unless it goes on; out of memory is no answer.
     fn refused(
         &mut self,
         line: &[u8],
@@ -246,10 +178,13 @@ impl<K: Keeper> Stepper<K> {
         let mut text = ending("refused ", self.next_line());
         write_refusal(&refusal, &mut text);
         self.refusal = Some(refusal);
-        if self.options.keeps_going {
-            return self.pass(line, &mut text, out);
+        let is_hidden = self.options.keeps_going && self.options.is_traced;
+        if !is_hidden {
+            put_shown(self.options.echoes, line, &mut text, out)?;
         }
-        self.stop(line, &mut text, out)
+        self.count();
+        self.has_ended = !self.options.keeps_going;
+        Ok(Verdict::Fault)
     }
 }
 
@@ -283,7 +218,7 @@ impl<K: Keeper> Stepper<K> {
         out: &mut Vec<u8>,
     ) -> Result<Verdict, AllocError>
         ensures state { OnOk result (self.new ≡ spec.counted self.old) }
-        ensures text { OnOk result (out.new.items ≡ out.old.items ++ spec.shown self.old line.now (seen_text event.now seen.now)) }
+        ensures text { OnOk result (out.new.items ≡ out.old.items ++ spec.shown self.old.options.echoes line.now (seen_text event.now seen.now)) }
         ensures verdict { IfOk result (λ verdict. verdict ≡ Verdict.Fine) }
         ensures err { OnErr result (out.new.items ≡ out.old.items) }
     {
@@ -326,48 +261,6 @@ impl<K: Keeper> Stepper<K> {
             }
         }
     }
-}
-
-impl<K: Keeper> Stepper<K> {
-    /// Adds a line for each answer that was collected.
-    fn put_answers(
-        &self,
-        line: &[u8],
-        answers: &[Record],
-        out: &mut Vec<u8>,
-    ) -> Result<(), AllocError>
-        ensures { OnOk result (out.new.items ≡ out.old.items ++ spec.told_lines self.now line.now answers.now) }
-    {
-        for answer in answers {
-            let mut text = ArrayString::new();
-            write_told(answer, &mut text);
-            self.put(line, &mut text, out)?;
-        }
-        Ok(())
-    }
-
-    /// Tells what was collected, and that the fabric came to rest.
-    fn tell_settled(
-        &mut self,
-        line: &[u8],
-        answers: &[Record],
-        out: &mut Vec<u8>,
-    ) -> Result<Verdict, AllocError>
-        ensures state { OnOk result (self.new ≡ spec.counted self.old) }
-        ensures text { OnOk result (out.new.items ≡ out.old.items ++
-            (spec.told_lines self.old line.now answers.now ++ spec.shown self.old line.now settled_text)) }
-        ensures verdict { IfOk result (λ verdict. verdict ≡ Verdict.Fine) }
-        ensures err { OnErr result (out.new.items ≡ out.old.items) }
-    {
-        let mut lines = Vec::new(self.alloc);
-        self.put_answers(line, answers, &mut lines)?;
-        let mut text = ArrayString::new();
-        write_settled(&mut text);
-        self.put(line, &mut text, &mut lines)?;
-        out.extend_from_slice(lines.as_slice())?;
-        self.count();
-        Ok(Verdict::Fine)
-    }
 
     /// The fabric is run until nothing moves.
     fn settle(&mut self, line: &[u8], out: &mut Vec<u8>) -> Result<Verdict, AllocError>
@@ -385,7 +278,11 @@ impl<K: Keeper> Stepper<K> {
         }
         let mut answers = Vec::new(self.alloc);
         settle(fabric, &mut answers, number)?;
-        self.tell_settled(line, answers.as_slice(), out)
+        let mut lines = Vec::new(self.alloc);
+        put_settled(self.options.echoes, line, answers.as_slice(), &mut lines)?;
+        out.extend_from_slice(lines.as_slice())?;
+        self.count();
+        Ok(Verdict::Fine)
     }
 }
 

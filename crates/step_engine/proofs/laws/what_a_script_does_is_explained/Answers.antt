@@ -1,7 +1,4 @@
-use Rattle.std.proofs.Common.{ap}
-use Rattle.line_loop.specs.Run.{Run}
-use Rattle.step_engine.specs.Step.{StepperView}
-use Rattle.step_engine.proofs.Traced.{Laws, Answers, is_told, is_explained, is_clocked}
+use Rattle.step_engine.proofs.Traced.{Laws, Answers, text_is, status_is, is_explained, is_clocked}
 use Rattle.step_engine.proofs.laws.what_a_script_does_is_explained.Goals as goal
 
 laws_of : goal.After-the_trace_belongs → Laws
@@ -23,8 +20,8 @@ answers_of c = record {
 
 pub returns : goal.returns
 returns c = record {
-  text = λ keeps echoes input p h. ap (λ (x : Run StepperView). x.text) (is_told (laws_of c) (answers_of c) keeps echoes input p h).1;
-  status = λ keeps echoes input p h. ap (λ (x : Run StepperView). x.status) (is_told (laws_of c) (answers_of c) keeps echoes input p h).1;
+  text = text_is (answers_of c);
+  status = status_is (answers_of c);
   explained = is_explained (laws_of c);
   clocked = is_clocked (laws_of c);
 }
