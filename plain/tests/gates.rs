@@ -4,7 +4,10 @@ use crate::runs::{additions, halt_of, plan_with};
 use crate::{add, ends, read};
 use parameters::Plan;
 use kit::sync::atomic::{AtomicBool, AtomicU64, Ordering};
-use workers::{Gate, RunHalt, RunPlan};
+use kit::time::Clock;
+use std::time::Duration;
+use worker_turns::Backoff;
+use workers::{Gate, RunHalt, RunPlan, SleepingGate};
 
 /// A worker at its first turn.
 struct First {
@@ -215,4 +218,62 @@ fn used_tags_come_back() {
     let gate = Withheld { turn: AtomicU64::new(0), submitted: AtomicU64::new(0), refused: AtomicU64::new(0) };
     let script = (0..TAGS + 1).map(|_| read()).collect();
     assert!(halt_of(plan_with(vec![script]), &gate).is_none());
+}
+
+/// A clock that counts how often a thread was to sleep.
+struct Sleeps {
+    count: AtomicU64,
+}
+
+impl Clock for Sleeps {
+    fn monotonic(&self) -> std::io::Result<Duration> {
+        Ok(Duration::ZERO)
+    }
+
+    fn since_1970(&self) -> std::io::Result<Duration> {
+        Ok(Duration::ZERO)
+    }
+
+    fn sleep(&self, duration: Duration) {
+        assert!(duration > Duration::ZERO);
+        self.count.fetch_add(1, Ordering::SeqCst);
+    }
+}
+
+/// A thread sleeps at the third rest in a row and at each one after, until it gets on.
+#[test]
+fn a_thread_sleeps_after_two_rests() {
+    let clock = Sleeps { count: AtomicU64::new(0) };
+    let gate = SleepingGate { clock: &clock };
+    let mut backoff = Backoff::new();
+    for sleeps in [[0, 0, 1, 2], [2, 2, 3, 4]] {
+        for count in sleeps {
+            backoff.rest(&gate);
+            assert_eq!(clock.count.load(Ordering::SeqCst), count);
+        }
+        backoff.got_on();
+    }
+}
+
+/// Keeps how often a thread rested in a row, at most. The requester makes its first call once a thread rested twice.
+struct Rests {
+    most: AtomicU64,
+}
+
+impl Gate for Rests {
+    fn pass(&self, worker: u32, turn: u64) -> bool {
+        (worker, turn) != (1, 1) || ends(|| self.most.load(Ordering::SeqCst) > 1)
+    }
+
+    fn rest(&self, rests: u32) {
+        self.most.fetch_max(u64::from(rests), Ordering::SeqCst);
+    }
+}
+
+/// Threads that get nowhere rest at the gate of the run, which then ends in its report.
+#[test]
+fn threads_rest_at_the_gate() {
+    let gate = Rests { most: AtomicU64::new(0) };
+    assert!(halt_of(additions(1, 50), &gate).is_none());
+    assert!(gate.most.load(Ordering::SeqCst) > 1);
 }

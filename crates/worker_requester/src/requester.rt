@@ -7,9 +7,8 @@ use crate::refused::stop_of;
 use hall_core::{Hall, HallRefusal, ReqSeat};
 use history_words::Record;
 use recorder::{Pusher, Recorder};
-use std::thread;
 use tlp_core::{Op, copy_of};
-use worker_turns::{Gate, Stop, Turns};
+use worker_turns::{Backoff, Gate, Stop, Turns};
 
 /// A requester at work.
 #[derive(Drop)]
@@ -194,8 +193,8 @@ impl<'a> Requester<'a> {
         self.hear(turns)
     }
 
-    /// Submits the script, collects the answers and records both. If nothing ended the run before, what was recorded are
-    /// the records of the seat's calls.
+    /// Submits the script, collects the answers and records both, and rests after each round that did nothing. If nothing
+    /// ended the run before, what was recorded are the records of the seat's calls.
     pub fn run<G: Gate>(self, turns: &mut Turns<'_, G>) -> Ended
         requires { Follows self }
         ensures seat { IsSeatOf self.entry.hall.now result.seat × (suc result.seat.knows.number ≡ self.entry.number) }
@@ -204,10 +203,11 @@ impl<'a> Requester<'a> {
         ensures recorded { IfNone result.stop (result.pusher.pushed.records ≡ result.seat.knows.records) }
     {
         let mut at = self;
+        let mut backoff = Backoff::new();
         let stop = loop {
             match at.round(turns) {
-                Ok(Round::Done) => {}
-                Ok(Round::Nothing) => thread::yield_now(),
+                Ok(Round::Done) => backoff.got_on(),
+                Ok(Round::Nothing) => backoff.rest(turns.gate()),
                 Ok(Round::Ended) => break None,
                 Err(stop) => break Some(stop),
             }

@@ -84,6 +84,11 @@ impl<'a, G: Gate> Turns<'a, G> {
         }
     }
 
+    /// The gate that the worker passes.
+    pub fn gate(&self) -> &'a G {
+        self.gate
+    }
+
     /// Whether the run is over. Then the workers beside the requesters end.
     pub fn is_over(&self) -> bool {
         self.shared.is_over()

@@ -17,4 +17,4 @@ pub use jobs::{Job, Worker};
 pub use running::{run_workers, run_workers_counting};
 pub use tasks::{Task, work};
 pub use worker_report::{Report, RunHalt, RunPlan};
-pub use worker_turns::{Gate, OpenGate};
+pub use worker_turns::{Gate, OpenGate, SleepingGate};

@@ -93,6 +93,11 @@ impl<'a, G: Gate> Shift<'a, G> {
         self.worker.seat
     }
 
+    /// The gate that the worker passes.
+    pub(crate) fn gate(&self) -> &'a G {
+        self.turns.gate()
+    }
+
     /// One turn. None where the run is over.
     fn attempt(&mut self, event: WorkEvent) -> Option<Tried>
         ensures hall { self.new.hall ≡ self.old.hall }

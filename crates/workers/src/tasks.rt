@@ -7,8 +7,7 @@ use crate::jobs::{Job, Worker};
 use crate::shifts::{Shift, Went};
 use hall_core::WorkSeat;
 use std::marker::Model;
-use std::thread;
-use worker_turns::{Gate, Turns};
+use worker_turns::{Backoff, Gate, Turns};
 
 /// A worker at its job, with its own turns.
 #[derive(Drop)]
@@ -46,6 +45,11 @@ impl<'a, G: Gate> Task<'a, G> {
         ensures { IsSeatOf self.entry.hall result }
     {
         self.shift.into_seat()
+    }
+
+    /// The gate that the worker passes.
+    fn gate(&self) -> &'a G {
+        self.shift.gate()
     }
 
     /// A round: what became of it. None if it has ended, as it does with the run.
@@ -96,13 +100,21 @@ fn all_round<G: Gate>(tasks: &mut [Task<'_, G>]) -> Option<bool>
     went
 }
 
-/// Rounds of each until each has ended. Each call of the hall is one of its worker's turns.
+/// Rounds of each until each has ended. Each call of the hall is one of its worker's turns. After a round in which none got
+/// on the thread rests, at the gate of the first.
 pub fn work<G: Gate>(tasks: &mut [Task<'_, G>])
     ensures { map kept_of tasks.new ≡ map kept_of tasks.old }
 {
+    let Some(first) = tasks.first() else {
+        return;
+    };
+    let gate = first.gate();
+    let mut backoff = Backoff::new();
     while let Some(did) = all_round(tasks) {
-        if !did {
-            thread::yield_now();
+        if did {
+            backoff.got_on();
+        } else {
+            backoff.rest(gate);
         }
     }
 }

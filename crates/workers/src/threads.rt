@@ -18,12 +18,11 @@ use recorder::{Pusher, Recorder, Taker};
 use std::alloc::{AllocError, Global};
 use std::sync::Wait;
 use std::sync::atomic::{AtomicU64, Ordering};
-use std::thread;
 use std::thread::{Promise, PromisedHandle, Scope, Threads};
 use tlp_core::Op;
 use worker_report::Gathered;
 use worker_requester::{Ended, Requester};
-use worker_turns::{Gate, Shared, Stop, Turns};
+use worker_turns::{Backoff, Gate, Shared, Stop, Turns};
 
 /// What a requester's thread keeps.
 #[derive(Clone, Copy)]
@@ -257,9 +256,10 @@ fn answers(records: &[Record], from: usize) -> u64 {
 }
 
 /// Takes records until the run is over and the queue is empty. The counter rises by the answers taken.
-fn take_all<R: Wait>(
+fn take_all<R: Wait, G: Gate>(
     rt: &R,
     run: &RunContext,
+    gate: &G,
     answered: &AtomicU64,
     taker: &mut Taker,
     records: &mut Vec<Record>,
@@ -270,6 +270,7 @@ fn take_all<R: Wait>(
     ensures records { taker.new.taken.records ≡ records.new.items }
     ensures whole { OnOk result (IsWhole taker.new.taken) }
 {
+    let mut backoff = Backoff::new();
     for _ in rt.forever() {
         let over = run.shared.is_over();
         let from = records.len();
@@ -279,7 +280,9 @@ fn take_all<R: Wait>(
             if over {
                 break;
             }
-            thread::yield_now();
+            backoff.rest(gate);
+        } else {
+            backoff.got_on();
         }
     }
     Ok(())
@@ -376,13 +379,13 @@ pub fn drive<'s, E, R: Threads + Wait, G: Gate + Sync>(
         run.shared.stop(Stop::Memory);
         return Err(Stop::Memory);
     };
-    let taken = take_all(rt, run, answered, &mut taker, &mut records);
+    let taken = take_all(rt, run, gate, answered, &mut taker, &mut records);
     if taken.is_err() {
         run.shared.stop(Stop::Memory);
     }
     let requesters = join_all(rt, run, &mut taker, handles)?;
     // What came in between the last look and the end of the requesters.
-    let Ok(()) = take_all(rt, run, answered, &mut taker, &mut records) else {
+    let Ok(()) = take_all(rt, run, gate, answered, &mut taker, &mut records) else {
         return Err(Stop::Memory);
     };
     let Ok(work) = join_others(rt, run, others) else {
