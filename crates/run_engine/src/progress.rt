@@ -11,7 +11,7 @@ use std::sync::Wait;
 use std::sync::atomic::{AtomicU64, Ordering};
 use std::thread;
 use std::thread::Threads;
-use std::time::Duration;
+use std::time::{Clock, Duration};
 
 /// How long it is to the first line, in milliseconds. From line to line it is twice as long as before, and no longer than
 /// the longest.
@@ -79,7 +79,7 @@ fn tell<R: Wait, E: Write>(
 }
 
 /// The text and the exit status of a counting; then the run is over.
-fn counted<R: Threads + Wait + Sync>(
+fn counted<R: Threads + Wait + Sync + Clock>(
     rt: &R,
     alloc: Global,
     counting: &Counting,
@@ -97,7 +97,7 @@ fn counted<R: Threads + Wait + Sync>(
 
 /// The text and the exit status of a counting of which is told how far it is. Where no thread can be had
 /// for that, nothing is told.
-pub(crate) fn watched<R: Threads + Wait + Sync, E: Write + Send>(
+pub(crate) fn watched<R: Threads + Wait + Sync + Clock, E: Write + Send>(
     rt: &R,
     alloc: Global,
     counting: &Counting,

@@ -23,7 +23,8 @@ use std::io::Write;
 use std::sync::Wait;
 use std::sync::atomic::AtomicU64;
 use std::thread::Threads;
-use workers::{OpenGate, Report, RunHalt, run_workers_counting};
+use std::time::Clock;
+use workers::{Report, RunHalt, SleepingGate, run_workers_counting};
 
 /// Whether the record is an answer.
 fn is_answer(told: &Record) -> bool
@@ -105,7 +106,7 @@ fn halt_status(halt: RunHalt) -> u8
 }
 
 /// Runs the counting.
-fn run<R: Threads + Wait + Sync>(
+fn run<R: Threads + Wait + Sync + Clock>(
     rt: &R,
     alloc: Global,
     counting: &Counting,
@@ -119,13 +120,13 @@ fn run<R: Threads + Wait + Sync>(
     ensures halt { IfErr result (λ h. IsEndBy h) }
 {
     match plan_of(alloc, counting, threads_of(rt, counting)) {
-        Ok(plan) => run_workers_counting(rt, alloc, plan, &OpenGate, answered),
+        Ok(plan) => run_workers_counting(rt, alloc, plan, &SleepingGate { clock: rt }, answered),
         Err(_) => Err(RunHalt::Memory),
     }
 }
 
 /// The text and the exit status of a counting.
-pub(crate) fn output<R: Threads + Wait + Sync>(
+pub(crate) fn output<R: Threads + Wait + Sync + Clock>(
     rt: &R,
     alloc: Global,
     counting: &Counting,
@@ -144,7 +145,7 @@ pub(crate) fn output<R: Threads + Wait + Sync>(
 /// `check ok`, or the halt. `Ok` is the exit status, 0 for a report, 3 for the halt `Turns` and 1 for any
 /// other. After an `Err` what was written is a prefix of the output. If `progress` isn't hidden, it is told on
 /// `errors` after two seconds, and then more rarely, how many answers of how many were given.
-pub fn run_counting<R: Threads + Wait + Sync, W: Write, E: Write + Send>(
+pub fn run_counting<R: Threads + Wait + Sync + Clock, W: Write, E: Write + Send>(
     rt: &R,
     alloc: Global,
     counting: &Counting,

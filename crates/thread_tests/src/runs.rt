@@ -12,6 +12,7 @@ use std::alloc::{AllocError, Global};
 use std::sync::Wait;
 use std::test::Fail;
 use std::thread::Threads;
+use std::time::Clock;
 use tlp_core::{Op, TlpFault, Width};
 use workers::{OpenGate, Report, RunHalt, RunPlan, run_workers};
 
@@ -114,7 +115,7 @@ fn a_refusal_of_the_core_ends_the_run(rt: HostRuntime) -> Result<(), Fail> {
 }
 
 /// Whether a run of no additions writes its report, and nothing on the error stream.
-fn counts_nothing<T: Threads + Wait + Sync>(rt: &T, alloc: Global) -> bool {
+fn counts_nothing<T: Threads + Wait + Sync + Clock>(rt: &T, alloc: Global) -> bool {
     let counting = Counting {
         requesters: 1,
         each: 0,
