@@ -1,2 +1,3 @@
 pub mod LogView
 pub mod Steps
+pub mod Recordings

@@ -6,6 +6,7 @@ use Rattle.flow_control.specs.declared.needs.Need.{Need}
 use Rattle.port_core.specs.Incoming.{tlp_in}
 use Rattle.port_core.specs.Port as port
 use Rattle.port_core.specs.Port.{PortView}
+use Rattle.port_core.specs.declared.port.Judged.{Judged}
 use Rattle.endpoint_core.specs.declared.endpoint.Handled.{Handled}
 use Rattle.endpoint_core.specs.EndpointView.{EndpointView}
 use Rattle.endpoint_core.specs.Steps as device
@@ -22,15 +23,15 @@ parts b l q r e ms ns need tlp is_taken is_old is_new is_freed =
     ap₂ (λ (p : PortView) (n : List (Option Need)). made p e n l.held) is_freed (is_new ∙ ap (λ (m : List (Option Need)). if b then m ++ need ∷ [] else m) is_old)
     ∙ ap (λ (x : EndpointView). made (if b then q else freed q need) x (if b then l.needs ++ need ∷ [] else l.needs) l.held) is_taken
 
-pub accepted : (l old : LinkedView) (q r : PortView) (e : EndpointView) (ms ns : List (Option Need)) (b : Bool) (h : Handled) (need : Option Need) (packet tlp : List ℕ) (good : Bool)
-    → l ≡ old → tlp ≡ tlp_in packet → q ≡ port.after_receive l.port packet good → h ≡ device.handled l.endpoint tlp → b ≡ is_waiting h
+pub accepted : (l old : LinkedView) (q r : PortView) (e : EndpointView) (ms ns : List (Option Need)) (b : Bool) (h : Handled) (need : Option Need) (packet tlp : List ℕ) (judged : Judged)
+    → l ≡ old → tlp ≡ tlp_in packet → q ≡ port.noted l.port judged → h ≡ device.handled l.endpoint tlp → b ≡ is_waiting h
     → e ≡ device.taken l.endpoint tlp → ms ≡ l.needs → ns ≡ (if b then ms ++ need ∷ [] else ms) → r ≡ (if b then q else freed q need)
-    → made r e ns l.held ≡ taken old (port.after_receive old.port packet good) need (tlp_in packet)
-accepted l old q r e ms ns b h need packet tlp good is_view is_tlp is_received is_handled is_waits is_taken is_old is_new is_freed =
+    → made r e ns l.held ≡ taken old (port.noted old.port judged) need (tlp_in packet)
+accepted l old q r e ms ns b h need packet tlp judged is_view is_tlp is_received is_handled is_waits is_taken is_old is_new is_freed =
     parts b l q r e ms ns need tlp is_taken is_old is_new is_freed
     ∙ ap (λ (w : Bool). taken_if w l q need tlp) (is_waits ∙ ap is_waiting is_handled)
     ∙ ap₂ (λ (p : PortView) (bytes : List ℕ). taken l p need bytes) is_received is_tlp
-    ∙ ap (λ (x : LinkedView). taken x (port.after_receive x.port packet good) need (tlp_in packet)) is_view
+    ∙ ap (λ (x : LinkedView). taken x (port.noted x.port judged) need (tlp_in packet)) is_view
 
 pub answered : (l old : LinkedView) (h : Handled) (packet tlp : List ℕ) → l ≡ old → tlp ≡ tlp_in packet → h ≡ device.handled l.endpoint tlp → h ≡ device.handled old.endpoint (tlp_in packet)
 answered l old h packet tlp is_view is_tlp is_handled =

@@ -14,7 +14,7 @@ use config_core::Setup;
 use endpoint_core::{Endpoint, Handled, Room};
 use flow_control::{LaneCredits, Need};
 use port_core::{
-    DllpReceived, DllpRefusal, EnterRefusal, LinkPort, Outgoing, PACKET_BYTES, Received,
+    DllpReceived, DllpRefusal, EnterRefusal, Judged, LinkPort, Outgoing, PACKET_BYTES, Received,
 };
 use std::alloc::{AllocError, Global};
 use std::collections::VecDeque;
@@ -55,17 +55,6 @@ impl Model for LinkedEndpoint {
     ghost Value = { LinkedView };
 
     ghost view = { λ l. record { port = l.port; endpoint = l.endpoint; needs = l.needs.items; held = l.held } };
-}
-
-/// What becomes of a packet, if it arrives.
-fn foreseen(port: &LinkPort, packet: &[u8], good: bool) -> Received
-    ensures { result ≡ link.received port.now packet.now good }
-{
-    if !port.state().is_up() {
-        return Received::Dropped;
-    }
-    let mut incoming = *port.incoming();
-    incoming.receive(packet, good)
 }
 
 /// The TLP of a packet, behind its sequence number.
@@ -183,7 +172,7 @@ impl LinkedEndpoint {
     pub fn would_take(&self, packet: &[u8], good: bool) -> bool
         ensures { result ≡ spec.is_taken (link.received self.now.port packet.now good) }
     {
-        match foreseen(&self.port, packet, good) {
+        match self.port.judge(packet, good).received {
             Received::Accepted { overflows, .. } => !overflows,
             Received::Dropped | Received::Duplicate | Received::NakNow | Received::Quiet => false,
         }
@@ -194,16 +183,16 @@ impl LinkedEndpoint {
         &mut self,
         need: Option<Need>,
         packet: &[u8],
-        good: bool,
+        judged: &Judged,
         room: &mut Room,
     ) -> Result<Arrived, AllocError>
-        ensures ok { OnOk result (self.new ≡ spec.taken self.old (link.after_receive self.old.port packet.now good) need (packets.tlp_in packet.now)) }
+        ensures ok { OnOk result (self.new ≡ spec.taken self.old (link.noted self.old.port judged.now) need (packets.tlp_in packet.now)) }
         ensures answer { IfOk result (λ a. a ≡ Arrived.Accepted (device.handled self.old.endpoint (packets.tlp_in packet.now))) }
         ensures err { OnErr result (self.new ≡ self.old) }
     {
         self.needs.reserve(1)?;
         let handled = self.endpoint.take(tlp_in(packet), room)?;
-        self.port.receive(packet, good);
+        self.port.note(judged);
         let waits = is_waiting(handled);
         keep_if(&mut self.needs, waits, need);
         free_unless(&mut self.port, waits, need);
@@ -223,15 +212,15 @@ impl LinkedEndpoint {
         ensures grows { OnErr result (spec.is_taken (link.received self.old.port packet.now good) ≡ true) }
         ensures err { OnErr result (self.new ≡ self.old) }
     {
-        let received = foreseen(&self.port, packet, good);
+        let judged = self.port.judge(packet, good);
         if let Received::Accepted {
             need,
             overflows: false,
-        } = received
+        } = judged.received
         {
-            return self.accept(need, packet, good, room);
+            return self.accept(need, packet, &judged, room);
         }
-        self.port.receive(packet, good);
+        let received = self.port.note(&judged);
         Ok(discarded(received))
     }
 
@@ -337,10 +326,13 @@ impl LinkedEndpoint {
     fn enter_or_hold(&mut self, completion: &Option<TlpRef<'_>>)
         ensures { spec.IsHeldOrEntered (spec.with_held self.old completion.now) self.new }
     {
-        self.held = match completion {
-            Some(completion) if self.port.enter(completion).is_err() => Some(completion.to_owned()),
-            _ => None,
+        self.held = None;
+        let Some(completion) = completion else {
+            return;
         };
+        if self.port.enter(completion).is_err() {
+            self.held = Some(completion.to_owned());
+        }
     }
 
     /// The oldest request that waits acts, and its completion enters the replay buffer at once. It is held only if there is no
