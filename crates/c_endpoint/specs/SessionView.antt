@@ -3,8 +3,8 @@ use Rattle.std.specs.Prelude.{◌≡◌, Bool, Option, Some, None}
 use Rattle.config_core.specs.SetupView.{SetupView}
 use Rattle.endpoint_core.specs.EndpointView.{EndpointView}
 use Rattle.endpoint_core.specs.Steps.{new_endpoint, after_reset_of}
-use Rattle.c_recording.specs.declared.recording.Recording.{Recording}
-use Rattle.c_recording.specs.Recordings.{new_recording, dropped, IsOrLost}
+use Rattle.endpoint_log.specs.declared.recording.Recording.{Recording}
+use Rattle.endpoint_log.specs.Recordings.{new_recording, dropped, IsOrLost}
 
 pub record SessionView : Type 0 where
   pub endpoint : EndpointView

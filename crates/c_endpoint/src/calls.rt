@@ -5,14 +5,13 @@ ghost use Rattle.endpoint_core.specs.declared.endpoint.Handled.TheVariants.{Wait
 ghost use Rattle.c_buffer.specs.declared.outcome.Failure.TheVariants.{NoMemory};
 ghost use Rattle.c_buffer.specs.Buffer.{copied};
 ghost use Rattle.c_endpoint.specs.SessionView.{SessionView, Holds, after_reset};
-ghost use Rattle.c_recording.specs.Recordings.{IsOrLost, came, acted};
+ghost use Rattle.endpoint_log.specs.Recordings.{IsOrLost, came, acted};
 ghost use Rattle.c_endpoint.specs.Calls.{next_call};
 
 use crate::session::Session;
 use crate::slot::{Slot, close, open};
 use c_buffer::{Failure, Length, copy};
 use c_device::{MAX_COMPLETION, tell_completion};
-use c_recording::what_is_entered_and_answered_acted;
 use endpoint_core::{Handled, Room};
 
 fn take(session: &mut Session, tlp: &[u8]) -> Result<Handled, Failure>
@@ -22,9 +21,11 @@ fn take(session: &mut Session, tlp: &[u8]) -> Result<Handled, Failure>
     ensures unchanged { IsErr result → session.new ≡ session.old }
     ensures recording { IsOrLost session.new.recording (came session.old.endpoint tlp.now session.old.recording) }
 {
-    session.recording.come(&session.endpoint, tlp);
     let mut room = Room::new();
-    match session.endpoint.take(tlp, &mut room) {
+    match session
+        .recording
+        .take(&mut session.endpoint, tlp, &mut room)
+    {
         Ok(handled) => Ok(handled),
         Err(_) => Err(Failure::NoMemory),
     }
@@ -41,12 +42,8 @@ fn next(session: &mut Session, buffer: &mut [u8]) -> Result<Length, Failure>
     if buffer.len() < MAX_COMPLETION {
         return Err(Failure::SmallBuffer);
     }
-    what_is_entered_and_answered_acted();
     let mut room = Room::new();
-    let number = session.recording.act(&session.endpoint);
-    let completion = session.endpoint.act(&mut room);
-    session.recording.answer(number, &completion);
-    match completion {
+    match session.recording.act(&mut session.endpoint, &mut room) {
         Some(completion) => Ok(tell_completion(&completion, buffer)),
         None => Ok(Length::ZERO),
     }

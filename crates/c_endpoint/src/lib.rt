@@ -8,8 +8,10 @@
 mod calls;
 mod session;
 mod slot;
+mod text;
 mod trace;
 
 pub use calls::{copy_bytes, reset_endpoint, take_tlp, tell_next};
 pub use slot::{Slot, Wanted, free_endpoint, new_endpoint};
+pub use text::tell_recording;
 pub use trace::tell_trace;

@@ -1,6 +1,6 @@
 //! An endpoint and what is recorded of it.
-use c_recording::Recording;
 use endpoint_core::Endpoint;
+use endpoint_log::Recording;
 use std::marker::Model;
 
 /// An endpoint, and what is recorded of it.

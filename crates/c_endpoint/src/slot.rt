@@ -7,9 +7,9 @@ ghost use Rattle.c_endpoint.specs.Calls.{limit, setup_with};
 
 use crate::session::Session;
 use c_buffer::{Failure, Parts};
-use c_recording::Recording;
 use config_core::Setup;
 use endpoint_core::Endpoint;
+use endpoint_log::Recording;
 use seq_memory::MAX_SIZE;
 use std::alloc::Global;
 use std::marker::Model;

@@ -2,13 +2,13 @@
 ghost use Rattle.std.specs.Prelude.{◌≡◌, Some, Err, IsErr, length};
 ghost use Rattle.c_buffer.specs.declared.outcome.Failure.TheVariants.{NoMemory};
 ghost use Rattle.c_buffer.specs.Buffer.{copied};
-ghost use Rattle.c_recording.specs.declared.recording.Recording.TheVariants.{Lost};
-ghost use Rattle.c_recording.specs.Recordings.{text};
+ghost use Rattle.endpoint_log.specs.declared.recording.Recording.TheVariants.{Lost};
+ghost use Rattle.c_endpoint.specs.Texts.{text};
 ghost use Rattle.c_endpoint.specs.SessionView.{SessionView};
 
 use crate::slot::{Slot, close, open};
+use crate::text::tell_recording;
 use c_buffer::Failure;
-use c_recording::tell_recording;
 use std::alloc::Global;
 
 /// Puts the text of the trace and the history of the endpoint's memory to the front of `buffer`, or `SmallBuffer` for fewer

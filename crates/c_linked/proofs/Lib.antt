@@ -1,4 +1,3 @@
-pub mod Arriving
 mod AsBox
 mod Kept
 pub mod Traced

@@ -20,7 +20,7 @@ use Rattle.endpoint_laws.specs.Runs as laws
 use Rattle.linked_endpoint.specs.LinkedView.{LinkedView}
 use Rattle.linked_endpoint.specs.Linked.{new_linked, is_taken, after_arrival, may_act, is_last, given_back, acted, entered_with, refusal_of}
 use Rattle.linked_endpoint.specs.Runs.{Call, Up, Down, Receive, ReceiveDllp, Act, Enter, Next, Refresh, Replay, Retrained, AreCalls, entered_unless, after_call}
-use Rattle.c_linked.specs.SessionView.{logged, logged_all}
+use Rattle.linked_endpoint.specs.Settling.{logged, logged_all}
 use Rattle.c_linked.specs.Traces.{claim_after}
 
 -- the device's calls, its resets among them

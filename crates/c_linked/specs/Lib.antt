@@ -4,5 +4,5 @@ pub mod Slot
 pub mod Making
 pub mod Calls
 pub use Rattle.c_buffer.specs.Buffer
-pub use Rattle.c_recording.specs.Recordings
+pub use Rattle.endpoint_log.specs.Recordings
 pub use Rattle.linked_endpoint.specs.Runs

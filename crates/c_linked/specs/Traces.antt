@@ -6,7 +6,7 @@ use Rattle.config_core.specs.SetupView.{SetupView}
 use Rattle.endpoint_log.specs.Steps.{new_log}
 use Rattle.linked_endpoint.specs.Linked.{new_linked}
 use Rattle.linked_endpoint.specs.Runs.{Call}
-use Rattle.c_linked.specs.SessionView.{logged_all}
+use Rattle.linked_endpoint.specs.Settling.{logged_all}
 
 -- of a new one, after these calls
 abbrev pub claim_after : SetupView → LaneCredits → List Call → Claim

@@ -9,7 +9,7 @@ ghost use Rattle.c_linked.specs.SessionView.{SessionView, with_linked};
 ghost use Rattle.c_linked.specs.Calls.{IsAfter, next_call};
 
 use crate::session::Session;
-use crate::settling::{arrive, settle};
+use crate::settling::settle;
 use crate::slot::{Slot, close, open};
 use arrayvec::ArrayVec;
 use c_buffer::{Failure, Length, copy, tell};
@@ -39,7 +39,10 @@ fn receive(session: &mut Session, packet: &[u8], good: bool) -> Result<Arrived, 
     ensures unchanged { IsErr result → session.new ≡ session.old }
 {
     let mut room = Room::new();
-    match arrive(session, packet, good, &mut room) {
+    match session
+        .linked
+        .receive(packet, good, &mut room, &mut session.recording)
+    {
         Ok(arrived) => {
             settle(session, &mut room);
             Ok(arrived)

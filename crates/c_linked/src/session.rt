@@ -1,5 +1,5 @@
 //! An endpoint behind its link, and what is recorded of it.
-use c_recording::Recording;
+use endpoint_log::Recording;
 use linked_endpoint::LinkedEndpoint;
 use std::marker::Model;
 

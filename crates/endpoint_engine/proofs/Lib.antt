@@ -1,5 +1,4 @@
 pub mod Calls
-pub mod Logging
 pub mod Reading
 pub mod Telling
 pub mod Traced

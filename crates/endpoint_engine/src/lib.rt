@@ -8,11 +8,9 @@ pub mod laws;
 mod lines;
 mod options;
 mod reasons;
-mod recording;
 mod texts;
 
 pub use lines::run_endpoint;
 pub use options::EndpointOptions;
 pub use reasons::untraced_reason;
-pub use recording::{new_log, record_acting, record_answer, record_reset};
 pub use texts::{no_line, put_handled};

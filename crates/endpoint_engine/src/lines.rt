@@ -7,11 +7,10 @@ ghost use Rattle.endpoint_engine.specs.Lines as spec;
 
 use crate::options::EndpointOptions;
 use crate::reasons::reason_of;
-use crate::recording::{new_log, record_acting, record_answer, record_coming, record_reset};
 use crate::texts::{no_line, put_completion, put_handled};
 use diagnostics::{ReasonLines, Reasoned, Reasons};
 use endpoint_core::{Endpoint, Room};
-use endpoint_log::Log;
+use endpoint_log::Recording;
 use hex_text::{HexLine, HexText, is_skipped};
 use line_loop::{EngineFault, Responder, Verdict, run};
 use std::alloc::{AllocError, Global};
@@ -25,7 +24,7 @@ use trace_engine::tell_trace;
 struct Lines {
     alloc: Global,
     endpoint: Endpoint,
-    log: Option<Log>,
+    recording: Recording,
     rooms: Rooms,
 }
 
@@ -33,17 +32,17 @@ struct Lines {
 #[derive(Drop)]
 struct Rooms {
     device: Room,
-    record: endpoint_core::PacketRoom,
     packet: [u8; MAX_TLP],
     text: HexText,
 }
 
 impl Model for Lines {
+    ghost use Rattle.endpoint_log.specs.Recordings.{log_of};
     ghost use Rattle.endpoint_engine.specs.Lines.{DeviceLines};
 
     ghost Value = { DeviceLines };
 
-    ghost view = { λ l. record { endpoint = l.endpoint; log = l.log } };
+    ghost view = { λ l. record { endpoint = l.endpoint; log = log_of l.recording } };
 }
 
 impl Lines {
@@ -54,10 +53,9 @@ impl Lines {
         Ok(Lines {
             alloc,
             endpoint: Endpoint::new(alloc, options.setup)?,
-            log: new_log(alloc, options),
+            recording: Recording::new(alloc, options.setup, options.is_traced),
             rooms: Rooms {
                 device: Room::new(),
-                record: endpoint_core::PacketRoom::new(),
                 packet: [0; MAX_TLP],
                 text: HexText::new(),
             },
@@ -69,22 +67,24 @@ impl Lines {
         ensures ok { IfOk result (λ verdict. IsAnswer self.new out.old.items out.new.items verdict (spec.answer_tlp self.old (Ok tlp.now))) }
         ensures err { OnErr result (out.new.items ≡ out.old.items) }
     {
-        record_coming(&mut self.log, &self.endpoint, tlp, &mut self.rooms.record)?;
-        let handled = self.endpoint.take(tlp, &mut self.rooms.device)?;
+        let handled = self
+            .recording
+            .take(&mut self.endpoint, tlp, &mut self.rooms.device)?;
+        self.recording.check()?;
         put_handled(handled, out)?;
         Ok(Verdict::Fine)
     }
 
     /// The oldest request acts, and its completion is written.
     #[inline(never)]
-    #[tactic(auto, using(crate::proofs::Logging::acted_log))]
     fn next(&mut self, out: &mut Vec<u8>) -> Result<Verdict, AllocError>
         ensures ok { IfOk result (λ verdict. IsAnswer self.new out.old.items out.new.items verdict (spec.answer_next self.old)) }
         ensures err { OnErr result (out.new.items ≡ out.old.items) }
     {
-        let number = record_acting(&mut self.log, &self.endpoint)?;
-        let completion = self.endpoint.act(&mut self.rooms.device);
-        record_answer(&mut self.log, number, &completion)?;
+        let completion = self
+            .recording
+            .act(&mut self.endpoint, &mut self.rooms.device);
+        self.recording.check()?;
         put_completion(
             &completion,
             &mut self.rooms.packet,
@@ -101,7 +101,7 @@ impl Lines {
     {
         out.extend_from_slice(b"reset\n")?;
         self.endpoint.reset();
-        record_reset(&mut self.log);
+        self.recording.reset();
         Ok(Verdict::Fine)
     }
 
@@ -110,7 +110,7 @@ impl Lines {
         ensures ok { IfOk result (λ verdict. IsAnswer self.new out.old.items out.new.items verdict (spec.answer_trace self.old self.old.log)) }
         ensures err { OnErr result (out.new.items ≡ out.old.items) }
     {
-        let Some(log) = &self.log else {
+        let Recording::On(log) = &self.recording else {
             return no_line(out);
         };
         tell_trace(self.alloc, log.claim(), out)

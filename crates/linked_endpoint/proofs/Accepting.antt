@@ -1,8 +1,10 @@
 -- A TLP goes to the device, in parts.
-use Rattle.std.proofs.Common.{◌≡◌, ℕ, Bool, List, [], ◌∷◌, ◌++◌, Option, ap, ap₂, ◌∙◌}
+use Rattle.std.proofs.Common.{◌≡◌, ℕ, Bool, false, List, [], ◌∷◌, ◌++◌, Option, sym, ap, ap₂, ◌∙◌}
 use Rattle.std.specs.Prelude.{if◌then◌else◌}
 use Rattle.tlp_core.specs.TlpView.{TlpView}
 use Rattle.flow_control.specs.declared.needs.Need.{Need}
+use Rattle.port_core.specs.declared.incoming.Received.{Received}
+use Rattle.port_core.specs.declared.incoming.Received.TheVariants as arrivals
 use Rattle.port_core.specs.Incoming.{tlp_in}
 use Rattle.port_core.specs.Port as port
 use Rattle.port_core.specs.Port.{PortView}
@@ -11,7 +13,7 @@ use Rattle.endpoint_core.specs.declared.endpoint.Handled.{Handled}
 use Rattle.endpoint_core.specs.EndpointView.{EndpointView}
 use Rattle.endpoint_core.specs.Steps as device
 use Rattle.linked_endpoint.specs.LinkedView.{LinkedView}
-use Rattle.linked_endpoint.specs.Linked.{freed, is_waiting, taken_if, taken}
+use Rattle.linked_endpoint.specs.Linked.{freed, is_waiting, need_in, taken_if, taken, after_arrival, after_receive}
 
 abbrev pub made : PortView → EndpointView → List (Option Need) → Option TlpView → LinkedView
 made p e needs held = record { port = p; endpoint = e; needs = needs; held = held }
@@ -36,3 +38,11 @@ accepted l old q r e ms ns b h need packet tlp judged is_view is_tlp is_received
 pub answered : (l old : LinkedView) (h : Handled) (packet tlp : List ℕ) → l ≡ old → tlp ≡ tlp_in packet → h ≡ device.handled l.endpoint tlp → h ≡ device.handled old.endpoint (tlp_in packet)
 answered l old h packet tlp is_view is_tlp is_handled =
     is_handled ∙ ap₂ (λ (x : LinkedView) (bytes : List ℕ). device.handled x.endpoint bytes) is_view is_tlp
+
+-- a packet that is accepted within its credits
+pub takes : (l : LinkedView) (packet : List ℕ) (good : Bool) (r : Received) (q : PortView) (need : Option Need) (new : LinkedView) → r ≡ port.received l.port packet good → q ≡ port.after_receive l.port packet good
+    → r ≡ arrivals.Accepted need false → new ≡ taken l q (need_in r) (tlp_in packet) → new ≡ after_receive l packet good
+takes l packet good r q need new is_received is_noted is_accepted is_taken =
+    is_taken ∙ ap (λ (x : Received). taken l q (need_in x) (tlp_in packet)) is_accepted
+    ∙ ap (λ (p : PortView). taken l p need (tlp_in packet)) is_noted
+    ∙ sym (ap (λ (x : Received). after_arrival x l (port.after_receive l.port packet good) (tlp_in packet)) (sym is_received ∙ is_accepted))

@@ -25,7 +25,7 @@ use Rattle.endpoint_core.specs.declared.waiting.Waiting.TheVariants as waits
 use Rattle.endpoint_core.specs.EndpointView.{DeviceView, EndpointView}
 use Rattle.endpoint_core.specs.Steps as device
 use Rattle.linked_endpoint.specs.LinkedView.{LinkedView}
-use Rattle.linked_endpoint.specs.Linked.{may_go, may_act, is_last, given_back, acted, after_act, turns_of, turns_left, refusal_for, refusal_of, may_enter, entered_with, entered, IsHeldOrEntered}
+use Rattle.linked_endpoint.specs.Linked.{may_go, may_act, is_last, given_back, acted, turns_of, turns_left, refusal_for, refusal_of, may_enter, entered_with, entered}
 use Rattle.linked_endpoint.specs.Runs.{entered_unless}
 
 -- ---- a request acts: fewer turns are left
@@ -158,13 +158,7 @@ pub unless_as_many : (l : LinkedView) (o : Option EnterRefusal) → turns_left (
 unless_as_many l None = entered_as_many l
 unless_as_many l (Some r) = refl
 
--- a request acted, and its completion entered or is held
-pub completed_less : (l new : LinkedView) → may_act l ≡ true → IsHeldOrEntered (acted l) new → turns_left new < turns_left l
-completed_less l new may (inl e) = subst (λ (x : LinkedView). turns_left x < turns_left l) (sym e) (acted_less l may)
-completed_less l new may (inr h) =
-    subst (λ (x : LinkedView). turns_left x < turns_left l) (sym h.1) (subst (λ (n : ℕ). n < turns_left l) (sym (entered_as_many (acted l))) (acted_less l may))
-
--- ---- a completion is refused: no request may act
+-- ---- a completion is held: no request may act
 
 holds : (h : Option TlpView) (b : Bool) → is_some h ≡ true → (is_none h && b) ≡ false
 holds None b e = absurd cc
@@ -198,28 +192,3 @@ wants-memory l (Some r) e h held = absurd (no-memory-for l.port l.held (e ∙ ap
 -- memory ran out for a completion that may enter
 pub memory_enters : (l : LinkedView) → Refuses (refusal_of l) refusals.Memory → is_some l.held ≡ true → may_enter l ≡ true
 memory_enters l h held = wants-memory l (refusal_of l) refl h held
-
-refused-by : (l : LinkedView) (o : Option EnterRefusal) (r : EnterRefusal) → refusal_of l ≡ o → Refuses o r → (r ≡ refusals.Memory → ⊥) → may_enter l ≡ false
-refused-by l None r e h other = absurd (other h)
-refused-by l (Some x) r e h other = refused-enters l x e
-
--- it is refused for another reason
-pub refused_rests : (l : LinkedView) (r : EnterRefusal) → Refuses (refusal_of l) r → (r ≡ refusals.Memory → ⊥) → may_enter l ≡ false
-refused_rests l r h other = refused-by l (refusal_of l) r refl h other
-
--- ---- one turn: a completion enters, and a request acts, if one may
-
-pub turn_less : (old between new : LinkedView) → between ≡ entered old → may_act between ≡ true → new ≡ after_act between → turns_left new < turns_left old
-turn_less old between new e may f =
-    subst (λ (x : LinkedView). turns_left x < turns_left old) (sym (f ∙ ap (λ (b : Bool). cond b (acted between) between) may))
-    (subst (λ (n : ℕ). turns_left (acted between) < n) (ap (λ (x : LinkedView). turns_left x) e ∙ entered_as_many old) (acted_less between may))
-
-stays : (between new : LinkedView) → may_act between ≡ false → new ≡ after_act between → new ≡ between
-stays between new may f = f ∙ ap (λ (b : Bool). cond b (acted between) between) may
-
-pub turn_rests : (between new : LinkedView) → may_act between ≡ false → new ≡ after_act between → may_act new ≡ false
-turn_rests between new may f = ap (λ (x : LinkedView). may_act x) (stays between new may f) ∙ may
-
-pub turn_enters : (old between new : LinkedView) → between ≡ entered old → may_act between ≡ false → new ≡ after_act between → may_enter new ≡ false
-turn_enters old between new e may f =
-    ap (λ (x : LinkedView). may_enter x) (stays between new may f ∙ e) ∙ entered_enters old

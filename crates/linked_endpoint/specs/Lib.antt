@@ -1,3 +1,4 @@
 pub mod LinkedView
 pub mod Linked
 pub mod Runs
+pub mod Settling

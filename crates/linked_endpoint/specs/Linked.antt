@@ -64,6 +64,11 @@ taken_if waits l p need tlp =
 abbrev pub taken : LinkedView → PortView → Option Need → List ℕ → LinkedView
 taken l p need tlp = taken_if (is_waiting (device.handled l.endpoint tlp)) l p need tlp
 
+-- what a packet takes of the credits, if it is accepted
+abbrev pub need_in : Received → Option Need
+need_in (arrivals.Accepted need overflows) = need
+need_in _ = None
+
 -- accepted, and within its credits
 abbrev pub is_taken : Received → Bool
 is_taken (arrivals.Accepted need overflows) = if overflows then false else true

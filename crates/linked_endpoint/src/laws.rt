@@ -1,5 +1,5 @@
 //! What holds of a device behind its end of a link whatever calls are made, whatever its peer and the wires do.
-ghost use Rattle.std.specs.Prelude.{◌≡◌, ◌++◌, ◌∷◌, [], true, ℕ, List, length, map};
+ghost use Rattle.std.specs.Prelude.{◌≡◌, ◌++◌, ◌∷◌, [], true, false, ℕ, List, length, map};
 ghost use Rattle.dllp_core.specs.declared.packet.Class.{Class};
 ghost use Rattle.flow_control.specs.declared.limits.LaneCredits.{LaneCredits};
 ghost use Rattle.link_replay.specs.ReceiverRuns.{AreConsecutive};
@@ -8,7 +8,10 @@ ghost use Rattle.port_core.specs.Init.{is_up, fi1};
 ghost use Rattle.port_core.specs.Runs.{IsEntered, CoversHeaders, CoversUnits, advertised_in};
 ghost use Rattle.config_core.specs.SetupView.{SetupView};
 ghost use Rattle.endpoint_core.specs.Runs as devices;
-ghost use Rattle.linked_endpoint.specs.Runs.{Call, AreCalls, run_in, story, somes, list_of, tlps_within, taken_in, cargos_of};
+ghost use Rattle.linked_endpoint.specs.LinkedView.{LinkedView};
+ghost use Rattle.linked_endpoint.specs.Linked.{may_act, may_enter};
+ghost use Rattle.linked_endpoint.specs.Settling.{settling, settled};
+ghost use Rattle.linked_endpoint.specs.Runs.{Call, AreCalls, AreTurns, run_in, story, somes, list_of, tlps_within, taken_in, cargos_of};
 
 use endpoint_core::laws::{each_request_leaves_once, whatever_comes};
 use port_core::{
@@ -68,3 +71,11 @@ pub fn no_more_is_completed_than_the_peer_advertised()
     initialization_comes_first();
     no_more_is_sent_than_the_peer_advertised();
 }
+
+/// Where a device has [settled](crate::LinkedEndpoint::settle), no request may act, and no completion that is held may enter the
+/// replay buffer. On the way there requests act and completions enter, and nothing else happens.
+pub fn a_settled_device_is_at_rest()
+    ensures acts { (l : LinkedView) → may_act (settled l) ≡ false }
+    ensures enters { (l : LinkedView) → may_enter (settled l) ≡ false }
+    ensures turns { (l : LinkedView) → AreTurns (settling l) }
+{}

@@ -8,5 +8,8 @@
 mod laws;
 mod linked;
 
-pub use laws::{each_accepted_request_acts_once, no_more_is_completed_than_the_peer_advertised};
+pub use laws::{
+    a_settled_device_is_at_rest, each_accepted_request_acts_once,
+    no_more_is_completed_than_the_peer_advertised,
+};
 pub use linked::{Arrived, LinkedEndpoint, tlp_in};

@@ -7,11 +7,15 @@ ghost use Rattle.port_core.specs.Port as link;
 ghost use Rattle.port_core.specs.Incoming as packets;
 ghost use Rattle.endpoint_core.specs.Steps as device;
 ghost use Rattle.linked_endpoint.specs.Linked as spec;
-ghost use Rattle.linked_endpoint.specs.Runs.{GoesOn};
+ghost use Rattle.linked_endpoint.specs.Runs.{Receive, Act, Enter, after_call};
+ghost use Rattle.linked_endpoint.specs.Settling.{logged, logged_all, turned, settling, settled, IsOnWay};
+ghost use Rattle.endpoint_log.specs.Recordings as recordings;
+ghost use Rattle.endpoint_log.specs.Recordings.{noted, IsOrLost};
 
 use arrayvec::ArrayVec;
 use config_core::Setup;
 use endpoint_core::{Endpoint, Handled, Room};
+use endpoint_log::Recording;
 use flow_control::{LaneCredits, Need};
 use port_core::{
     DllpReceived, DllpRefusal, EnterRefusal, Judged, LinkPort, Outgoing, PACKET_BYTES, Received,
@@ -74,6 +78,16 @@ fn is_waiting(handled: Handled) -> bool
     match handled {
         Handled::Waits => true,
         _ => false,
+    }
+}
+
+/// What a packet takes of the credits, if it is accepted.
+fn need_in(received: Received) -> Option<Need>
+    ensures { result ≡ spec.need_in received }
+{
+    match received {
+        Received::Accepted { need, .. } => need,
+        _ => None,
     }
 }
 
@@ -168,31 +182,24 @@ impl LinkedEndpoint {
         &self.endpoint
     }
 
-    /// Whether a packet that arrives now is accepted within its credits, so that its TLP goes to the device.
-    pub fn would_take(&self, packet: &[u8], good: bool) -> bool
-        ensures { result ≡ spec.is_taken (link.received self.now.port packet.now good) }
-    {
-        match self.port.judge(packet, good).received {
-            Received::Accepted { overflows, .. } => !overflows,
-            Received::Dropped | Received::Duplicate | Received::NakNow | Received::Quiet => false,
-        }
-    }
-
-    /// An accepted packet, whose TLP goes to the device.
+    /// A packet that was accepted within its credits, whose TLP goes to the device and is recorded.
     fn accept(
         &mut self,
-        need: Option<Need>,
         packet: &[u8],
         judged: &Judged,
         room: &mut Room,
+        recording: &mut Recording,
     ) -> Result<Arrived, AllocError>
-        ensures ok { OnOk result (self.new ≡ spec.taken self.old (link.noted self.old.port judged.now) need (packets.tlp_in packet.now)) }
+        ensures ok { OnOk result (self.new ≡ spec.taken self.old (link.noted self.old.port judged.now) (spec.need_in judged.now.received) (packets.tlp_in packet.now)) }
         ensures answer { IfOk result (λ a. a ≡ Arrived.Accepted (device.handled self.old.endpoint (packets.tlp_in packet.now))) }
+        ensures recorded { OnOk result (IsOrLost recording.new (recordings.came self.old.endpoint (packets.tlp_in packet.now) recording.old)) }
         ensures err { OnErr result (self.new ≡ self.old) }
+        ensures unrecorded { OnErr result (recording.new ≡ recording.old) }
     {
         self.needs.reserve(1)?;
-        let handled = self.endpoint.take(tlp_in(packet), room)?;
+        let handled = recording.take(&mut self.endpoint, tlp_in(packet), room)?;
         self.port.note(judged);
+        let need = need_in(judged.received);
         let waits = is_waiting(handled);
         keep_if(&mut self.needs, waits, need);
         free_unless(&mut self.port, waits, need);
@@ -200,25 +207,30 @@ impl LinkedEndpoint {
     }
 
     /// A packet arrives, with a good check or a failed one. The TLP of one that is accepted within its credits goes to the
-    /// device. Fails only for such a one, if memory can't be allocated, and then the packet is as if it was lost.
+    /// device, and what it does is recorded. Fails only for such a one, if memory can't be allocated, and then the packet is as
+    /// if it was lost.
+    #[tactic(auto, using(crate::proofs::Accepting::takes, crate::proofs::Turns::taken_logged, crate::proofs::Turns::not_logged))]
     pub fn receive(
         &mut self,
         packet: &[u8],
         good: bool,
         room: &mut Room,
+        recording: &mut Recording,
     ) -> Result<Arrived, AllocError>
         ensures ok { OnOk result (self.new ≡ spec.after_receive self.old packet.now good) }
         ensures answer { IfOk result (λ a. a ≡ spec.arrived self.old packet.now good) }
+        ensures recorded { OnOk result (IsOrLost recording.new (noted (logged self.old (Receive packet.now good)) recording.old)) }
         ensures grows { OnErr result (spec.is_taken (link.received self.old.port packet.now good) ≡ true) }
         ensures err { OnErr result (self.new ≡ self.old) }
+        ensures unrecorded { OnErr result (recording.new ≡ recording.old) }
     {
         let judged = self.port.judge(packet, good);
         if let Received::Accepted {
-            need,
             overflows: false,
+            ..
         } = judged.received
         {
-            return self.accept(need, packet, &judged, room);
+            return self.accept(packet, &judged, room, recording);
         }
         let received = self.port.note(&judged);
         Ok(discarded(received))
@@ -254,28 +266,8 @@ impl LinkedEndpoint {
         }
     }
 
-    /// The oldest request that waits acts, a read by one block, unless a completion is held, or this one would be refused.
-    /// Its completion is held. With its last one the request's credits go back. Returns whether a request acted.
-    pub fn act(&mut self, room: &mut Room) -> bool
-        ensures answer { result ≡ spec.may_act self.old }
-        ensures state { self.new ≡ spec.after_act self.old }
-    {
-        if !self.may_act() {
-            return false;
-        }
-        let waited = self.endpoint.waiting();
-        self.held = match self.endpoint.act(room) {
-            Some(completion) => Some(completion.to_owned()),
-            None => None,
-        };
-        if self.endpoint.waiting() < waited {
-            self.give_back();
-        }
-        true
-    }
-
     /// The completion that is held enters the replay buffer. Returns whether there was one. A refusal changes nothing.
-    pub fn enter(&mut self) -> Result<bool, EnterRefusal>
+    fn enter(&mut self) -> Result<bool, EnterRefusal>
         ensures refused { IfErr result (λ r. Refuses (spec.refusal_of self.old) r) }
         ensures held { OnErr result (is_some self.old.held ≡ true) }
         ensures may { OnOk result (spec.refusal_of self.old ≡ None) }
@@ -291,37 +283,6 @@ impl LinkedEndpoint {
         Ok(true)
     }
 
-    /// The completion that is held enters the replay buffer, and a request acts. Returns whether one acted. Fails if memory
-    /// can't be allocated for the completion.
-    #[tactic(auto, using(crate::proofs::Turns::no_turns, crate::proofs::Settling::turn_rests, crate::proofs::Settling::turn_enters, crate::proofs::Settling::held_rests, crate::proofs::Settling::memory_enters, crate::proofs::Settling::refused_rests))]
-    fn turn(&mut self, room: &mut Room) -> Result<bool, AllocError>
-        ensures turns { GoesOn self.old self.new }
-        ensures left { IfOk result (λ acted. acted ≡ true → spec.turns_left self.new < spec.turns_left self.old) }
-        ensures acts { IfOk result (λ acted. acted ≡ false → spec.may_act self.new ≡ false) }
-        ensures enters { IfOk result (λ acted. acted ≡ false → spec.may_enter self.new ≡ false) }
-        ensures err { OnErr result (spec.may_enter self.new ≡ true) }
-    {
-        match self.enter() {
-            Ok(_) => Ok(self.act(room)),
-            Err(EnterRefusal::Memory) => Err(AllocError),
-            Err(_) => Ok(false),
-        }
-    }
-
-    /// Requests act and their completions enter the replay buffer, until none that waits may act, and no completion that is
-    /// held may enter: as far as the peer's credits and the window of 2047 packets go. Fails if memory can't be allocated for
-    /// a completion: it is held.
-    #[tactic(auto, using(crate::proofs::Turns::no_turns, crate::proofs::Turns::then_on))]
-    pub fn settle(&mut self, room: &mut Room) -> Result<(), AllocError>
-        ensures turns { GoesOn self.old self.new }
-        ensures done { OnOk result (spec.may_act self.new ≡ false) }
-        ensures entered { OnOk result (spec.may_enter self.new ≡ false) }
-        ensures err { OnErr result (spec.may_enter self.new ≡ true) }
-    {
-        while self.turn(room)? {}
-        Ok(())
-    }
-
     /// The completion enters the replay buffer. If it is refused, it is held.
     fn enter_or_hold(&mut self, completion: &Option<TlpRef<'_>>)
         ensures { spec.IsHeldOrEntered (spec.with_held self.old completion.now) self.new }
@@ -335,20 +296,66 @@ impl LinkedEndpoint {
         }
     }
 
-    /// The oldest request that waits acts, and its completion enters the replay buffer at once. It is held only if there is no
-    /// memory for it. With its last completion the request's credits go back. The completion that came.
-    pub fn complete<'r>(&mut self, room: &'r mut Room) -> Option<TlpRef<'r>>
+    /// The oldest request that waits acts, a read by one block, and its completion enters the replay buffer at once. It is held
+    /// only if there is no memory for it. With its last completion the request's credits go back.
+    fn complete(&mut self, room: &mut Room, recording: &mut Recording)
         requires { spec.may_act self.old ≡ true }
-        ensures completion { result ≡ device.next_completion self.old.endpoint }
         ensures state { spec.IsHeldOrEntered (spec.acted self.old) self.new }
+        ensures recorded { IsOrLost recording.new (recordings.acted self.old.endpoint recording.old) }
     {
         let waited = self.endpoint.waiting();
-        let completion = self.endpoint.act(room);
+        let completion = recording.act(&mut self.endpoint, room);
         if self.endpoint.waiting() < waited {
             self.give_back();
         }
         self.enter_or_hold(&completion);
-        completion
+    }
+
+    /// The completion that is held enters the replay buffer, unless that is refused. Fails if memory can't be allocated for it.
+    #[tactic(auto, using(crate::proofs::Settling::memory_enters))]
+    fn enter_unless_refused(&mut self) -> Result<(), AllocError>
+        ensures ok { OnOk result (self.new ≡ after_call self.old Enter) }
+        ensures memory { OnErr result (spec.may_enter self.old ≡ true) }
+        ensures err { OnErr result (self.new ≡ self.old) }
+    {
+        match self.enter() {
+            Ok(_) => Ok(()),
+            Err(EnterRefusal::Memory) => Err(AllocError),
+            Err(_) => Ok(()),
+        }
+    }
+
+    /// A request acts and is recorded, and its completion enters the replay buffer.
+    #[tactic(auto, using(crate::proofs::Turns::entered_at_last, crate::proofs::Turns::still_held))]
+    fn turn(&mut self, room: &mut Room, recording: &mut Recording) -> Result<(), AllocError>
+        requires { spec.may_act self.old ≡ true }
+        ensures ok { OnOk result (self.new ≡ turned self.old) }
+        ensures recorded { IsOrLost recording.new (recordings.acted self.old.endpoint recording.old) }
+        ensures memory { OnErr result (spec.may_enter self.new ≡ true) }
+        ensures err { OnErr result (self.new ≡ after_call self.old Act) }
+    {
+        self.complete(room, recording);
+        self.enter_unless_refused()?;
+        Ok(())
+    }
+
+    /// The completion that is held enters the replay buffer, and requests act, are recorded, and their completions enter it,
+    /// until none that waits may act, and no completion that is held may enter: as far as the peer's credits and the window of
+    /// 2047 packets go. Fails if memory can't be allocated for a completion: it is held, and nothing more acts.
+    #[tactic(auto, using(crate::proofs::Turns::fewer, crate::proofs::Turns::enters_rests))]
+    pub fn settle(&mut self, room: &mut Room, recording: &mut Recording) -> Result<(), AllocError>
+        ensures way { IsOnWay self.old recording.old self.new recording.new }
+        ensures linked { OnOk result (self.new ≡ settled self.old) }
+        ensures recorded { OnOk result (IsOrLost recording.new (noted (logged_all self.old (settling self.old)) recording.old)) }
+        ensures done { spec.may_act self.new ≡ false }
+        ensures entered { OnOk result (spec.may_enter self.new ≡ false) }
+        ensures err { OnErr result (spec.may_enter self.new ≡ true) }
+    {
+        self.enter_unless_refused()?;
+        while self.may_act() {
+            self.turn(room, recording)?;
+        }
+        Ok(())
     }
 
     /// Fills `out` with what is sent next, if anything is, in the order of [`LinkPort::next`].

@@ -23,10 +23,13 @@ use Rattle.endpoint_core.specs.Steps as device
 use Rattle.endpoint_core.specs.Runs as devices
 use Rattle.endpoint_log.specs.LogView.{LogView}
 use Rattle.endpoint_log.specs.Steps.{new_log, came}
-use Rattle.endpoint_laws.specs.Runs.{logged, AreBytes}
+use Rattle.endpoint_log.specs.Steps as log
+use Rattle.endpoint_laws.specs.Runs as laws
+use Rattle.endpoint_laws.specs.Runs.{AreBytes}
 use Rattle.linked_endpoint.specs.LinkedView.{LinkedView}
-use Rattle.linked_endpoint.specs.Linked.{is_taken, after_arrival, may_act, turns_left, is_last, given_back, entered_with, refusal_of}
-use Rattle.linked_endpoint.specs.Runs.{Up, Down, ReceiveDllp, entered_unless}
+use Rattle.linked_endpoint.specs.Linked.{is_taken, after_arrival, may_act, acted, is_last, given_back, entered_with, refusal_of}
+use Rattle.linked_endpoint.specs.Runs.{Call, Up, Down, Receive, ReceiveDllp, Act, Enter, Next, Refresh, Replay, Retrained, after_call, AreTurns, entered_unless}
+use Rattle.linked_endpoint.specs.Settling.{logged, logged_all, settling}
 use Rattle.hex_text.specs.Line.{digits_of}
 use Rattle.hex_text.specs.Lines.{lines_of, bare, said, is_skipped}
 use Rattle.line_loop.specs.Run.{Answer, Run, after_line, answer_to, new_run}
@@ -34,7 +37,7 @@ use Rattle.trace_text.specs.Texts.{trace_text}
 use Rattle.endpoint_engine.specs.Recorded.{IsRecorded}
 use Rattle.linked_engine.specs.Crcs.{marked, without_last, is_good_dllp}
 use Rattle.linked_engine.specs.Traces.{asked, trace_after}
-use Rattle.linked_engine.specs.Lines.{LinkLines, nothing, no_line, called, acted, turned, turns, received, reset_by, answer_arrival, answer_checked, answer_packet_bytes, answer_packet, answer_hearing, answer_dllp_bytes, answer_dllp, answer_next, answer_up, answer_down, answer_refresh, answer_replay, answer_retrained, answer_state, answer_trace, answer_timer, answer_link, answer_word, is_packet, is_dllp, answer_line, link_responses, new_lines}
+use Rattle.linked_engine.specs.Lines.{LinkLines, nothing, no_line, called, did, settled, received, reset_by, answer_arrival, answer_checked, answer_packet_bytes, answer_packet, answer_hearing, answer_dllp_bytes, answer_dllp, answer_next, answer_up, answer_down, answer_refresh, answer_replay, answer_retrained, answer_state, answer_trace, answer_timer, answer_link, answer_word, is_packet, is_dllp, answer_line, link_responses, new_lines}
 
 -- it is traced, and recorded
 pub record IsTraced (s : SetupView) (u : LinkLines) : Type 0 where
@@ -45,7 +48,8 @@ pub record IsTraced (s : SetupView) (u : LinkLines) : Type 0 where
 -- the law of what is recorded, call by call
 pub record Law : Type 0 where
   pub first : (s : SetupView) → IsRecorded s (device.new_endpoint s) (new_log s)
-  pub next : (s : SetupView) (e : EndpointView) (l : LogView) (call : devices.Call) → IsRecorded s e l → AreBytes (call ∷ []) → IsRecorded s (devices.after_call e call) (logged e l call)
+  pub next : (s : SetupView) (e : EndpointView) (l : LogView) (call : devices.Call) → IsRecorded s e l → AreBytes (call ∷ []) → IsRecorded s (devices.after_call e call) (laws.logged e l call)
+  pub turns : (l : LinkedView) → AreTurns (settling l)
 
 -- ---- one call
 
@@ -54,12 +58,12 @@ kept : (s : SetupView) (u v : LinkLines) → v.linked.endpoint ≡ u.linked.endp
 kept s u v e l i = record { recording = i.recording; log = l ∙ i.log; is = subst (λ (x : EndpointView). IsRecorded s x i.recording) (sym e) i.is }
 
 -- the device has a call
-more : Law → (s : SetupView) (u v : LinkLines) (c : devices.Call) → v.linked.endpoint ≡ devices.after_call u.linked.endpoint c → v.log ≡ option_map (λ (l : LogView). logged u.linked.endpoint l c) u.log
+more : Law → (s : SetupView) (u v : LinkLines) (c : devices.Call) → v.linked.endpoint ≡ devices.after_call u.linked.endpoint c → v.log ≡ option_map (λ (l : LogView). laws.logged u.linked.endpoint l c) u.log
     → AreBytes (c ∷ []) → IsTraced s u → IsTraced s v
 more law s u v c e l bytes i = record {
-  recording = logged u.linked.endpoint i.recording c;
-  log = l ∙ ap (option_map (λ (l : LogView). logged u.linked.endpoint l c)) i.log;
-  is = subst (λ (x : EndpointView). IsRecorded s x (logged u.linked.endpoint i.recording c)) (sym e) (law.next s u.linked.endpoint i.recording c i.is bytes);
+  recording = laws.logged u.linked.endpoint i.recording c;
+  log = l ∙ ap (option_map (λ (l : LogView). laws.logged u.linked.endpoint l c)) i.log;
+  is = subst (λ (x : EndpointView). IsRecorded s x (laws.logged u.linked.endpoint i.recording c)) (sym e) (law.next s u.linked.endpoint i.recording c i.is bytes);
 }
 
 -- ---- requests act
@@ -68,10 +72,20 @@ back : (b : Bool) (l : LinkedView) → (cond b (given_back l) l).endpoint ≡ l.
 back true l = refl
 back false l = refl
 
-acted_traced : Law → (s : SetupView) (u : LinkLines) → IsTraced s u → IsTraced s (acted u)
-acted_traced law s u i =
-    more law s u (acted u) devices.Act
-    (back (is_last u.linked.endpoint) (record u.linked { endpoint = device.acted u.linked.endpoint; held = device.next_completion u.linked.endpoint })) refl tt i
+as_it_was : (o : Option LogView) → option_map (λ (l : LogView). l) o ≡ o
+as_it_was None = refl
+as_it_was (Some l) = refl
+
+twice : (f g : LogView → LogView) (o : Option LogView) → option_map g (option_map f o) ≡ option_map (λ (l : LogView). g (f l)) o
+twice f g None = refl
+twice f g (Some l) = refl
+
+acted_traced : Law → (s : SetupView) (u v : LinkLines) (b : Bool) → v.linked.endpoint ≡ (cond b (acted u.linked) u.linked).endpoint
+    → v.log ≡ option_map (λ (l : LogView). cond b (log.acted u.linked.endpoint l) l) u.log → IsTraced s u → IsTraced s v
+acted_traced law s u v true e l i =
+    more law s u v devices.Act
+    (e ∙ back (is_last u.linked.endpoint) (record u.linked { endpoint = device.acted u.linked.endpoint; held = device.next_completion u.linked.endpoint })) l tt i
+acted_traced law s u v false e l i = kept s u v e (l ∙ as_it_was u.log) i
 
 enters : (t : Option TlpView) (l : LinkedView) → (entered_with l t).endpoint ≡ l.endpoint
 enters None l = refl
@@ -81,17 +95,23 @@ may_enter : (o : Option EnterRefusal) (l : LinkedView) → (entered_unless o l).
 may_enter None l = enters l.held l
 may_enter (Some r) l = refl
 
-turned_traced : Law → (s : SetupView) (u : LinkLines) → IsTraced s u → IsTraced s (turned u)
-turned_traced law s u i = kept s (acted u) (turned u) (may_enter (refusal_of (acted u).linked) (acted u).linked) refl (acted_traced law s u i)
+-- calls, one after the other
+then_did : (s : SetupView) (call : Call) (calls : List Call) (u : LinkLines) → IsTraced s (did (did u (call ∷ [])) calls) → IsTraced s (did u (call ∷ calls))
+then_did s call calls u i = kept s (did (did u (call ∷ [])) calls) (did u (call ∷ calls)) refl (sym (twice (logged u.linked call) (logged_all (after_call u.linked call) calls) u.log)) i
 
-one_of : (s : SetupView) (b : Bool) (u v : LinkLines) → IsTraced s u → IsTraced s v → IsTraced s (cond b u v)
-one_of s true u v i j = i
-one_of s false u v i j = j
-
-turns_traced : Law → (s : SetupView) (n : ℕ) (u : LinkLines) → IsTraced s u → IsTraced s (turns n u)
-unfolding turns
-turns_traced law s zero u i = i
-turns_traced law s (suc n) u i = one_of s (may_act u.linked) (turns n (turned u)) u (turns_traced law s n (turned u) (turned_traced law s u i)) i
+turns_traced : Law → (s : SetupView) (calls : List Call) (u : LinkLines) → AreTurns calls → IsTraced s u → IsTraced s (did u calls)
+turns_traced law s [] u are i = kept s u (did u []) refl (as_it_was u.log) i
+turns_traced law s (Act ∷ calls) u are i = then_did s Act calls u (turns_traced law s calls (did u (Act ∷ [])) are.1 (acted_traced law s u (did u (Act ∷ [])) (may_act u.linked) refl refl i))
+turns_traced law s (Enter ∷ calls) u are i =
+    then_did s Enter calls u (turns_traced law s calls (did u (Enter ∷ [])) are.1 (kept s u (did u (Enter ∷ [])) (may_enter (refusal_of u.linked) u.linked) (as_it_was u.log) i))
+turns_traced law s (Up ∷ calls) u are i = absurd are.0
+turns_traced law s (Down ∷ calls) u are i = absurd are.0
+turns_traced law s (Receive packet good ∷ calls) u are i = absurd are.0
+turns_traced law s (ReceiveDllp bytes good ∷ calls) u are i = absurd are.0
+turns_traced law s (Next ∷ calls) u are i = absurd are.0
+turns_traced law s (Refresh ∷ calls) u are i = absurd are.0
+turns_traced law s (Replay ∷ calls) u are i = absurd are.0
+turns_traced law s (Retrained ∷ calls) u are i = absurd are.0
 
 -- ---- a packet arrives
 
@@ -105,10 +125,6 @@ first_of zero bytes h i = omega arith
 first_of (suc n) [] h i = h i
 first_of (suc n) (b ∷ bytes) h zero = h zero
 first_of (suc n) (b ∷ bytes) h (suc i) = first_of n bytes (λ j. h (suc j)) i
-
-as_it_was : (o : Option LogView) → option_map (λ (l : LogView). l) o ≡ o
-as_it_was None = refl
-as_it_was (Some l) = refl
 
 arrived_traced : Law → (s : SetupView) (u v : LinkLines) (r : Received) (p : PortView) (tlp : List ℕ) → IsBytes tlp
     → v.linked.endpoint ≡ (after_arrival r u.linked p tlp).endpoint
@@ -133,8 +149,11 @@ module _ (law : Law) (s : SetupView) where
   either true x y p q = p
   either false x y p q = q
 
+  settled_traced : (u : LinkLines) → IsTraced s u → IsTraced s (settled u)
+  settled_traced u i = turns_traced law s (settling u.linked) u (law.turns u.linked) i
+
   arrival_traced : (u : LinkLines) (packet : List ℕ) (good : Bool) → IsBytes packet → IsTraced s u → IsTraced s (answer_arrival u packet good).state
-  arrival_traced u packet good bytes i = turns_traced law s (turns_left (received u packet good).linked) (received u packet good) (received_traced law s u packet good bytes i)
+  arrival_traced u packet good bytes i = settled_traced (received u packet good) (received_traced law s u packet good bytes i)
 
   checked_traced : (u : LinkLines) (k : LcrcCheck) (packet : List ℕ) → IsBytes packet → IsTraced s u → IsTraced s (answer_checked u k packet).state
   checked_traced u checks.Good packet bytes i = arrival_traced u packet true bytes i
@@ -152,7 +171,7 @@ module _ (law : Law) (s : SetupView) where
   packet_traced u (Some m) i = packet_bytes_traced u (decode_of (digits_of m.0)) m.1 (λ b e. (decode_of-ok (digits_of m.0) b e).3) i
 
   hearing_traced : (u : LinkLines) (bytes : List ℕ) (good : Bool) → IsTraced s u → IsTraced s (answer_hearing u bytes good).state
-  hearing_traced u bytes good i = turns_traced law s (turns_left (called u (ReceiveDllp bytes good)).linked) (called u (ReceiveDllp bytes good)) (kept s u (called u (ReceiveDllp bytes good)) refl refl i)
+  hearing_traced u bytes good i = settled_traced (called u (ReceiveDllp bytes good)) (kept s u (called u (ReceiveDllp bytes good)) refl refl i)
 
   dllp_bytes_traced : (u : LinkLines) (r : Result (List ℕ) FromHexError) (good : Bool) → IsTraced s u → IsTraced s (answer_dllp_bytes u r good).state
   dllp_bytes_traced u (Err e) good i = i

@@ -1,5 +1,5 @@
 -- What `endpoint --link` answers to the lines of its input.
-use Rattle.std.specs.Prelude.{ℕ, zero, suc, Bool, true, false, if◌then◌else◌, List, [], ◌∷◌, ◌++◌, take, drop, codes, bytes_eq, Option, Some, None, option_map, Result, Ok, Err}
+use Rattle.std.specs.Prelude.{ℕ, Bool, true, false, if◌then◌else◌, List, [], ◌∷◌, ◌++◌, take, drop, codes, bytes_eq, Option, Some, None, option_map, Result, Ok, Err}
 use Rattle.hex.specs.Hex.{decode_of}
 use Rattle.hex.specs.declared.error.FromHexError.{FromHexError}
 use Rattle.flow_control.specs.declared.limits.LaneCredits.{LaneCredits}
@@ -7,12 +7,11 @@ use Rattle.link_crc.specs.Checks.{lcrc_check_of}
 use Rattle.link_crc.specs.declared.check.LcrcCheck.{LcrcCheck}
 use Rattle.link_crc.specs.declared.check.LcrcCheck.TheVariants as checks
 use Rattle.config_core.specs.SetupView.{SetupView}
-use Rattle.endpoint_core.specs.Classes.{becomes}
-use Rattle.port_core.specs.Incoming.{tlp_in}
 use Rattle.port_core.specs.Port as port
 use Rattle.linked_endpoint.specs.LinkedView.{LinkedView}
 use Rattle.linked_endpoint.specs.Linked as link
-use Rattle.linked_endpoint.specs.Runs.{Call, Up, Down, Receive, ReceiveDllp, Enter, Next, Refresh, Replay, Retrained, after_call}
+use Rattle.linked_endpoint.specs.Runs.{Call, Up, Down, Receive, ReceiveDllp, Next, Refresh, Replay, Retrained, after_call, after_calls}
+use Rattle.linked_endpoint.specs.Settling.{logged_all, settling}
 use Rattle.endpoint_log.specs.LogView.{LogView}
 use Rattle.endpoint_log.specs.Steps as log
 use Rattle.hex_text.specs.Line.{digits_of}
@@ -46,33 +45,18 @@ called u call = record { linked = after_call u.linked call; log = u.log; has_crc
 
 -- ---- requests act
 
--- the oldest request acts, a read by one block, and its completion is held
-abbrev pub acted : LinkLines → LinkLines
-acted u = record { linked = link.acted u.linked; log = option_map (log.acted u.linked.endpoint) u.log; has_crc = u.has_crc }
+-- the link does these, and what they do is recorded
+abbrev pub did : LinkLines → List Call → LinkLines
+did u calls = record { linked = after_calls u.linked calls; log = option_map (logged_all u.linked calls) u.log; has_crc = u.has_crc }
 
--- then it enters the replay buffer
-abbrev pub turned : LinkLines → LinkLines
-turned u = called (acted u) Enter
-
--- so many turns, as long as a request may act
-unfoldable pub turns : ℕ → LinkLines → LinkLines
-turns zero u = u
-turns (suc n) u = if link.may_act u.linked then turns n (turned u) else u
-
--- requests act as far as the peer's credits and the window of 2047 packets go: there are no more turns to make than these
+-- requests act as far as the peer's credits and the window of 2047 packets go
 abbrev pub settled : LinkLines → LinkLines
-settled u = turns (link.turns_left u.linked) u
+settled u = did u (settling u.linked)
 
 -- ---- a packet arrives
 
--- what is recorded of a packet before it arrives: the device takes its TLP, if it is accepted within its credits
-abbrev pub coming : LinkedView → List ℕ → Bool → LogView → LogView
-coming l packet good recorded =
-    if link.is_taken (port.received l.port packet good) then log.came l.endpoint.device (becomes (tlp_in packet)) recorded else recorded
-
 abbrev pub received : LinkLines → List ℕ → Bool → LinkLines
-received u packet good =
-    record { linked = after_call u.linked (Receive packet good); log = option_map (coming u.linked packet good) u.log; has_crc = u.has_crc }
+received u packet good = did u (Receive packet good ∷ [])
 
 abbrev pub answer_arrival : LinkLines → List ℕ → Bool → Answer LinkLines
 answer_arrival u packet good = answered (settled (received u packet good)) (arrived_text (link.arrived u.linked packet good))

@@ -14,6 +14,7 @@ ghost use Rattle.linked_engine.specs.Lines.{LinkLines, settled};
 ghost use Rattle.linked_engine.specs.Traces.{asked, trace_after};
 
 use endpoint_engine::laws::{a_recorded_trace_is_ok, each_call_is_recorded};
+use linked_endpoint::a_settled_device_is_at_rest;
 
 /// Whatever lines came, so whatever the peer and the wires did: the line `trace` then prints what is recorded of the device, if
 /// it is traced. The history that is recorded explains the trace, whose `n` are those of a history that grew.
@@ -28,6 +29,7 @@ pub fn the_trace_behind_a_link_is_explained()
 {
     each_call_is_recorded();
     a_recorded_trace_is_ok();
+    a_settled_device_is_at_rest();
 }
 
 /// Whatever lines came: `check --clocked` says `ok`, with status 0, to what the line `trace` then prints. A log counts the
@@ -43,11 +45,14 @@ pub fn the_trace_behind_a_link_is_ok()
 {
     each_call_is_recorded();
     a_recorded_trace_is_ok();
+    a_settled_device_is_at_rest();
 }
 
-/// Behind a packet or a DLLP nothing that may act waits: if no completion that may enter the replay buffer is held before, no
-/// request may act afterwards, and no completion may enter.
+/// Behind a packet or a DLLP nothing that may act waits: no request may act, and no completion that is held may enter the
+/// replay buffer.
 pub fn nothing_that_may_act_waits()
     ensures acts { (u : LinkLines) → may_act (settled u).linked ≡ false }
-    ensures enters { (u : LinkLines) → may_enter u.linked ≡ false → may_enter (settled u).linked ≡ false }
-{}
+    ensures enters { (u : LinkLines) → may_enter (settled u).linked ≡ false }
+{
+    a_settled_device_is_at_rest();
+}

@@ -13,7 +13,6 @@ pub mod laws;
 mod lines;
 mod options;
 mod reasons;
-mod recording;
 mod texts;
 
 pub use credits::FiniteCredits;

@@ -1,7 +1,6 @@
 //! What a device behind its end of a link does, and what it answers.
-ghost use Rattle.std.specs.Prelude.{◌≡◌, true, if◌then◌else◌, Ok, IfOk, OnOk, OnErr};
+ghost use Rattle.std.specs.Prelude.{◌≡◌, Ok, IfOk, OnOk, OnErr};
 ghost use Rattle.linked_endpoint.specs.Linked as link;
-ghost use Rattle.linked_endpoint.specs.Runs.{Enter, after_call};
 ghost use Rattle.line_loop.specs.Run.{IsAnswer};
 ghost use Rattle.link_crc.specs.Checks.{lcrc_check_of};
 ghost use Rattle.linked_engine.specs.Crcs.{without_last};
@@ -9,17 +8,16 @@ ghost use Rattle.linked_engine.specs.Lines as spec;
 
 use crate::frames::{is_good_dllp, without_dllp_crc, without_lcrc};
 use crate::options::LinkedOptions;
-use crate::recording::record_coming;
 use crate::texts::{put_arrived, put_heard, put_replay, put_sent, put_state, put_word};
 use arrayvec::ArrayVec;
 use endpoint_core::Room;
-use endpoint_engine::{new_log, no_line, record_acting, record_answer, record_reset};
-use endpoint_log::Log;
+use endpoint_engine::no_line;
+use endpoint_log::Recording;
 use hex_text::HexText;
 use line_loop::Verdict;
 use link_crc::{LcrcCheck, check_packet};
 use linked_endpoint::{Arrived, LinkedEndpoint};
-use port_core::{EnterRefusal, PACKET_BYTES};
+use port_core::PACKET_BYTES;
 use std::alloc::{AllocError, Global};
 use std::marker::Model;
 use trace_engine::tell_trace;
@@ -29,37 +27,26 @@ use trace_engine::tell_trace;
 pub(crate) struct Lines {
     alloc: Global,
     linked: LinkedEndpoint,
-    log: Option<Log>,
+    recording: Recording,
     pub(crate) has_crc: bool,
     rooms: Rooms,
 }
 
-/// Room for TLPs that are read, for completions, and for what is sent and its digits. What it holds counts for nothing.
+/// Room for TLPs that are read and completions, and for what is sent and its digits. What it holds counts for nothing.
 #[derive(Drop)]
 struct Rooms {
     device: Room,
-    packet: endpoint_core::PacketRoom,
     sent: ArrayVec<u8, PACKET_BYTES>,
     text: HexText,
 }
 
 impl Model for Lines {
+    ghost use Rattle.endpoint_log.specs.Recordings.{log_of};
     ghost use Rattle.linked_engine.specs.Lines.{LinkLines};
 
     ghost Value = { LinkLines };
 
-    ghost view = { λ l. record { linked = l.linked; log = l.log; has_crc = l.has_crc } };
-}
-
-/// The completion that is held enters the replay buffer, unless that is refused. Fails if memory can't be allocated.
-fn enter(linked: &mut LinkedEndpoint) -> Result<(), AllocError>
-    ensures { OnOk result (linked.new ≡ after_call linked.old Enter) }
-{
-    match linked.enter() {
-        Ok(_) => Ok(()),
-        Err(EnterRefusal::Memory) => Err(AllocError),
-        Err(_) => Ok(()),
-    }
+    ghost view = { λ l. record { linked = l.linked; log = log_of l.recording; has_crc = l.has_crc } };
 }
 
 /// A device whose link is down.
@@ -77,48 +64,24 @@ impl Lines {
         Ok(Lines {
             alloc,
             linked: new_linked(alloc, options)?,
-            log: new_log(alloc, options.device),
+            recording: Recording::new(alloc, options.device.setup, options.device.is_traced),
             has_crc: options.has_crc,
             rooms: Rooms {
                 device: Room::new(),
-                packet: endpoint_core::PacketRoom::new(),
                 sent: ArrayVec::new(),
                 text: HexText::new(),
             },
         })
     }
 
-    /// The oldest request acts, and its completion enters the replay buffer.
-    #[tactic(auto, using(crate::proofs::Logging::acted_log, crate::proofs::Entering::entered_at_last))]
-    fn act(&mut self) -> Result<(), AllocError>
-        requires { link.may_act self.old.linked ≡ true }
-        ensures { OnOk result (self.new ≡ spec.turned self.old) }
-    {
-        let number = record_acting(&mut self.log, self.linked.endpoint())?;
-        let completion = self.linked.complete(&mut self.rooms.device);
-        record_answer(&mut self.log, number, &completion)?;
-        enter(&mut self.linked)
-    }
-
-    /// The oldest request acts, if it may, and its completion enters the replay buffer. Returns whether it acted.
-    fn turn(&mut self) -> Result<bool, AllocError>
-        ensures acted { IfOk result (λ acted. acted ≡ link.may_act self.old.linked) }
-        ensures state { OnOk result (self.new ≡ (if link.may_act self.old.linked then spec.turned self.old else self.old)) }
-    {
-        if !self.linked.may_act() {
-            return Ok(false);
-        }
-        self.act()?;
-        Ok(true)
-    }
-
     /// Requests act and their completions enter the replay buffer, until none that waits may act: as far as the peer's credits
     /// and the window of 2047 packets go.
-    #[tactic(auto, using(crate::proofs::Turning::over, crate::proofs::Turning::more, crate::proofs::Turning::fewer))]
     fn settle(&mut self) -> Result<(), AllocError>
         ensures { OnOk result (self.new ≡ spec.settled self.old) }
     {
-        while self.turn()? {}
+        self.linked
+            .settle(&mut self.rooms.device, &mut self.recording)?;
+        self.recording.check()?;
         Ok(())
     }
 
@@ -127,14 +90,11 @@ impl Lines {
         ensures answer { IfOk result (λ a. a ≡ link.arrived self.old.linked packet.now good) }
         ensures state { OnOk result (self.new ≡ spec.received self.old packet.now good) }
     {
-        record_coming(
-            &mut self.log,
-            &self.linked,
-            packet,
-            good,
-            &mut self.rooms.packet,
-        )?;
-        self.linked.receive(packet, good, &mut self.rooms.device)
+        let arrived = self
+            .linked
+            .receive(packet, good, &mut self.rooms.device, &mut self.recording)?;
+        self.recording.check()?;
+        Ok(arrived)
     }
 
     /// A packet arrives, and requests act.
@@ -227,7 +187,7 @@ impl Lines {
     {
         put_word("up", out)?;
         self.linked.up(self.alloc);
-        record_reset(&mut self.log);
+        self.recording.reset();
         Ok(Verdict::Fine)
     }
 
@@ -238,7 +198,7 @@ impl Lines {
     {
         put_word("down", out)?;
         self.linked.down(self.alloc);
-        record_reset(&mut self.log);
+        self.recording.reset();
         Ok(Verdict::Fine)
     }
 
@@ -287,7 +247,7 @@ impl Lines {
         ensures ok { IfOk result (λ verdict. IsAnswer self.now out.old.items out.new.items verdict (spec.answer_trace self.now self.now.log)) }
         ensures err { OnErr result (out.new.items ≡ out.old.items) }
     {
-        let Some(log) = &self.log else {
+        let Recording::On(log) = &self.recording else {
             return no_line(out);
         };
         tell_trace(self.alloc, log.claim(), out)

@@ -5,9 +5,10 @@ ghost use Rattle.endpoint_core.specs.Steps as steps;
 ghost use Rattle.pciex_c.specs.declared.codes.TheConstants.{NO_MEMORY};
 ghost use Rattle.c_buffer.specs.Buffer.{copied};
 ghost use Rattle.c_endpoint.specs.Calls.{limit, next_call};
-ghost use Rattle.c_recording.specs.Recordings.{came, acted, text};
+ghost use Rattle.endpoint_log.specs.Recordings.{came, acted};
+ghost use Rattle.c_endpoint.specs.Texts.{text};
 ghost use Rattle.c_endpoint.specs.SessionView.{SessionView, Holds, new_session, after_reset};
-ghost use Rattle.c_recording.specs.declared.recording.Recording.TheVariants.{Lost};
+ghost use Rattle.endpoint_log.specs.declared.recording.Recording.TheVariants.{Lost};
 ghost use Rattle.pciex_c.specs.Codes.{code_of, status_of, handled_code};
 
 use crate::codes::{code, status, taken};

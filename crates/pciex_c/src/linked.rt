@@ -12,8 +12,8 @@ ghost use Rattle.c_buffer.specs.Buffer.{copied};
 ghost use Rattle.c_linked.specs.Making.{limit, setup_with, session_of};
 ghost use Rattle.c_linked.specs.SessionView.{SessionView, IsDone, with_linked, with_reset};
 ghost use Rattle.c_linked.specs.Calls.{IsAfter, next_call, condition_of};
-ghost use Rattle.c_recording.specs.Recordings.{text};
-ghost use Rattle.c_recording.specs.declared.recording.Recording.TheVariants.{Lost};
+ghost use Rattle.c_endpoint.specs.Texts.{text};
+ghost use Rattle.endpoint_log.specs.declared.recording.Recording.TheVariants.{Lost};
 ghost use Rattle.pciex_c.specs.Codes.{status_of};
 ghost use Rattle.pciex_c.specs.LinkCodes.{made_code, arrived_code, arrived_of, dllp_code, sent_code, flag_after, condition_code};
 

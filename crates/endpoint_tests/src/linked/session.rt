@@ -2,6 +2,7 @@
 use arrayvec::ArrayVec;
 use config_core::Setup;
 use endpoint_core::Room;
+use endpoint_log::Recording;
 use flow_control::LaneCredits;
 use hex_text::HexLine;
 use linked_endpoint::{Arrived, LinkedEndpoint};
@@ -32,8 +33,11 @@ pub fn arrives(linked: &mut LinkedEndpoint, room: &mut Room, digits: &str) -> Op
     if digits.len() > 512 || !line.read(digits.as_bytes()) {
         return None;
     }
-    let arrived = linked.receive(line.bytes(), true, room).ok()?;
-    linked.settle(room).ok()?;
+    let mut recording = Recording::Lost;
+    let arrived = linked
+        .receive(line.bytes(), true, room, &mut recording)
+        .ok()?;
+    linked.settle(room, &mut recording).ok()?;
     Some(arrived)
 }
 
