@@ -1,5 +1,5 @@
 -- Digits in groups.
-use Rattle.std.proofs.Common.{◌≡◌, ◌∙◌, ℕ, zero, suc, List, [], ◌∷◌, ◌++◌, ◌+◌, ◌-◌, ◌*◌, ◌/◌, ◌%◌, ◌≤◌, length, take, drop, slice_index, ap, refl, append_assoc, arith}
+use Rattle.std.proofs.Common.{◌≡◌, ◌∙◌, ℕ, zero, suc, List, [], ◌∷◌, ◌++◌, ◌+◌, ◌-◌, ◌*◌, ◌/◌, ◌%◌, ◌≤◌, length, take, drop, slice_index, get_or, ap, refl, append_assoc, arith}
 use Rattle.std.proofs.lemmas.Grind.{common_steps}
 use Rattle.hex.specs.Hex.{encode_upper, encode_with, upper_digits}
 use Rattle.hex_text.specs.Line.{spaced}
@@ -37,6 +37,16 @@ length_of_line bytes line e =
     let groups = length_of_groups bytes in
     let all : length line ≡ length (spaced (encode_upper bytes)) + 1 = ap length e ∙ one_more (spaced (encode_upper bytes)) in
     omega arith
+
+-- the digits of two bytes, one by one
+pub two_pairs : (text between after first second bytes : List ℕ) → length bytes ≡ 2 → first ≡ encode_upper (get_or bytes 0 0 ∷ []) → second ≡ encode_upper (get_or bytes 1 0 ∷ [])
+    → between ≡ text ++ first → after ≡ between ++ second → after ≡ text ++ encode_upper bytes
+unfolding encode_with
+two_pairs text between after first second [] len e f g h = absurd (omega (arith, len))
+two_pairs text between after first second (high ∷ []) len e f g h = absurd (omega (arith, len))
+two_pairs text between after first second (high ∷ low ∷ []) len e f g h =
+    rw (h, g, e, f) (append_assoc text (encode_upper (high ∷ [])) (encode_upper (low ∷ [])))
+two_pairs text between after first second (high ∷ low ∷ c ∷ rest) len e f g h = absurd (omega (arith, len))
 
 -- the digits of some bytes, and of those behind them
 pub digits_behind : (n : ℕ) (bytes : List ℕ) → encode_upper bytes ≡ encode_upper (take n bytes) ++ encode_upper (drop n bytes)

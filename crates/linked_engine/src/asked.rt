@@ -9,6 +9,7 @@ ghost use Rattle.linked_engine.specs.Lines as spec;
 use crate::frames::marked;
 use crate::lines::Lines;
 use crate::options::LinkedOptions;
+use crate::packet_line::PacketLine;
 use endpoint_engine::no_line;
 use hex_text::{HexLine, is_skipped};
 use line_loop::{Responder, Verdict};
@@ -19,7 +20,8 @@ use std::marker::Model;
 #[derive(Drop)]
 pub(crate) struct Asked {
     lines: Lines,
-    line: HexLine,
+    packet: PacketLine,
+    dllp: HexLine,
 }
 
 impl Model for Asked {
@@ -37,7 +39,8 @@ impl Asked {
     {
         Ok(Asked {
             lines: Lines::new(alloc, options)?,
-            line: HexLine::new(),
+            packet: PacketLine::new(),
+            dllp: HexLine::new(),
         })
     }
 
@@ -61,10 +64,10 @@ impl Asked {
             (spec.answer_packet_bytes self.old (decode_of (digits_of digits.now)) good)) }
         ensures err { OnErr result (out.new.items ≡ out.old.items) }
     {
-        if !self.line.read(digits) {
+        if !self.packet.read(digits) {
             return no_line(out);
         }
-        self.lines.take_packet(self.line.bytes(), good, out)
+        self.lines.take_packet(self.packet.bytes(), good, out)
     }
 
     /// A DLLP of these digits arrives.
@@ -80,10 +83,10 @@ impl Asked {
             (spec.answer_dllp_bytes self.old (decode_of (digits_of digits.now)) good)) }
         ensures err { OnErr result (out.new.items ≡ out.old.items) }
     {
-        if !self.line.read(digits) {
+        if !self.dllp.read(digits) {
             return no_line(out);
         }
-        self.lines.take_dllp(self.line.bytes(), good, out)
+        self.lines.take_dllp(self.dllp.bytes(), good, out)
     }
 
     /// Answers what stands behind `packet`.

@@ -12,6 +12,7 @@ mod frames;
 pub mod laws;
 mod lines;
 mod options;
+mod packet_line;
 mod reasons;
 mod texts;
 

@@ -12,7 +12,7 @@ ghost use Rattle.linked_engine.specs.Texts as spec;
 
 use arrayvec::ArrayString;
 use endpoint_engine::put_handled;
-use hex_text::{HexText, write_bytes};
+use hex_text::{HexText, pair_of, write_bytes};
 use link_crc::{dllp_crc, lcrc};
 use linked_endpoint::{Arrived, LinkedEndpoint};
 use operation_text::{write_decimal, write_sequence};
@@ -175,6 +175,22 @@ fn end_in_crc(crc: &[u8], text: &mut HexText, out: &mut Vec<u8>)
     end_in_group(crc, text, out);
 }
 
+/// Adds the digits of a sequence number's two bytes, or of others that are at most four.
+fn put_pairs(number: &[u8], text: &mut HexText, out: &mut Vec<u8>)
+    requires few { length number.now ≤ 4 }
+    requires room { vec_len out.old + 3 * length number.now ≤ vec_capacity out.old }
+    ensures items { out.new.items ≡ out.old.items ++ encode_upper number.now }
+    ensures len { vec_len out.new ≤ vec_len out.old + 3 * length number.now }
+    ensures room { vec_capacity out.old ≤ vec_capacity out.new }
+{
+    if number.len() != 2 {
+        put_group(number, text, out);
+        return;
+    }
+    put(pair_of(number[0]).as_bytes(), out);
+    put(pair_of(number[1]).as_bytes(), out);
+}
+
 /// Adds what stands before the TLP in a packet's line: a word, and the sequence number's two bytes.
 fn put_front(number: &[u8], text: &mut HexText, out: &mut Vec<u8>)
     requires few { length number.now ≤ 4 }
@@ -184,7 +200,7 @@ fn put_front(number: &[u8], text: &mut HexText, out: &mut Vec<u8>)
     ensures room { vec_capacity out.old ≤ vec_capacity out.new }
 {
     put(b"packet ", out);
-    put_group(number, text, out);
+    put_pairs(number, text, out);
     put(b" ", out);
 }
 
@@ -257,6 +273,10 @@ fn put_sent_dllp(
 {
     out.reserve(512)?;
     put(b"dllp ", out);
+    if !has_crc && bytes.len() <= 4 {
+        end_in_group(bytes, text, out);
+        return Ok(());
+    }
     put_digits(bytes, text, out);
     end_dllp(has_crc, bytes, text, out);
     Ok(())
