@@ -103,7 +103,7 @@ class Model:
             return "accept"
         offset = self.offset(tlp.address, len(tlp.data))
         if poisoned or offset is None:
-            self.note(DROPPED if poisoned else UNCLAIMED)
+            self.note(UNCLAIMED if offset is None else DROPPED)
             return "accept Unsupported"
         for at, byte in enumerate(tlp.data):
             enables = tlp.first if at < 4 else tlp.last if at >= len(tlp.data) - 4 else 15
@@ -131,7 +131,10 @@ class Model:
 
     def refuse_poisoned(self, tlp):
         """An AtomicOp, or a write of a register or of I/O."""
-        supported = tlp.kind & 0xC == 0xC or tlp.kind == 0x44 and not tlp.address >> 16 & 7
+        if tlp.kind & 0xC == 0xC:
+            supported = self.offset(tlp.address, len(tlp.data)) is not None
+        else:
+            supported = tlp.kind == 0x44 and not tlp.address >> 16 & 7
         self.note(ADVISORY if supported else REFUSED)
         return tlp.completion(self.completer, 1, 4)
 
@@ -304,7 +307,7 @@ class RootComplex:
 
     def poisoned(self):
         tlp = random.choice((
-            self.request(self.base), Tlp(0x44, random.choice((0x100, 0x101)) << 16 | BAR, bytes(4), tag=self.next_tag()),
+            self.request(self.base), self.request(self.base + SIZE), Tlp(0x44, random.choice((0x100, 0x101)) << 16 | BAR, bytes(4), tag=self.next_tag()),
             Tlp(0x42, 0x1000, random.randbytes(4), tag=self.next_tag()),
         ))
         tlp.flags = POISONED

@@ -36,11 +36,16 @@ IsAsked _ _ = ⊥
 pub Asks : Received → Type 0
 Asks (received.NonPosted t) = IsAsked t.kind t.body
 Asks (received.Posted t) = t.kind ≡ kinds.MemoryWrite
+Asks (received.PoisonedNonPosted t) = IsNonPosted t.kind
 Asks _ = Unit {0}
 
 pub asked_of : (t : TlpView) → Asks (received.NonPosted t) → IsAsked t.kind t.body
 unfolding Asks
 asked_of t h = h
+
+poison_of : (t : TlpView) → Asks (received.PoisonedNonPosted t) → IsNonPosted t.kind
+unfolding Asks
+poison_of t h = h
 
 pub write_of : (t : TlpView) → Asks (received.Posted t) → t.kind ≡ kinds.MemoryWrite
 unfolding Asks
@@ -87,21 +92,21 @@ of_kind b kinds.Cas = tt
 of_kind b kinds.Completion = tt
 of_kind b kinds.CompletionData = tt
 
-of_poisoned : (t : TlpView) (k : Kind) → Asks (classes.poisoned_by_kind k t)
+of_poisoned : (b : List ℕ) (k : Kind) → Asks (classes.poisoned_by_kind k (packet_at b k))
 unfolding Asks
-of_poisoned t kinds.MemoryRead = tt
-of_poisoned t kinds.MemoryWrite = tt
-of_poisoned t kinds.FetchAdd = tt
-of_poisoned t kinds.Swap = tt
-of_poisoned t kinds.Cas = tt
-of_poisoned t kinds.Completion = tt
-of_poisoned t kinds.CompletionData = tt
+of_poisoned b kinds.MemoryRead = tt
+of_poisoned b kinds.MemoryWrite = tt
+of_poisoned b kinds.FetchAdd = tt
+of_poisoned b kinds.Swap = tt
+of_poisoned b kinds.Cas = tt
+of_poisoned b kinds.Completion = tt
+of_poisoned b kinds.CompletionData = tt
 
 of_packet : (p : Bool) (b : List ℕ) (o : Option TlpFault) (k : Option Kind) → Asks (classes.of_packet p (read_as o k b))
 of_packet p b (Some f) k = malformed _
 of_packet p b None None = malformed _
 of_packet p b None (Some k) =
-    either (classes.crosses (packet_at b k)) _ _ (malformed _) (either p _ _ (of_poisoned (packet_at b k) k) (of_kind b k))
+    either (classes.crosses (packet_at b k)) _ _ (malformed _) (either p _ _ (of_poisoned b k) (of_kind b k))
 
 of_configuration : (p : Bool) (r : Result CfgRequest CfgFault) → Asks (classes.of_configuration p r)
 of_configuration p (Err f) = malformed _
@@ -148,3 +153,7 @@ asked_kind kinds.CompletionData b h = h
 -- what isn't posted has a completion
 pub non_posted : (b : List ℕ) (t : TlpView) → classes.becomes b ≡ received.NonPosted t → IsNonPosted t.kind
 non_posted b t e = asked_kind t.kind t.body (asked_of t (subst Asks e (becomes_asked b)))
+
+-- nor is what is poisoned so
+pub poisoned_non_posted : (b : List ℕ) (t : TlpView) → classes.becomes b ≡ received.PoisonedNonPosted t → IsNonPosted t.kind
+poisoned_non_posted b t e = poison_of t (subst Asks e (becomes_asked b))

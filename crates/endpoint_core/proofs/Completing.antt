@@ -79,6 +79,7 @@ memory_some d t al =
 completes : (d : DeviceView) (w : Waiting) → AsksOne w → IsSome (completion_by d w)
 completes d (waits.Memory t) al = memory_some d t al
 completes d (waits.Configuration r) al = refl
+completes d (waits.Poisoned t) al = refl
 completes d (waits.Refused c n) al = refl
 
 head_completes : (d : DeviceView) (w : Waiting) (ws xs : List Waiting) → xs ≡ w ∷ ws → AreAsked xs → IsSome (next_by d xs)

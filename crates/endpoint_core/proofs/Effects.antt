@@ -31,6 +31,8 @@ taken_bytes : (e : EndpointView) (r : Received) → (taken_as e r).device.bytes 
 taken_bytes e (received.Posted t) = posted_by e.device (op_of t)
 taken_bytes e (received.NonPosted t) = refl
 taken_bytes e (received.Configuration r) = refl
+taken_bytes e (received.PoisonedPosted t) = refl
+taken_bytes e (received.PoisonedNonPosted t) = refl
 taken_bytes e (received.Refused d n) = refl
 taken_bytes e (received.Unsupported n) = refl
 taken_bytes e received.Ignored = refl
@@ -56,6 +58,7 @@ head_bytes : (e : EndpointView) (ws : List Waiting) → (acted_on e ws).device.b
 head_bytes e [] = refl
 head_bytes e (waits.Memory t ∷ ws) = memory_bytes e.device (op_of t)
 head_bytes e (waits.Configuration r ∷ ws) = configured_bytes e.device r
+head_bytes e (waits.Poisoned t ∷ ws) = refl
 head_bytes e (waits.Refused d n ∷ ws) = refl
 
 call_bytes : (e : EndpointView) (c : Call) → (after_call e c).device.bytes ≡ bytes_by e.device.bytes (effects e c)

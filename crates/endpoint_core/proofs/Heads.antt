@@ -15,6 +15,7 @@ is_cut n t some (inr c) = c
 goes_on : (n : ℕ) (w : Waiting) (ws : List Waiting) → n ≢ 0 → CanAdvance n (w ∷ ws) → CanGoOn n w
 goes_on n (waits.Memory t) ws some can = is_cut n t some can
 goes_on n (waits.Configuration r) ws some can = tt
+goes_on n (waits.Poisoned t) ws some can = tt
 goes_on n (waits.Refused d e) ws some can = tt
 
 pub can_go_on : (n : ℕ) (w : Waiting) (ws : List Waiting) → n ≢ 0 → 0 < length ws → w ≡ slice_index_or ws 0 w → CanAdvance n ws → CanGoOn n w
@@ -24,6 +25,7 @@ can_go_on n w (x ∷ ws) some more is can = subst (CanGoOn n) (sym is) (goes_on 
 behind_head : (n : ℕ) (w : Waiting) (ws : List Waiting) → gone_on n w ∷ ws ≡ head_behind n (w ∷ ws)
 behind_head n (waits.Memory t) ws = refl
 behind_head n (waits.Configuration r) ws = refl
+behind_head n (waits.Poisoned t) ws = refl
 behind_head n (waits.Refused d e) ws = refl
 
 at_head : (n : ℕ) (w : Waiting) (ws : List Waiting) → n ≢ 0 → gone_on n w ∷ ws ≡ advanced n (w ∷ ws)

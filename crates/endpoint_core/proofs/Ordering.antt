@@ -11,9 +11,8 @@ use Rattle.tlp_core.specs.Operation.{op_of}
 use Rattle.seq_memory.specs.Entries.{Reply}
 use Rattle.seq_memory.specs.declared.reply.ReplyOf.TheVariants as replies
 use Rattle.seq_memory.specs.Step.{answer}
-use Rattle.completer_core.specs.Completion.{completion_for, completion_of, unless_posted}
+use Rattle.completer_core.specs.Completion.{completion_for, unless_posted}
 use Rattle.config_core.specs.SetupView.{SetupView}
-use Rattle.config_core.specs.declared.request.CfgRequest.{CfgRequest}
 use Rattle.endpoint_core.specs.DescriptorView.{DescriptorView}
 use Rattle.endpoint_core.specs.declared.received.Received.{Received}
 use Rattle.endpoint_core.specs.declared.received.Received.TheVariants as received
@@ -21,7 +20,7 @@ use Rattle.endpoint_core.specs.Classes.{becomes, descriptor_of, descriptor_for}
 use Rattle.endpoint_core.specs.declared.waiting.Waiting.{Waiting}
 use Rattle.endpoint_core.specs.declared.waiting.Waiting.TheVariants as waits
 use Rattle.endpoint_core.specs.EndpointView.{DeviceView, EndpointView}
-use Rattle.endpoint_core.specs.Steps.{from, base_of_op, first_block, head_behind, done_by, acted_on, taken_as, is_supported, completion_at, memory_completion, configuration_completion, completion_by, next_by, next_completion, new_endpoint}
+use Rattle.endpoint_core.specs.Steps.{from, base_of_op, first_block, head_behind, done_by, acted_on, taken_as, is_supported, completion_at, memory_completion, completion_by, next_by, next_completion, new_endpoint}
 use Rattle.endpoint_core.specs.Runs.{Call, Take, Act, Reset, after_call, after_calls, all_of, blocks_in, blocks_by, blocks_waiting, Effect, effects_posted, effects_as, effects, all_effects, descriptor_in, descriptors_waiting, asked_as, asked_by, finished_by, finished, all_asked, all_finished}
 use Rattle.std.proofs.lemmas.Grind.{flat_map-append}
 
@@ -73,6 +72,8 @@ taken : (e : EndpointView) (r : Received) → descriptors_waiting e ++ asked_as 
 taken e (received.Posted t) = append-nil (descriptors_waiting e)
 taken e (received.NonPosted t) = queued e.waiting (waits.Memory t)
 taken e (received.Configuration r) = queued e.waiting (waits.Configuration r)
+taken e (received.PoisonedPosted t) = append-nil (descriptors_waiting e)
+taken e (received.PoisonedNonPosted t) = queued e.waiting (waits.Poisoned t)
 taken e (received.Refused d n) = queued e.waiting (waits.Refused d n)
 taken e (received.Unsupported n) = append-nil (descriptors_waiting e)
 taken e received.Ignored = append-nil (descriptors_waiting e)
@@ -83,6 +84,7 @@ goes : (z : Bool) (n : ℕ) (w : Waiting) (ws : List Waiting) → (descriptor_in
 goes true n w ws = append-nil (descriptor_in w ∷ map descriptor_in ws)
 goes false n (waits.Memory t) ws = append-nil (descriptor_of t ∷ map descriptor_in ws)
 goes false n (waits.Configuration r) ws = append-nil (descriptor_for r ∷ map descriptor_in ws)
+goes false n (waits.Poisoned t) ws = append-nil (descriptor_of t ∷ map descriptor_in ws)
 goes false n (waits.Refused d m) ws = append-nil (d ∷ map descriptor_in ws)
 
 went : (e : EndpointView) (ws : List Waiting) → e.waiting ≡ ws → map descriptor_in ws ++ [] ≡ finished_by e.device ws ++ descriptors_waiting (acted_on e ws)
@@ -143,6 +145,7 @@ either false d x y p q = q
 carries : (d : DeviceView) (w : Waiting) → Carries (descriptor_in w) (completion_by d w)
 carries d (waits.Memory t) = of_memory d t (op_of t)
 carries d (waits.Configuration r) = either (not (is_supported r)) (descriptor_for r) _ _ refl (either r.writes (descriptor_for r) _ _ refl refl)
+carries d (waits.Poisoned t) = refl
 carries d (waits.Refused c n) = refl
 
 pub of_the_oldest : (e : EndpointView) (w : Waiting) (ws : List Waiting) (c : TlpView) → e.waiting ≡ w ∷ ws → next_completion e ≡ Some c → descriptor_of c ≡ descriptor_in w

@@ -117,6 +117,7 @@ still_asked n dw kinds.CompletionData b al = absurd al
 abbrev pub AsksOne : Waiting → Type 0
 AsksOne (waits.Memory t) = IsAsked t.kind t.body
 AsksOne (waits.Configuration r) = Unit {0}
+AsksOne (waits.Poisoned t) = Unit {0}
 AsksOne (waits.Refused d n) = Unit {0}
 
 abbrev pub AreAsked : List Waiting → Type 0
@@ -142,6 +143,8 @@ took : (e : EndpointView) (r : Received) → AreAsked e.waiting → Asks r → I
 took e (received.Posted t) all a = stays e.waiting all
 took e (received.NonPosted t) all a = queued e.waiting (waits.Memory t) all (asked_of t a)
 took e (received.Configuration r) all a = queued e.waiting (waits.Configuration r) all tt
+took e (received.PoisonedPosted t) all a = stays e.waiting all
+took e (received.PoisonedNonPosted t) all a = queued e.waiting (waits.Poisoned t) all tt
 took e (received.Refused d n) all a = queued e.waiting (waits.Refused d n) all tt
 took e (received.Unsupported n) all a = stays e.waiting all
 took e received.Ignored all a = stays e.waiting all
@@ -172,6 +175,7 @@ went : (e : EndpointView) (ws : List Waiting) → e.waiting ≡ ws → AreAsked 
 went e [] is all = record { blocks = ap (λ (xs : List Waiting). flat_map blocks_by xs) (sym is); asked = subst AreAsked (sym is) tt }
 went e (waits.Memory t ∷ ws) is all = memory_goes e.device (op_of t) t ws all.0 all.1 refl (first_of t.kind t.body t.length t.payload all.0)
 went e (waits.Configuration r ∷ ws) is all = goes (waits.Configuration r) ws all.1
+went e (waits.Poisoned t ∷ ws) is all = goes (waits.Poisoned t) ws all.1
 went e (waits.Refused d n ∷ ws) is all = goes (waits.Refused d n) ws all.1
 
 one_call : (e : EndpointView) (c : Call) → AreAsked e.waiting → IsStep (blocks_waiting e) (blocks_leaving e c) (blocks_coming c) (after_call e c).waiting

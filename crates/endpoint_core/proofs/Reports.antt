@@ -29,6 +29,8 @@ taken_reports : (e : EndpointView) (r : Received) → (taken_as e r).device.regi
 taken_reports e (received.Posted t) = posted_by e.device (op_of t)
 taken_reports e (received.NonPosted t) = refl
 taken_reports e (received.Configuration r) = refl
+taken_reports e (received.PoisonedPosted t) = refl
+taken_reports e (received.PoisonedNonPosted t) = refl
 taken_reports e (received.Refused d n) = refl
 taken_reports e (received.Unsupported n) = refl
 taken_reports e received.Ignored = refl
@@ -54,6 +56,7 @@ head_reports : (e : EndpointView) (ws : List Waiting) → (acted_on e ws).device
 head_reports e [] = refl
 head_reports e (waits.Memory t ∷ ws) = memory_reports e.device (op_of t)
 head_reports e (waits.Configuration r ∷ ws) = configured_reports e.device r
+head_reports e (waits.Poisoned t ∷ ws) = refl
 head_reports e (waits.Refused d n ∷ ws) = refl
 
 poisoned : (came : Bool) (d : DeviceView) (r : RegistersView) (es : List RegisterEffect) → d.registers ≡ registers_by r es

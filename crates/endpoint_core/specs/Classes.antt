@@ -12,7 +12,6 @@ use Rattle.tlp_core.specs.TlpView.{TlpView}
 use Rattle.tlp_core.specs.Bits.{bits, has_bit}
 use Rattle.tlp_core.specs.Layout.{dw_count}
 use Rattle.tlp_core.specs.Faults.{reading}
-use Rattle.config_core.specs.declared.registers.Noted.{Noted}
 use Rattle.config_core.specs.declared.registers.Noted.TheVariants as noted
 use Rattle.config_core.specs.declared.request.CfgRequest.{CfgRequest}
 use Rattle.config_core.specs.declared.fault.CfgFault.{CfgFault}
@@ -85,10 +84,10 @@ by_kind kinds.CompletionData t = received.Unexpected
 by_kind _ t = received.NonPosted t
 
 abbrev pub poisoned_by_kind : Kind → TlpView → Received
-poisoned_by_kind kinds.MemoryWrite t = received.Unsupported noted.Dropped
+poisoned_by_kind kinds.MemoryWrite t = received.PoisonedPosted t
 poisoned_by_kind kinds.Completion t = received.Unexpected
 poisoned_by_kind kinds.CompletionData t = received.Unexpected
-poisoned_by_kind _ t = received.Refused (descriptor_of t) noted.Poisoned
+poisoned_by_kind _ t = received.PoisonedNonPosted t
 
 abbrev pub of_packet : Bool → Result TlpView TlpFault → Received
 of_packet poisoned (Err f) = received.Malformed (malformed.Packet f)

@@ -16,7 +16,7 @@ use Rattle.endpoint_core.specs.Classes.{becomes, carries_poison, descriptor_of, 
 use Rattle.endpoint_core.specs.declared.waiting.Waiting.{Waiting}
 use Rattle.endpoint_core.specs.declared.waiting.Waiting.TheVariants as waits
 use Rattle.endpoint_core.specs.EndpointView.{DeviceView, EndpointView}
-use Rattle.endpoint_core.specs.Steps.{base_of_op, blocks_of, first_block, taken, acted, after_reset_of, is_supported, done_by}
+use Rattle.endpoint_core.specs.Steps.{base_of_op, blocks_of, first_block, dropped_error, poisoned_error, taken, acted, after_reset_of, is_supported, done_by}
 
 pub data Call : Type 0 where
   -- a TLP of these bytes comes
@@ -48,6 +48,7 @@ blocks_in None = []
 abbrev pub blocks_by : Waiting → List Op
 blocks_by (waits.Memory t) = blocks_in (op_of t)
 blocks_by (waits.Configuration r) = []
+blocks_by (waits.Poisoned t) = []
 blocks_by (waits.Refused d n) = []
 
 -- those that wait, in order
@@ -134,6 +135,7 @@ bytes_by m es = fold (λ m x. after x.base LARGE_BLOCK m x.op) m es
 abbrev pub descriptor_in : Waiting → DescriptorView
 descriptor_in (waits.Memory t) = descriptor_of t
 descriptor_in (waits.Configuration r) = descriptor_for r
+descriptor_in (waits.Poisoned t) = descriptor_of t
 descriptor_in (waits.Refused d n) = d
 
 abbrev pub descriptors_waiting : EndpointView → List DescriptorView
@@ -143,6 +145,7 @@ descriptors_waiting e = map descriptor_in e.waiting
 abbrev pub asked_as : Received → List DescriptorView
 asked_as (received.NonPosted t) = descriptor_of t ∷ []
 asked_as (received.Configuration r) = descriptor_for r ∷ []
+asked_as (received.PoisonedNonPosted t) = descriptor_of t ∷ []
 asked_as (received.Refused d n) = d ∷ []
 asked_as _ = []
 
@@ -195,6 +198,7 @@ report_op d n None = []
 
 abbrev pub register_effects_as : DeviceView → Received → List RegisterEffect
 register_effects_as d (received.Posted t) = report_op d noted.Unclaimed (op_of t)
+register_effects_as d (received.PoisonedPosted t) = Report (dropped_error d (op_of t)) ∷ []
 register_effects_as d (received.Unsupported n) = Report n ∷ []
 register_effects_as d received.Unexpected = Report noted.Unexpected ∷ []
 register_effects_as d (received.Malformed f) = Report noted.Fatal ∷ []
@@ -209,6 +213,7 @@ abbrev pub register_effects_by : DeviceView → List Waiting → List RegisterEf
 register_effects_by d [] = []
 register_effects_by d (waits.Memory t ∷ ws) = report_op d noted.Refused (op_of t)
 register_effects_by d (waits.Configuration r ∷ ws) = configuration_effects r
+register_effects_by d (waits.Poisoned t ∷ ws) = Report (poisoned_error d (op_of t)) ∷ []
 register_effects_by d (waits.Refused c n ∷ ws) = Report n ∷ []
 
 abbrev pub poison_effects : Bool → List RegisterEffect

@@ -55,6 +55,11 @@ base_for d address count =
 abbrev pub base_of_op : DeviceView → Op → Option ℕ
 base_of_op d op = base_for d (address_of op) (count_of op)
 
+-- the BAR claims what it asks for
+abbrev pub is_claimed : DeviceView → Option Op → Bool
+is_claimed d (Some op) = is_some (base_of_op d op)
+is_claimed d None = true
+
 -- the block requests of a request: one for each naturally aligned block of 128 bytes that it touches, in rising order
 abbrev pub blocks_of : Op → List Op
 blocks_of op = cut LARGE_BLOCK (dw_of op) op
@@ -138,6 +143,16 @@ abbrev pub memory_completion : DeviceView → TlpView → Option Op → Option T
 memory_completion d t (Some op) = completion_at d t op (base_of_op d op)
 memory_completion d t None = None
 
+-- ---- poisoned memory requests: that one isn't claimed goes before that it is poisoned (section 6.2.3.2.3)
+
+-- of a write, which is dropped
+abbrev pub dropped_error : DeviceView → Option Op → Noted
+dropped_error d o = if is_claimed d o then noted.Dropped else noted.Unclaimed
+
+-- of an AtomicOp, which is completed as not supported
+abbrev pub poisoned_error : DeviceView → Option Op → Noted
+poisoned_error d o = if is_claimed d o then noted.Poisoned else noted.Refused
+
 -- ---- other requests
 
 -- the completion of a read of a register
@@ -166,17 +181,20 @@ configuration_completion d r =
 abbrev pub acted_by : DeviceView → Waiting → DeviceView
 acted_by d (waits.Memory t) = memory_acted d (op_of t)
 acted_by d (waits.Configuration r) = configured d r
+acted_by d (waits.Poisoned t) = noting d (poisoned_error d (op_of t))
 acted_by d (waits.Refused c n) = noting d n
 
 abbrev pub completion_by : DeviceView → Waiting → Option TlpView
 completion_by d (waits.Memory t) = memory_completion d t (op_of t)
 completion_by d (waits.Configuration r) = Some (configuration_completion d r)
+completion_by d (waits.Poisoned t) = Some (completion_without (descriptor_of t) d.completer statuses.Unsupported 4)
 completion_by d (waits.Refused c n) = Some (completion_without c d.completer statuses.Unsupported 4)
 
 -- how many DW of it are done then, if more are left, and else 0
 abbrev pub done_by : DeviceView → Waiting → ℕ
 done_by d (waits.Memory t) = memory_done d (op_of t)
 done_by d (waits.Configuration r) = 0
+done_by d (waits.Poisoned t) = 0
 done_by d (waits.Refused c n) = 0
 
 -- the head is what is left of it behind so many DW
@@ -218,6 +236,7 @@ memory_data d None = 0
 abbrev pub data_by : DeviceView → Waiting → ℕ
 data_by d (waits.Memory t) = memory_data d (op_of t)
 data_by d (waits.Configuration r) = if is_supported r && not r.writes then 4 else 0
+data_by d (waits.Poisoned t) = 0
 data_by d (waits.Refused c n) = 0
 
 abbrev pub need_by : DeviceView → List Waiting → Option Need
@@ -245,6 +264,8 @@ abbrev pub taken_as : EndpointView → Received → EndpointView
 taken_as e (received.Posted t) = on_device e (posted e.device (op_of t))
 taken_as e (received.NonPosted t) = queued e (waits.Memory t)
 taken_as e (received.Configuration r) = queued e (waits.Configuration r)
+taken_as e (received.PoisonedPosted t) = on_device e (noting e.device (dropped_error e.device (op_of t)))
+taken_as e (received.PoisonedNonPosted t) = queued e (waits.Poisoned t)
 taken_as e (received.Refused d n) = queued e (waits.Refused d n)
 taken_as e (received.Unsupported n) = on_device e (noting e.device n)
 taken_as e received.Ignored = e
@@ -255,15 +276,12 @@ taken_as e (received.Malformed f) = on_device e (noting e.device noted.Fatal)
 abbrev pub taken : EndpointView → List ℕ → EndpointView
 taken e b = on_device (taken_as e (becomes b)) (with_poison (carries_poison b) (taken_as e (becomes b)).device)
 
--- the BAR claims what it asks for
-abbrev pub is_claimed : DeviceView → Option Op → Bool
-is_claimed d (Some op) = is_some (base_of_op d op)
-is_claimed d None = true
-
 abbrev pub handled_as : DeviceView → Received → Handled
 handled_as d (received.Posted t) = if is_claimed d (op_of t) then handles.Done else handles.Unsupported
 handled_as d (received.NonPosted t) = handles.Waits
 handled_as d (received.Configuration r) = handles.Waits
+handled_as d (received.PoisonedPosted t) = handles.Unsupported
+handled_as d (received.PoisonedNonPosted t) = handles.Waits
 handled_as d (received.Refused c n) = handles.Waits
 handled_as d (received.Unsupported n) = handles.Unsupported
 handled_as d received.Ignored = handles.Ignored

@@ -113,7 +113,8 @@ fn crosses(packet: &TlpRef<'_>) -> bool
     }
 }
 
-fn descriptor_of(packet: &TlpRef<'_>) -> Descriptor
+/// What a completion repeats of a memory request.
+pub(crate) fn descriptor_of(packet: &TlpRef<'_>) -> Descriptor
     ensures { result ≡ spec.descriptor_of packet.now }
 {
     let header = packet.header;
@@ -135,13 +136,13 @@ fn by_kind(packet: TlpRef<'_>) -> Received<'_>
     }
 }
 
-fn poisoned_by_kind<'a>(packet: &TlpRef<'_>) -> Received<'a>
-    ensures { result ≡ spec.poisoned_by_kind packet.now.kind packet.now }
+fn poisoned_by_kind(packet: TlpRef<'_>) -> Received<'_>
+    ensures { result ≡ spec.poisoned_by_kind packet.entry.kind packet.entry }
 {
     match packet.header.kind {
-        Kind::MemoryWrite => Received::Unsupported(Noted::Dropped),
+        Kind::MemoryWrite => Received::PoisonedPosted(packet),
         Kind::Completion | Kind::CompletionData => Received::Unexpected,
-        _ => Received::Refused(descriptor_of(packet), Noted::Poisoned),
+        _ => Received::PoisonedNonPosted(packet),
     }
 }
 
@@ -157,7 +158,7 @@ fn of_packet(poisoned: bool, bytes: &[u8]) -> Received<'_>
         return Received::Malformed(Malformed::Boundary);
     }
     if poisoned {
-        return poisoned_by_kind(&packet);
+        return poisoned_by_kind(packet);
     }
     by_kind(packet)
 }

@@ -7,7 +7,7 @@ ghost use Rattle.endpoint_core.specs.Steps as spec;
 ghost use Rattle.endpoint_core.specs.Blocks as blocks;
 
 use crate::Descriptor;
-use crate::classes::{descriptor_for, is_supported};
+use crate::classes::{descriptor_for, descriptor_of, is_supported};
 use crate::completions::{Place, answer_first, refused, with_word, without_data};
 use crate::requests::{act_all, block_bytes, dw_in_front};
 use crate::waiting::Waiting;
@@ -141,6 +141,28 @@ impl Device {
         Some(address - offset)
     }
 
+    /// Whether the BAR claims a memory request.
+    fn claims(&self, request: &TlpRef<'_>) -> bool
+        ensures { result ≡ spec.is_claimed self.now (op_of request.now) }
+    {
+        let Some(op) = op_lent(request) else {
+            return true;
+        };
+        self.base_for(op.address(), op.size()).is_some()
+    }
+
+    /// A poisoned write is dropped.
+    pub(crate) fn drop_poisoned(&mut self, request: &TlpRef<'_>)
+        ensures { self.new ≡ spec.noting self.old (spec.dropped_error self.old (op_of request.now)) }
+    {
+        let error = if self.claims(request) {
+            Noted::Dropped
+        } else {
+            Noted::Unclaimed
+        };
+        self.note(error);
+    }
+
     /// A posted request comes: if it is claimed it acts. Whether it is.
     #[tactic(auto, using(crate::proofs::Parts::few_of))]
     pub(crate) fn post(&mut self, request: &TlpRef<'_>, room: &mut ReplyData) -> bool
@@ -207,6 +229,25 @@ impl Device {
         }
     }
 
+    /// A poisoned AtomicOp is refused.
+    fn refuse_poisoned<'r>(&mut self, request: &TlpRef<'_>) -> TlpRef<'r>
+        ensures state { self.new ≡ spec.noting self.old (spec.poisoned_error self.old (op_of request.now)) }
+        ensures completion { result ≡ spec.completion_without (classes.descriptor_of request.now) self.old.completer Status.Unsupported 4 }
+    {
+        let error = if self.claims(request) {
+            Noted::Poisoned
+        } else {
+            Noted::Refused
+        };
+        self.note(error);
+        without_data(
+            descriptor_of(request),
+            self.completer,
+            Status::Unsupported,
+            4,
+        )
+    }
+
     /// A configuration request acts, if it is supported.
     fn act_configuration<'r>(&mut self, request: &CfgRequest, room: &'r mut [u8; 4]) -> TlpRef<'r>
         ensures state { self.new ≡ spec.configured self.old request.now }
@@ -239,6 +280,7 @@ impl Device {
             Waiting::Configuration(asked) => {
                 whole(Some(self.act_configuration(asked, &mut room.word)))
             }
+            Waiting::Poisoned(asked) => whole(Some(self.refuse_poisoned(&asked.lend()))),
             Waiting::Refused(descriptor, error) => {
                 self.note(*error);
                 whole(Some(without_data(*descriptor, self.completer, Status::Unsupported, 4)))

@@ -95,6 +95,7 @@ impl Endpoint {
     ) -> Result<Handled, AllocError>
         requires posted { (t : TlpView) → received ≡ Received.Posted t → t.kind ≡ Kind.MemoryWrite }
         requires non_posted { (t : TlpView) → received ≡ Received.NonPosted t → blocks.IsNonPosted t.kind }
+        requires poisoned { (t : TlpView) → received ≡ Received.PoisonedNonPosted t → blocks.IsNonPosted t.kind }
         ensures ok { OnOk result (self.new ≡ spec.taken_as self.old received.entry) }
         ensures answer { IfOk result (λ h. h ≡ spec.handled_as self.old.device received.entry) }
         ensures no_memory { IsErr result → spec.handled_as self.old.device received.entry ≡ Handled.Waits }
@@ -110,6 +111,13 @@ impl Endpoint {
             }
             Received::NonPosted(request) => {
                 self.wait(Waiting::Memory(MemoryRequest::of(&request)))
+            }
+            Received::PoisonedPosted(request) => {
+                self.device.drop_poisoned(&request);
+                Ok(Handled::Unsupported)
+            }
+            Received::PoisonedNonPosted(request) => {
+                self.wait(Waiting::Poisoned(MemoryRequest::of(&request)))
             }
             Received::Configuration(request) => self.wait(Waiting::Configuration(request)),
             Received::Refused(descriptor, error) => {

@@ -47,9 +47,13 @@ pub enum Received<'a> {
     Posted(TlpRef<'a>),
     /// A memory read or an AtomicOp.
     NonPosted(TlpRef<'a>),
+    /// A poisoned memory write.
+    PoisonedPosted(TlpRef<'a>),
+    /// A poisoned AtomicOp.
+    PoisonedNonPosted(TlpRef<'a>),
     /// A configuration request.
     Configuration(CfgRequest),
-    /// A non-posted request that no function of the device supports, or that is poisoned, with the error to report.
+    /// Another non-posted request that no function of the device supports, or that is poisoned, with the error to report.
     Refused(Descriptor, Noted),
     /// Any other TLP that is not supported or poisoned, with the error to report.
     Unsupported(Noted),

@@ -53,7 +53,9 @@ pub enum Waiting {
     Memory(MemoryRequest),
     /// A configuration request.
     Configuration(CfgRequest),
-    /// A request that is not supported, with the error to report.
+    /// A poisoned AtomicOp, which doesn't act.
+    Poisoned(MemoryRequest),
+    /// Another request that is not supported or poisoned, with the error to report.
     Refused(Descriptor, Noted),
 }
 

@@ -49,6 +49,7 @@ NoFault (Some op) = (op_fault op ≡ None) × (is_posted op ≡ false)
 abbrev FaultlessIn : Waiting → Type 0
 FaultlessIn (waits.Memory t) = NoFault (op_of t)
 FaultlessIn (waits.Configuration r) = Unit {0}
+FaultlessIn (waits.Poisoned t) = Unit {0}
 FaultlessIn (waits.Refused d n) = Unit {0}
 
 abbrev AreFaultless : List Waiting → Type 0
@@ -197,6 +198,8 @@ pub took_told : Laws → Carries → (size : ℕ) (e : EndpointView) (l : LogVie
 took_told w carries size e l (received.Posted t) a i p = posted_told w carries size e l (op_of t) (posted_of t a) i p
 took_told w carries size e l (received.NonPosted t) a i p = queued_told size e l (waits.Memory t) (coming_faultless (op_of t) (asked_of t a)) i p
 took_told w carries size e l (received.Configuration r) a i p = queued_told size e l (waits.Configuration r) tt i p
+took_told w carries size e l (received.PoisonedPosted t) a i p = noted_told size e l (device.dropped_error e.device (op_of t)) p
+took_told w carries size e l (received.PoisonedNonPosted t) a i p = queued_told size e l (waits.Poisoned t) tt i p
 took_told w carries size e l (received.Refused d n) a i p = queued_told size e l (waits.Refused d n) tt i p
 took_told w carries size e l (received.Unsupported n) a i p = noted_told size e l n p
 took_told w carries size e l received.Ignored a i p = p
@@ -260,6 +263,9 @@ acts_on_told : Laws → (size : ℕ) (d : DeviceView) (xs : List Waiting) (l : L
 acts_on_told w size d [] l s p = p
 acts_on_told w size d (waits.Memory t ∷ ws) l s p = memory_told w size d t ws l (op_of t) refl s p
 acts_on_told w size d (waits.Configuration r ∷ ws) l s p = drops_told size d (device.configured d r) (waits.Configuration r) ws l (configured_size d r) p
+acts_on_told w size d (waits.Poisoned t ∷ ws) l s p =
+    let n = device.poisoned_error d (op_of t) in
+    drops_told size d (device.noting d n) (waits.Poisoned t) ws l (ap (λ (x : SetupView). x.size) (change_setup d.registers (Error n))) p
 acts_on_told w size d (waits.Refused c n ∷ ws) l s p = drops_told size d (device.noting d n) (waits.Refused c n) ws l (ap (λ (x : SetupView). x.size) (change_setup d.registers (Error n))) p
 
 pub acts_told : Laws → (size : ℕ) (e : EndpointView) (l : LogView) → IsTraced e l → IsTold size e l → IsTold size (device.acted e) (log.acted e l)

@@ -175,6 +175,8 @@ pub took : Laws → Stays → (e : EndpointView) (l : LogView) (r : Received) �
 took w stays e l (received.Posted t) a i = post_traced w stays e l (op_of t) (posted_of t a) i
 took w stays e l (received.NonPosted t) a i = queue_traced e l (waits.Memory t) (coming_blocks w (op_of t) (asked_of t a)) i
 took w stays e l (received.Configuration r) a i = queue_traced e l (waits.Configuration r) tt i
+took w stays e l (received.PoisonedPosted t) a i = note_traced stays e l (device.dropped_error e.device (op_of t)) i
+took w stays e l (received.PoisonedNonPosted t) a i = queue_traced e l (waits.Poisoned t) tt i
 took w stays e l (received.Refused d n) a i = queue_traced e l (waits.Refused d n) tt i
 took w stays e l (received.Unsupported n) a i = note_traced stays e l n i
 took w stays e l received.Ignored a i = i
@@ -390,6 +392,9 @@ acts_on : Laws → Stays → (d : DeviceView) (xs : List Waiting) (l : LogView) 
 acts_on w stays d [] l moves i = i
 acts_on w stays d (waits.Memory t ∷ ws) l moves i = memory_acts w stays d t ws l (op_of t) refl moves i
 acts_on w stays d (waits.Configuration r ∷ ws) l moves i = other_acts d (device.configured d r) (waits.Configuration r) ws l (λ t e. cc) refl (configured_like stays d r i.registers) i
+acts_on w stays d (waits.Poisoned t ∷ ws) l moves i =
+    let n = device.poisoned_error d (op_of t) in
+    other_acts d (device.noting d n) (waits.Poisoned t) ws l (λ t e. cc) refl (noted_like stays d n i.registers) i
 acts_on w stays d (waits.Refused c n ∷ ws) l moves i = other_acts d (device.noting d n) (waits.Refused c n) ws l (λ t e. cc) refl (noted_like stays d n i.registers) i
 
 pub acts : Laws → Stays → (e : EndpointView) (l : LogView) → Moves e → IsTraced e l → IsTraced (device.acted e) (log.acted e l)

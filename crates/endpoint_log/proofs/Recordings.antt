@@ -40,6 +40,8 @@ unposted : (d : DeviceView) (r : Received) (l : LogView) → (IsPosted r → ⊥
 unposted d (received.Posted t) l n = absurd (n tt)
 unposted d (received.NonPosted t) l n = refl
 unposted d (received.Configuration r) l n = refl
+unposted d (received.PoisonedPosted t) l n = refl
+unposted d (received.PoisonedNonPosted t) l n = refl
 unposted d (received.Refused c k) l n = refl
 unposted d (received.Unsupported k) l n = refl
 unposted d received.Ignored l n = refl
@@ -60,6 +62,8 @@ waits_unposted : (d : DeviceView) (r : Received) → handled_as d r ≡ handles.
 waits_unposted d (received.Posted t) e p = not_claimed (is_claimed d (op_of t)) e
 waits_unposted d (received.NonPosted t) e p = p
 waits_unposted d (received.Configuration r) e p = p
+waits_unposted d (received.PoisonedPosted t) e p = p
+waits_unposted d (received.PoisonedNonPosted t) e p = p
 waits_unposted d (received.Refused c n) e p = p
 waits_unposted d (received.Unsupported n) e p = p
 waits_unposted d received.Ignored e p = p

@@ -142,6 +142,7 @@ few_by d (waits.Configuration r) =
     few_configuration (device.is_supported r) r.writes (device.completion_without c d.completer statuses.Unsupported 4)
     (device.completion_without c (device.captured r) statuses.Success 4) (device.completion_with c d.completer (value d.registers r.register))
     no_units no_units (one_word c d.completer (value d.registers r.register))
+few_by d (waits.Poisoned t) = no_units
 few_by d (waits.Refused c n) = no_units
 
 few_next : (d : DeviceView) (ws : List Waiting) → AreFew (device.next_by d ws)

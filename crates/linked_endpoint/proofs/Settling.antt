@@ -103,6 +103,7 @@ less d (waits.Memory t) ws =
     let n = device.done_by d (waits.Memory t) in
     memory-less (n == 0) n t ws refl (done-at d t.kind t.body t.length t.payload)
 less d (waits.Configuration r) ws = whole (waits.Configuration r) ws one-turn
+less d (waits.Poisoned t) ws = whole (waits.Poisoned t) ws one-turn
 less d (waits.Refused c n) ws = whole (waits.Refused c n) ws one-turn
 
 oldest-less : (e : EndpointView) (p : PortView) (ws : List Waiting) → may_go p (device.need_by e.device ws) ≡ true → all (device.acted_on e ws).waiting < all ws

@@ -19,6 +19,7 @@ head-length : (n : ℕ) (ws : List Waiting) → length (head_behind n ws) ≡ le
 head-length n [] = refl
 head-length n (waits.Memory t ∷ ws) = refl
 head-length n (waits.Configuration r ∷ ws) = refl
+head-length n (waits.Poisoned t ∷ ws) = refl
 head-length n (waits.Refused d e ∷ ws) = refl
 
 abbrev Shrinks : ℕ → ℕ → Type 0
@@ -60,6 +61,8 @@ came : (e : EndpointView) (r : Received) → Grows (is_waiting (handled_as e.dev
 came e (received.Posted t) = done-or-not (is_claimed e.device (op_of t)) (length e.waiting)
 came e (received.NonPosted t) = length-append e.waiting (waits.Memory t ∷ [])
 came e (received.Configuration r) = length-append e.waiting (waits.Configuration r ∷ [])
+came e (received.PoisonedPosted t) = refl
+came e (received.PoisonedNonPosted t) = length-append e.waiting (waits.Poisoned t ∷ [])
 came e (received.Refused d n) = length-append e.waiting (waits.Refused d n ∷ [])
 came e (received.Unsupported n) = refl
 came e received.Ignored = refl

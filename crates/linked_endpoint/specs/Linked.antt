@@ -133,6 +133,7 @@ after_act l = if may_act l then acted l else l
 abbrev pub turns_of : Waiting → ℕ
 turns_of (waits.Memory t) = suc t.length
 turns_of (waits.Configuration r) = 1
+turns_of (waits.Poisoned t) = 1
 turns_of (waits.Refused d n) = 1
 
 abbrev pub turns_left : LinkedView → ℕ
