@@ -6,6 +6,7 @@ pub mod Enables
 pub mod Heads
 pub mod Ordering
 pub mod Parts
+pub mod Plain
 pub mod Queue
 pub mod Replies
 pub mod Reports

@@ -52,16 +52,15 @@ abbrev pub plain_enables : List ℕ → ℕ
 plain_enables b =
     if is_read (slice_index b 0) && has_bit b 1 0 then (if dw_count b == 1 then 0x0F else 0xFF) else slice_index b 7
 
--- none of these bits is there, nor TD or EP
-abbrev pub is_plain : List ℕ → Bool
-is_plain b = (slice_index b 2 / 64 == 0) && ((plain_hints b == slice_index b 1) && (plain_code (slice_index b 0) == slice_index b 0))
+-- where TD is 1 the last DW is the digest (section 2.2.3)
+abbrev pub without_digest : List ℕ → List ℕ
+without_digest b = take (if slice_index b 2 / 128 == 1 then length b - 4 else length b) b
 
--- the bytes without these bits, TD and EP; where TD is 1, without the last DW, which is the digest
+-- the bytes without these bits, TD, EP and the digest
 abbrev pub plain : List ℕ → List ℕ
 plain b =
-    if is_plain b then b
-    else slice_set (slice_set (slice_set (slice_set (take (if slice_index b 2 / 128 == 1 then length b - 4 else length b) b)
-    0 (plain_code (slice_index b 0))) 1 (plain_hints b)) 2 (slice_index b 2 % 64)) 7 (plain_enables b)
+    slice_set (slice_set (slice_set (slice_set (without_digest b) 0 (plain_code (slice_index b 0))) 1 (plain_hints b))
+    2 (slice_index b 2 % 64)) 7 (plain_enables b)
 
 -- ---- memory requests and completions
 

@@ -54,6 +54,7 @@ fn plain_enables(bytes: &[u8]) -> u8
 }
 
 /// The bytes without what a receiver ignores, and without a digest.
+#[tactic(auto, using(crate::proofs::Plain::as_it_is))]
 fn plain<'r>(bytes: &'r [u8], room: &'r mut PacketRoom) -> &'r [u8]
     requires some { 12 ≤ length bytes.now }
     requires few { length bytes.now ≤ 148 }

@@ -247,10 +247,6 @@ set_small zero (suc i) v (x ∷ xs) s h = h (suc i)
 set_small (suc k) zero v (x ∷ xs) s h = h 0
 set_small (suc k) (suc i) v (x ∷ xs) s h = set_small k i v xs s (λ j. h (suc j))
 
-bytes_by : (b : Bool) (xs ys : List ℕ) → IsBytes xs → IsBytes ys → IsBytes (cond b xs ys)
-bytes_by true xs ys p q = p
-bytes_by false xs ys p q = q
-
 set_bytes : (k v : ℕ) (xs : List ℕ) → v < 256 → IsBytes xs → IsBytes (slice_set xs k v)
 set_bytes k v xs s h i = set_small k i v xs s h
 
@@ -271,11 +267,10 @@ enables_small b h =
 plain_bytes : (b : List ℕ) → IsBytes b → IsBytes (classes.plain b)
 plain_bytes b h =
     let n = (if slice_index b 2 / 128 == 1 then length b - 4 else length b) in
-    bytes_by (classes.is_plain b) b _ h
-    (set_bytes 7 (classes.plain_enables b) _ (enables_small b h)
+    set_bytes 7 (classes.plain_enables b) _ (enables_small b h)
     (set_bytes 2 (slice_index b 2 % 64) _ (omega arith)
     (set_bytes 1 (classes.plain_hints b) _ (hints_small b)
-    (set_bytes 0 (classes.plain_code (slice_index b 0)) (take n b) (code_small (slice_index b 0) (h 0)) (λ j. taken_small n j b h)))))
+    (set_bytes 0 (classes.plain_code (slice_index b 0)) (take n b) (code_small (slice_index b 0) (h 0)) (λ j. taken_small n j b h))))
 
 pub becomes_asked : Spelled → (b : List ℕ) → IsBytes b → Asks (classes.becomes b)
 becomes_asked spelled b bytes =
