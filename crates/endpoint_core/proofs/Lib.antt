@@ -7,6 +7,7 @@ pub mod Heads
 pub mod Ordering
 pub mod Parts
 pub mod Plain
+pub mod Poisoned
 pub mod Queue
 pub mod Replies
 pub mod Reports

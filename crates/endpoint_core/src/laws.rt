@@ -1,5 +1,5 @@
 //! Laws of any list of calls.
-ghost use Rattle.std.specs.Prelude.{ℕ, ◌≡◌, ◌+◌, ◌-◌, ◌%◌, ◌++◌, ◌∷◌, [], List, Some, None, IsSome};
+ghost use Rattle.std.specs.Prelude.{ℕ, ◌≡◌, ◌+◌, ◌-◌, ◌%◌, ◌++◌, ◌∷◌, [], List, Some, None, IsSome, true};
 ghost use Rattle.seq_memory.specs.declared.limits.TheConstants as limits;
 ghost use Rattle.tlp_core.specs.Ops.{Op};
 ghost use Rattle.tlp_core.specs.Operation.{address_of, count_of, op_fault, op_of};
@@ -10,10 +10,11 @@ ghost use Rattle.completer_core.specs.Span.{lead};
 ghost use Rattle.completer_core.specs.Completion.{byte_count, lower_address};
 ghost use Rattle.config_core.specs.SetupView.{SetupView};
 ghost use Rattle.endpoint_core.specs.declared.received.Received.TheVariants as received;
-ghost use Rattle.endpoint_core.specs.Classes.{becomes, descriptor_of};
+ghost use Rattle.config_core.specs.declared.request.CfgRequest.{CfgRequest};
+ghost use Rattle.endpoint_core.specs.Classes.{becomes, descriptor_of, is_poisoned};
 ghost use Rattle.endpoint_core.specs.EndpointView.{EndpointView};
 ghost use Rattle.endpoint_core.specs.declared.waiting.Waiting.{Waiting};
-ghost use Rattle.endpoint_core.specs.Steps.{new_endpoint, next_completion, first_block, dw_in_front, behind};
+ghost use Rattle.endpoint_core.specs.Steps.{new_endpoint, taken, next_completion, first_block, dw_in_front, behind};
 ghost use Rattle.endpoint_core.specs.Runs.{Call, Take, after_calls, blocks_in, all_coming, all_leaving, effects_posted, all_effects, bytes_by, blocks_waiting, descriptor_in, descriptors_waiting, all_asked, all_finished, all_register_effects, registers_by};
 
 /// Whatever comes, and whenever requests act and resets happen: the block requests of all non-posted memory requests that
@@ -50,6 +51,14 @@ pub fn posted_requests_act_when_they_come()
     ensures writes { (b : List ℕ) (t : TlpView) → becomes b ≡ received.Posted t → t.kind ≡ kinds.MemoryWrite }
     ensures waits { (e : EndpointView) (cs : List Call) (b : List ℕ) (t : TlpView) → becomes b ≡ received.NonPosted t →
         blocks_waiting (after_calls e (cs ++ Take b ∷ [])) ≡ blocks_waiting (after_calls e cs) ++ blocks_in (op_of t) }
+{}
+
+/// Poisoned data is not used (section 2.7.2.2): when it comes no byte of the memory changes, no block request of it waits, and
+/// it writes no register.
+pub fn poisoned_data_is_not_used()
+    ensures bytes { (e : EndpointView) (b : List ℕ) → is_poisoned b ≡ true → (taken e b).device.bytes ≡ e.device.bytes }
+    ensures waits { (e : EndpointView) (b : List ℕ) → is_poisoned b ≡ true → blocks_waiting (taken e b) ≡ blocks_waiting e }
+    ensures registers { (b : List ℕ) (r : CfgRequest) → is_poisoned b ≡ true → becomes b ≡ received.Configuration r → ⊥ }
 {}
 
 /// Non-posted requests are completed in the order in which they came, one after the other: those that came, in order, are
