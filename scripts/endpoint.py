@@ -306,6 +306,8 @@ class RootComplex:
         self.fetch_all()
 
     def poisoned(self):
+        """A poisoned request, whose bits of Device Status are read alone."""
+        self.write_register(DEVICE, 0xF0000)
         tlp = random.choice((
             self.request(self.base), self.request(self.base + SIZE), Tlp(0x44, random.choice((0x100, 0x101)) << 16 | BAR, bytes(4), tag=self.next_tag()),
             Tlp(0x42, 0x1000, random.randbytes(4), tag=self.next_tag()),
@@ -313,6 +315,7 @@ class RootComplex:
         tlp.flags = POISONED
         self.send(tlp)
         self.fetch_all()
+        self.read_register(DEVICE)
 
     def with_hints(self):
         """Bits that a receiver ignores; a read with TH has a Steering Tag in place of its enables."""
