@@ -802,15 +802,14 @@ static inline void pciex_endpoint_free(pciex_endpoint *endpoint)
 /* What became of a DLLP. */
 /* It took effect. */
 #define PCIEX_DLLP_TOOK 0u
-/* It is discarded: its check failed, or it says nothing in this state of the link. */
+/* It is discarded: its check failed, its type isn't read, or it says nothing in this state of the link. */
 #define PCIEX_DLLP_GONE 1u
 /* It hasn't four bytes. */
 #define PCIEX_DLLP_SHORT 1001u
-/* Its type is none of a link with one virtual channel. The standard ignores it. */
-#define PCIEX_DLLP_KIND 1002u
 /* Its credits are scaled. */
 #define PCIEX_DLLP_SCALED 1003u
-/* The number of an Ack or Nak is neither ACKD_SEQ nor that of an unacknowledged packet: a Data Link Protocol Error. */
+/* The number of an Ack or Nak is neither ACKD_SEQ nor that of an unacknowledged packet that was given out: a Data Link Protocol
+ * Error. */
 #define PCIEX_DLLP_NOT_OUTSTANDING 1004u
 /* More than 127 headers or 2047 data units of a class would be unused: a Flow Control Protocol Error. */
 #define PCIEX_DLLP_CREDIT_LIMIT 1005u

@@ -57,7 +57,7 @@ static void packet(const char *digits, bool good)
 
 static void dllp(const char *digits, bool good)
 {
-    static const char *const refused[] = {"Short", "Kind", "Scaled", "NotOutstanding", "CreditLimit"};
+    static const char *const refused[] = {"Short", "", "Scaled", "NotOutstanding", "CreditLimit"};
     uint8_t bytes[16];
     const size_t length = bytes_of(digits, bytes);
     const uint32_t code = pciex_linked_dllp(&device, bytes, length, good);

@@ -125,7 +125,7 @@ static const row initialization[] = {
     {DLLP, "00000000", PCIEX_DLLP_GONE, ""},
     {DLLP, "80004008", PCIEX_DLLP_GONE, ""},
     /* a Data Link Feature DLLP */
-    {DLLP, "02000001", PCIEX_DLLP_KIND, ""},
+    {DLLP, "02000001", PCIEX_DLLP_GONE, ""},
     {DLLP, "400040", PCIEX_DLLP_SHORT, ""},
     {DLLP, "4000400800", PCIEX_DLLP_SHORT, ""},
     {DLLP, "40404008", PCIEX_DLLP_SCALED, ""},
@@ -182,9 +182,9 @@ static const row dllps[] = {
     {DLLP, "A0000801", PCIEX_DLLP_CREDIT_LIMIT, ""},
     /* an InitFC late, power management, a vendor's */
     {DLLP, "40004008", PCIEX_DLLP_GONE, ""},
-    {DLLP, "20000000", PCIEX_DLLP_KIND, ""},
-    {DLLP, "30000000", PCIEX_DLLP_KIND, ""},
-    {DLLP, "FF000000", PCIEX_DLLP_KIND, ""},
+    {DLLP, "20000000", PCIEX_DLLP_GONE, ""},
+    {DLLP, "30000000", PCIEX_DLLP_GONE, ""},
+    {DLLP, "FF000000", PCIEX_DLLP_GONE, ""},
     /* a Nak is an Ack and a replay; the fourth without progress stops the sender */
     {DLLP, "10000000", PCIEX_DLLP_TOOK, "0001 0A000000 00002004 00080200"},
     {DLLP, "10000000", PCIEX_DLLP_TOOK, "0001 0A000000 00002004 00080200"},

@@ -533,7 +533,7 @@ int pciex_dpi_linked_packet(void *handle, const svBitVecVal *packet, int packet_
 
 int pciex_dpi_linked_dllp(void *handle, uint32_t dllp, int good)
 {
-    static const char *const refused[] = {"Short", "Kind", "Scaled", "NotOutstanding", "CreditLimit"};
+    static const char *const refused[] = {"Short", "", "Scaled", "NotOutstanding", "CreditLimit"};
     const uint8_t bytes[4] = {(uint8_t)(dllp >> 24), (uint8_t)(dllp >> 16), (uint8_t)(dllp >> 8), (uint8_t)dllp};
     const uint32_t code = pciex_linked_dllp((pciex_linked *)handle, bytes, sizeof bytes, good != 0);
     if (code >= PCIEX_DLLP_SHORT && code <= PCIEX_DLLP_CREDIT_LIMIT) {

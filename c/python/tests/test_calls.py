@@ -439,10 +439,11 @@ class ALinkedEndpoint(unittest.TestCase):
             linked.up()
             self.assertEqual(linked.status(), "init1")
             self.assertEqual(list(linked.outgoing()), self.dllps("40004008 50004002 60000000"))
-            refused = [("400040", "Short"), ("02000001", "Kind"), ("40404008", "Scaled"), ("40200008", "CreditLimit")]
+            refused = [("400040", "Short"), ("40404008", "Scaled"), ("40200008", "CreditLimit")]
             for dllp, name in refused:
                 with self.assertRaisesRegex(pciex.Refused, name):
                     linked.dllp(bytes.fromhex(dllp))
+            self.assertEqual(linked.dllp(bytes.fromhex("02000001")), "gone")
             self.assertEqual(linked.dllp(bytes.fromhex("40004008"), good=False), "gone")
             for dllp in ("40004008", "50004002", "60004008"):
                 self.assertEqual(linked.dllp(memoryview(bytes.fromhex(dllp))), "took")

@@ -47,7 +47,7 @@ pub enum Arrived {
 pub enum DllpArrived {
     /// It took effect.
     Took,
-    /// It is discarded: its check failed, or it says nothing in this state of the link.
+    /// It is discarded: its check failed, its type isn't read, or it says nothing in this state of the link.
     Gone,
 }
 
@@ -56,11 +56,10 @@ pub enum DllpArrived {
 pub enum DllpRefusal {
     /// It hasn't four bytes.
     Short,
-    /// Its type is none of a link with one virtual channel. The standard ignores it.
-    Kind,
     /// Its credits are scaled.
     Scaled,
-    /// The number of an Ack or Nak is neither ACKD_SEQ nor that of an unacknowledged packet: a Data Link Protocol Error.
+    /// The number of an Ack or Nak is neither ACKD_SEQ nor that of an unacknowledged packet that was given out: a Data Link Protocol
+    /// Error.
     NotOutstanding,
     /// More than 127 headers or 2047 data units of a class would be unused: a Flow Control Protocol Error.
     CreditLimit,
@@ -152,7 +151,6 @@ impl LinkedEndpoint {
             0 => Ok(DllpArrived::Took),
             1 => Ok(DllpArrived::Gone),
             1001 => Err(DllpRefusal::Short),
-            1002 => Err(DllpRefusal::Kind),
             1003 => Err(DllpRefusal::Scaled),
             1004 => Err(DllpRefusal::NotOutstanding),
             _ => Err(DllpRefusal::CreditLimit),

@@ -402,7 +402,7 @@ fn an_endpoint_behind_its_link() {
     assert_eq!(sent(&mut linked), ["d40004008", "d50004002", "d60000000"]);
     let dllps = [
         ("400040", Err(DllpRefusal::Short)),
-        ("02000001", Err(DllpRefusal::Kind)),
+        ("02000001", Ok(DllpArrived::Gone)),
         ("40404008", Err(DllpRefusal::Scaled)),
         ("40200008", Err(DllpRefusal::CreditLimit)),
         ("40004008", Ok(DllpArrived::Took)),

@@ -20,7 +20,7 @@ use Rattle.port_core.specs.declared.dllp.LinkDllp.TheVariants.{Init, Other}
 use Rattle.port_core.specs.Init.{fi1, is_allowed, is_up, activated, advertised_with}
 use Rattle.port_core.specs.Dllps.{init_kind_of, credits_in, with_kind, other_read, read_by, link_reading}
 use Rattle.port_core.specs.Outgoing.{may_learn}
-use Rattle.port_core.specs.Port.{PortView, recorded_as, after_init_in, after_up, after_other, after_read, is_inactive, after_dllp_received}
+use Rattle.port_core.specs.Port.{PortView, is_given, recorded_as, after_init_in, after_up, after_other, after_read, is_inactive, after_dllp_received}
 use Rattle.port_core.specs.Runs.{AreBytes}
 use Rattle.port_core.proofs.Longer.{Sends, sends-on}
 
@@ -87,9 +87,13 @@ HasNumber (Update class header units) = Unit {0}
 
 keeps-up : (p : PortView) (d : Dllp) → HasNumber d → Keeps p (after_up p d)
 keeps-up p (Ack n) lt =
-    record { ours = refl; incoming = refl; up = λ e. e; active = λ e. e; sends = λ entered k. sends-on p.sender.sending entered (sent.Ack n) lt k refl }
+    keeps-if (is_given p n) p _ p
+    (record { ours = refl; incoming = refl; up = λ e. e; active = λ e. e; sends = λ entered k. sends-on p.sender.sending entered (sent.Ack n) lt k refl })
+    (keeps-self p)
 keeps-up p (Nak n) lt =
-    record { ours = refl; incoming = refl; up = λ e. e; active = λ e. e; sends = λ entered k. sends-on p.sender.sending entered (sent.Nak n) lt k refl }
+    keeps-if (is_given p n) p _ p
+    (record { ours = refl; incoming = refl; up = λ e. e; active = λ e. e; sends = λ entered k. sends-on p.sender.sending entered (sent.Nak n) lt k refl })
+    (keeps-self p)
 keeps-up p (Update class header units) lt =
     keeps-if (may_learn p.sender.gate class header units) p _ p
     (record { ours = refl; incoming = refl; up = up-activated p.state; active = active-activated p.state; sends = λ entered k. k })

@@ -9,6 +9,7 @@ use Rattle.dllp_core.specs.declared.packet.Class.TheVariants.{Posted, NonPosted,
 use Rattle.dllp_core.specs.declared.packet.Dllp.{Dllp}
 use Rattle.dllp_core.specs.declared.packet.Dllp.TheVariants.{Ack, Nak, Update}
 use Rattle.dllp_core.specs.declared.fault.DllpFault.{DllpFault}
+use Rattle.dllp_core.specs.declared.fault.DllpFault.TheVariants as faults
 use Rattle.dllp_core.specs.Layout.{Spells}
 use Rattle.tlp_core.specs.TlpView.{TlpView}
 use Rattle.flow_control.specs.declared.needs.Need.{Need}
@@ -17,7 +18,7 @@ use Rattle.flow_control.specs.Limits.{least_units}
 use Rattle.flow_control.specs.Needs.{need_of}
 use Rattle.flow_control.specs.Credits.{CreditGateView, same, gate_of, gate_covers, after_consume, after_limit, first_gate}
 use Rattle.lane_core.specs.declared.packet.Fate.TheVariants.{Good}
-use Rattle.lane_core.specs.Steps.{after_dllp, is_expected}
+use Rattle.lane_core.specs.Steps.{after_dllp}
 use Rattle.port_core.specs.declared.init.LinkState.{LinkState}
 use Rattle.port_core.specs.declared.init.LinkState.TheVariants.{Inactive, Init1, Init2, Active}
 use Rattle.port_core.specs.declared.init.Advertised.{Advertised}
@@ -35,9 +36,9 @@ use Rattle.port_core.specs.declared.port.Choice.TheVariants as choices
 use Rattle.port_core.specs.Init.{nothing_advertised, first_kept, or_infinite, advertised_with, fi1, is_allowed, credits_of, first_of, is_up, activated}
 use Rattle.port_core.specs.Dllps.{link_reading}
 use Rattle.port_core.specs.Incoming.{is_good}
-use Rattle.port_core.specs.Outgoing.{leaves_at_most, may_learn, begun}
+use Rattle.port_core.specs.Outgoing.{leaves_at_most, ack_or_nak, may_learn, begun}
 use Rattle.port_core.specs.Dues.{due_all_init}
-use Rattle.port_core.specs.Port.{PortView, new_port, recorded, state_after, refusal_in, refusal_of, init_answer, after_init_in, up_answer, after_up, read_answer, after_read, is_inactive, choice_of, after_choice, refreshed_in}
+use Rattle.port_core.specs.Port.{PortView, new_port, recorded, state_after, refusal_in, refusal_of, init_answer, after_init_in, count_to, is_given, up_answer, after_up, read_answer, after_read, is_inactive, choice_of, after_choice, refreshed_in}
 use Rattle.port_core.specs.Runs.{Call, Up, Down, Receive, ReceiveDllp, Free, Enter, Next, Refresh, Replay, Retrained, AreBytes, IsCall, AreCalls, IsOfFewUnits, AreOfFewUnits, Story, story_of, heard_if, without_held, with_entered, with_port, after_call, after_calls, advertised_by, advertised_in, limited_by, IsCovered, IsAllowance, CoversHeaders, CoversUnits, header_of, units_of, headers_in, units_in}
 use Rattle.port_core.proofs.Dllps.{is_active, IsSpelled, is-read}
 use Rattle.port_core.proofs.Counts.{IsSmall, longer}
@@ -380,10 +381,10 @@ HasCredits (Ack n) = Unit {0}
 HasCredits (Nak n) = Unit {0}
 HasCredits (Update class header units) = (header < 256) × (units < 4096)
 
-answered-known : (b : Bool) (p : PortView) (heard : List LinkDllp) (used : List Need) (d : LinkDllp) → advertised_by p.peer d ≡ p.peer → ((c : Class) (last : FirstCredits) → limited_by c last d ≡ last)
-    → KnownPort p heard used → KnownPort p (heard ++ heard_if (if b then Ok Took else Err wrong.NotOutstanding) (Ok d)) used
-answered-known true p heard used d e f k = more-known p.state p.peer p.sender.gate heard used d e f k
-answered-known false p heard used d e f k = nothing-more p heard used k
+answered-known : (b : Bool) (p q : PortView) (heard : List LinkDllp) (used : List Need) (d : LinkDllp) → advertised_by q.peer d ≡ q.peer → ((c : Class) (last : FirstCredits) → limited_by c last d ≡ last)
+    → KnownPort p heard used → KnownPort q heard used → KnownPort (if b then q else p) (heard ++ heard_if (if b then Ok Took else Err wrong.NotOutstanding) (Ok d)) used
+answered-known true p q heard used d e f k l = more-known q.state q.peer q.sender.gate heard used d e f l
+answered-known false p q heard used d e f k l = nothing-more p heard used k
 
 learned-known : (b : Bool) (p : PortView) (heard : List LinkDllp) (used : List Need) (class : Class) (header units : ℕ) → may_learn p.sender.gate class header units ≡ b → is_up p.state ≡ true
     → header < 256 → units < 4096 → KnownPort p heard used
@@ -402,10 +403,14 @@ learned-known true p heard used class header units t up h u k =
     })
 learned-known false p heard used class header units t up h u k = nothing-more p heard used k
 
+-- the port behind an Ack or Nak that counts
+abbrev given-ack : PortView → ℕ → Bool → PortView
+given-ack p n is_nak = record p { sender = after_dllp p.sender (ack_or_nak n is_nak) Good; given = p.given - count_to p n }
+
 up-known : (p : PortView) (heard : List LinkDllp) (used : List Need) (d : Dllp) → HasCredits d → is_up p.state ≡ true → KnownPort p heard used
     → KnownPort (after_up p d) (heard ++ heard_if (up_answer p d) (Ok (Other d))) used
-up-known p heard used (Ack n) h up k = answered-known (is_expected p.sender.sending (Ack n)) p heard used (Other (Ack n)) refl (λ c last. refl) k
-up-known p heard used (Nak n) h up k = answered-known (is_expected p.sender.sending (Nak n)) p heard used (Other (Nak n)) refl (λ c last. refl) k
+up-known p heard used (Ack n) h up k = answered-known (is_given p n) p (given-ack p n false) heard used (Other (Ack n)) refl (λ c last. refl) k k
+up-known p heard used (Nak n) h up k = answered-known (is_given p n) p (given-ack p n true) heard used (Other (Nak n)) refl (λ c last. refl) k k
 up-known p heard used (Update class header units) h up k =
     learned-known (may_learn p.sender.gate class header units) p heard used class header units refl up h.0 h.1 k
 
@@ -418,7 +423,9 @@ read-known : (p : PortView) (r : Result LinkDllp DllpFault) (heard : List LinkDl
     → KnownPort (after_read p r) (heard ++ heard_if (read_answer p r) r) used
 read-known p (Ok (Init stage class first)) heard used h k = init-known p.state p heard used stage class first refl k
 read-known p (Ok (Other d)) heard used h k = other-known (is_up p.state) p heard used d (h d refl) refl k
-read-known p (Err fault) heard used h k = nothing-more p heard used k
+read-known p (Err faults.Short) heard used h k = nothing-more p heard used k
+read-known p (Err faults.Kind) heard used h k = nothing-more p heard used k
+read-known p (Err faults.Scaled) heard used h k = nothing-more p heard used k
 
 good-known : (b : Bool) (p : PortView) (r : Result LinkDllp DllpFault) (heard : List LinkDllp) (used : List Need) → ((d : Dllp) → r ≡ Ok (Other d) → HasCredits d) → KnownPort p heard used
     → KnownPort (if b then p else after_read p r) (heard ++ heard_if (if b then Ok Gone else read_answer p r) r) used

@@ -5,3 +5,4 @@ pub mod Counts
 pub mod Held
 pub mod Sent
 pub mod Known
+pub mod Given

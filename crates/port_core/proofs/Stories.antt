@@ -89,6 +89,7 @@ packet_by b s packet good =
             state = state_after s.port.state (is_good packet good);
             peer = s.port.peer;
             sender = s.port.sender;
+            given = s.port.given;
             incoming = after_packet s.port.incoming packet good;
             due = due_received s.port.ours s.port.due (received_on s.port.incoming packet good);
           }

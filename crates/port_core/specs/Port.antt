@@ -1,18 +1,20 @@
 -- One end of a link, and its calls.
-use Rattle.std.specs.Prelude.{ℕ, ◌||◌, Bool, true, false, not, is_some, if◌then◌else◌, List, [], Option, Some, None, Result, Ok, Err}
+use Rattle.std.specs.Prelude.{ℕ, ◌-◌, ◌||◌, Bool, true, false, not, nat_le, is_some, if◌then◌else◌, List, [], Option, Some, None, Result, Ok, Err}
 use Rattle.dllp_core.specs.declared.packet.Class.{Class}
 use Rattle.dllp_core.specs.declared.packet.Class.TheVariants.{Posted, NonPosted, Completion}
 use Rattle.dllp_core.specs.declared.packet.Dllp.{Dllp}
 use Rattle.dllp_core.specs.declared.packet.Dllp.TheVariants.{Ack, Nak, Update}
 use Rattle.dllp_core.specs.declared.fault.DllpFault.{DllpFault}
+use Rattle.dllp_core.specs.declared.fault.DllpFault.TheVariants as faults
 use Rattle.tlp_core.specs.TlpView.{TlpView}
+use Rattle.seq12.specs.Numbers.{distance_of}
 use Rattle.flow_control.specs.declared.needs.Need.{Need}
 use Rattle.flow_control.specs.declared.limits.LaneCredits.{LaneCredits}
 use Rattle.flow_control.specs.Credits.{after_freed, update_of}
 use Rattle.link_replay.specs.ReceiverView.{acknowledgment_of}
 use Rattle.link_replay.specs.SenderView.{next_item}
 use Rattle.lane_core.specs.declared.packet.Fate.TheVariants.{Good}
-use Rattle.lane_core.specs.Steps.{SenderEndView, entered, after_timer, after_retraining, after_transmission, after_dllp, is_expected}
+use Rattle.lane_core.specs.Steps.{SenderEndView, entered, after_timer, after_retraining, after_transmission, after_dllp}
 use Rattle.port_core.specs.declared.init.LinkState.{LinkState}
 use Rattle.port_core.specs.declared.init.LinkState.TheVariants.{Inactive, Init1, Init2, Active}
 use Rattle.port_core.specs.declared.init.Advertised.{Advertised}
@@ -49,13 +51,15 @@ pub record PortView : Type 0 where
   -- what the peer advertised
   pub peer : Advertised
   pub sender : SenderEndView
+  -- how many of the unacknowledged packets were given out at least once, the oldest ones
+  pub given : ℕ
   pub incoming : IncomingView
   pub due : Due
 
 -- a port in DL_Inactive
 abbrev pub new_port : LaneCredits → PortView
 new_port ours =
-    record { ours = ours; state = Inactive; peer = nothing_advertised; sender = outgoing.new_outgoing; incoming = incoming.new_incoming ours; due = nothing_due }
+    record { ours = ours; state = Inactive; peer = nothing_advertised; sender = outgoing.new_outgoing; given = 0; incoming = incoming.new_incoming ours; due = nothing_due }
 
 -- LinkUp: initialization begins, with new counters
 abbrev pub risen : LaneCredits → PortView
@@ -78,6 +82,7 @@ after_receive p packet good =
       state = state_after p.state (incoming.is_good packet good);
       peer = p.peer;
       sender = p.sender;
+      given = p.given;
       incoming = incoming.after_packet p.incoming packet good;
       due = due_received p.ours p.due (incoming.received_on p.incoming packet good);
     }
@@ -91,6 +96,7 @@ noted p judged =
       state = judged.state;
       peer = p.peer;
       sender = p.sender;
+      given = p.given;
       incoming = judged.incoming;
       due = due_received p.ours p.due judged.received;
     }
@@ -129,12 +135,21 @@ after_init_in Active p stage class first = p
 abbrev pub after_init : PortView → InitStage → Class → FirstCredits → PortView
 after_init p stage class first = after_init_in p.state p stage class first
 
+-- how many unacknowledged packets an Ack or Nak of this number acknowledges
+abbrev pub count_to : PortView → ℕ → ℕ
+count_to p number = distance_of number p.sender.sending.acked
+
+-- it is ACKD_SEQ, or the number of an unacknowledged packet that was given out
+abbrev pub is_given : PortView → ℕ → Bool
+is_given p number = nat_le (count_to p number) p.given
+
 -- an Ack or Nak
-abbrev pub ack_answer : PortView → ℕ → Bool → Result DllpReceived DllpRefusal
-ack_answer p number is_nak = if is_expected p.sender.sending (outgoing.ack_or_nak number is_nak) then Ok Took else Err wrong.NotOutstanding
+abbrev pub ack_answer : PortView → ℕ → Result DllpReceived DllpRefusal
+ack_answer p number = if is_given p number then Ok Took else Err wrong.NotOutstanding
 
 abbrev pub after_ack : PortView → ℕ → Bool → PortView
-after_ack p number is_nak = record p { sender = after_dllp p.sender (outgoing.ack_or_nak number is_nak) Good }
+after_ack p number is_nak =
+    if is_given p number then record p { sender = after_dllp p.sender (outgoing.ack_or_nak number is_nak) Good; given = p.given - count_to p number } else p
 
 -- an UpdateFC: it sets Flag FI2
 abbrev pub update_answer : PortView → Class → ℕ → ℕ → Result DllpReceived DllpRefusal
@@ -145,8 +160,8 @@ after_update p class header units =
     if outgoing.may_learn p.sender.gate class header units then record p { state = activated p.state; sender = after_dllp p.sender (Update class header units) Good } else p
 
 abbrev pub up_answer : PortView → Dllp → Result DllpReceived DllpRefusal
-up_answer p (Ack number) = ack_answer p number false
-up_answer p (Nak number) = ack_answer p number true
+up_answer p (Ack number) = ack_answer p number
+up_answer p (Nak number) = ack_answer p number
 up_answer p (Update class header units) = update_answer p class header units
 
 abbrev pub after_up : PortView → Dllp → PortView
@@ -161,10 +176,16 @@ other_answer p d = if is_up p.state then up_answer p d else Ok Gone
 abbrev pub after_other : PortView → Dllp → PortView
 after_other p d = if is_up p.state then after_up p d else p
 
+-- bytes that aren't read: a DLLP of another type is dropped silently (section 3.5.1)
+abbrev pub unread_answer : DllpFault → Result DllpReceived DllpRefusal
+unread_answer faults.Short = Err (wrong.Bytes faults.Short)
+unread_answer faults.Kind = Ok Gone
+unread_answer faults.Scaled = Err (wrong.Bytes faults.Scaled)
+
 abbrev pub read_answer : PortView → Result LinkDllp DllpFault → Result DllpReceived DllpRefusal
 read_answer p (Ok (Init stage class first)) = init_answer p.state stage first
 read_answer p (Ok (Other d)) = other_answer p d
-read_answer p (Err fault) = Err (wrong.Bytes fault)
+read_answer p (Err fault) = unread_answer fault
 
 abbrev pub after_read : PortView → Result LinkDllp DllpFault → PortView
 after_read p (Ok (Init stage class first)) = after_init p stage class first
@@ -261,8 +282,12 @@ after_init_sent p class = record p { due = record { ack = p.due.ack; init = with
 abbrev pub after_update_sent : PortView → Class → PortView
 after_update_sent p class = record p { due = record { ack = p.due.ack; init = p.due.init; update = with_flag p.due.update class false } }
 
+-- the packet was given out, perhaps for the first time
+abbrev pub greater : ℕ → ℕ → ℕ
+greater m n = if nat_le m n then n else m
+
 abbrev pub after_packet_sent : PortView → PortView
-after_packet_sent p = record p { sender = after_transmission p.sender }
+after_packet_sent p = record p { sender = after_transmission p.sender; given = greater p.given (after_transmission p.sender).sending.place }
 
 abbrev pub outgoing_by : PortView → Choice → Outgoing
 outgoing_by p choices.Nothing = sends.Nothing

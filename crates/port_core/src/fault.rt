@@ -29,9 +29,10 @@ impl Error for EnterRefusal {}
 /// What is wrong with a DLLP that arrived.
 #[derive(Clone, Copy, Debug, PartialEq)]
 pub enum DllpRefusal {
-    /// Its bytes are no DLLP that a port knows. The standard has no error for an unknown type.
+    /// They aren't four bytes, or its credits are scaled, which no peer may use unasked. One of a type that isn't read is no error.
     Bytes(DllpFault),
-    /// An Ack or Nak whose number is neither ACKD_SEQ nor that of an unacknowledged packet: a Data Link Protocol Error.
+    /// An Ack or Nak whose number is neither ACKD_SEQ nor that of an unacknowledged packet that was given out: a Data Link Protocol
+    /// Error.
     NotOutstanding,
     /// More than 127 headers or 2047 data units of a class would be unused: a Flow Control Protocol Error.
     CreditLimit,

@@ -12,7 +12,7 @@ use crate::incoming::{IncomingEnd, Received};
 use crate::init::{Advertised, FirstCredits, LinkState};
 use crate::outgoing::{OutgoingEnd, PACKET_BYTES};
 use arrayvec::ArrayVec;
-use dllp_core::{Class, Dllp};
+use dllp_core::{Class, Dllp, DllpFault};
 use flow_control::{LaneCredits, Need};
 use seq12::Seq12;
 use std::alloc::Global;
@@ -24,7 +24,7 @@ use tlp_core::TlpRef;
 pub enum DllpReceived {
     /// It took effect.
     Took,
-    /// It is discarded, and nothing changes: its check failed, or it says nothing in this state.
+    /// It is discarded, and nothing changes: its check failed, it is of a type that isn't read, or it says nothing in this state.
     Gone,
 }
 
@@ -59,6 +59,17 @@ pub(crate) enum Choice {
     Packet,
 }
 
+/// The answer to bytes that aren't read: a DLLP of another type is dropped silently.
+fn unread(fault: DllpFault) -> Result<DllpReceived, DllpRefusal>
+    ensures { result ≡ spec.unread_answer fault }
+{
+    match fault {
+        DllpFault::Short => Err(DllpRefusal::Bytes(DllpFault::Short)),
+        DllpFault::Kind => Ok(DllpReceived::Gone),
+        DllpFault::Scaled => Err(DllpRefusal::Bytes(DllpFault::Scaled)),
+    }
+}
+
 /// One end of a link.
 #[derive(Drop)]
 pub struct LinkPort {
@@ -66,19 +77,22 @@ pub struct LinkPort {
     state: LinkState,
     peer: Advertised,
     sender: OutgoingEnd,
+    /// How many of the unacknowledged packets were given out at least once, the oldest ones.
+    given: usize,
     incoming: IncomingEnd,
     due: Due,
 }
 
 impl Model for LinkPort {
+    ghost use Rattle.std.specs.Prelude.{◌≤◌, length};
     ghost use Rattle.flow_control.specs.Limits.{IsInLimits};
     ghost use Rattle.port_core.specs.Port.{PortView};
 
     ghost Value = { PortView };
 
-    ghost view = { λ p. record { ours = p.ours; state = p.state; peer = p.peer; sender = p.sender; incoming = p.incoming; due = p.due } };
+    ghost view = { λ p. record { ours = p.ours; state = p.state; peer = p.peer; sender = p.sender; given = p.given; incoming = p.incoming; due = p.due } };
 
-    ghost invariant = { λ p. IsInLimits p.ours };
+    ghost invariant = { λ p. IsInLimits p.ours × (p.given ≤ length p.sender.sending.kept) };
 }
 
 impl LinkPort {
@@ -96,6 +110,7 @@ impl LinkPort {
             state: LinkState::Inactive,
             peer: Advertised::nothing(),
             sender: OutgoingEnd::new(alloc),
+            given: 0,
             incoming: IncomingEnd::new(ours),
             due: Due::nothing(),
         }
@@ -235,13 +250,16 @@ impl LinkPort {
 
     /// An Ack or Nak arrives, in DL_Up.
     fn acknowledge(&mut self, number: Seq12, is_nak: bool) -> Result<DllpReceived, DllpRefusal>
-        ensures answer { result ≡ spec.ack_answer self.old number is_nak }
+        ensures answer { result ≡ spec.ack_answer self.old number }
         ensures state { self.new ≡ spec.after_ack self.old number is_nak }
     {
-        match self.sender.acknowledge(number, is_nak) {
-            Ok(()) => Ok(DllpReceived::Took),
-            Err(_) => Err(DllpRefusal::NotOutstanding),
+        let count = usize::from(number.distance(self.sender.sending().ackd_seq()));
+        if count > self.given {
+            return Err(DllpRefusal::NotOutstanding);
         }
+        let _expected = self.sender.acknowledge(number, is_nak);
+        self.given -= count;
+        Ok(DllpReceived::Took)
     }
 
     /// An UpdateFC arrives, in DL_Up.
@@ -267,7 +285,7 @@ impl LinkPort {
         }
         let dllp = match decode(bytes) {
             Ok(dllp) => dllp,
-            Err(fault) => return Err(DllpRefusal::Bytes(fault)),
+            Err(fault) => return unread(fault),
         };
         match dllp {
             LinkDllp::Init(stage, class, first) => self.initialize(stage, class, first),
@@ -411,7 +429,12 @@ impl LinkPort {
         ensures bytes { out.new.items ≡ spec.packet_bytes self.old }
         ensures state { self.new ≡ spec.after_packet_sent self.old }
     {
-        match self.sender.transmit(out) {
+        let sent = self.sender.transmit(out);
+        let place = self.sender.sending().sent();
+        if self.given <= place {
+            self.given = place;
+        }
+        match sent {
             Some(number) => Outgoing::Packet(number),
             None => Outgoing::Nothing,
         }

@@ -302,7 +302,7 @@ class Completions(Iterator[bytes]):
 
 
 _ARRIVED = (*_HANDLED, "Overflow", "duplicate", "nak", "quiet", "drop")
-_DLLPS = {1001: "Short", 1002: "Kind", 1003: "Scaled", 1004: "NotOutstanding", 1005: "CreditLimit"}
+_DLLPS = {1001: "Short", 1003: "Scaled", 1004: "NotOutstanding", 1005: "CreditLimit"}
 _STATES = ("inactive", "init1", "init2", "active", "stopped")
 
 
@@ -359,8 +359,8 @@ class LinkedEndpoint(_Handle):
         return _ARRIVED[code]
 
     def dllp(self, dllp: bytes, good: bool = True) -> str:
-        """A DLLP arrives, whatever its bytes are: `took`; `gone` if its check failed, or it says nothing now. Raises Refused:
-        `Short`, `Kind`, `Scaled`, `NotOutstanding`, `CreditLimit`."""
+        """A DLLP arrives, whatever its bytes are: `took`; `gone` if its check failed, its type isn't read, or it says nothing
+        now. Raises Refused: `Short`, `Scaled`, `NotOutstanding`, `CreditLimit`."""
         dllp = bytes_of(dllp)
         code = self._call(library.linked_dllp, dllp, len(dllp), _is_good(good))
         if code in _DLLPS:

@@ -76,6 +76,23 @@ fn no_credits(rt: HostRuntime) {
     assert!(rt; begin(&mut port) && credits_are_kept(&mut port));
 }
 
+/// An Ack counts once its packet was given out, and a replay takes nothing of that back.
+fn acks_count_what_was_given(port: &mut LinkPort) -> bool {
+    takes(port, [0xE0, 0x00, 0x00, 0x00])
+        && enters(port, &ADD, 0)
+        && port.receive_dllp(&[0, 0, 0, 0], true) == Err(DllpRefusal::NotOutstanding)
+        && sends(port, &ADD_0)
+        && port.replay() == 1
+        && takes(port, [0x00, 0x00, 0x00, 0x00])
+}
+
+#[test]
+fn acks(rt: HostRuntime) {
+    let mut port = LinkPort::new(FEW, rt.alloc());
+    port.up(rt.alloc());
+    assert!(rt; begin(&mut port) && acks_count_what_was_given(&mut port));
+}
+
 #[test]
 fn dllps_that_are_refused(rt: HostRuntime) {
     let mut port = LinkPort::new(FEW, rt.alloc());
@@ -85,15 +102,15 @@ fn dllps_that_are_refused(rt: HostRuntime) {
         Err(DllpRefusal::CreditLimit)
     );
     assert!(rt; begin(&mut port));
-    let rows: [(&[u8], Result<DllpReceived, DllpRefusal>); 7] = [
+    let rows: [(&[u8], Result<DllpReceived, DllpRefusal>); 10] = [
         (
             &[0x00, 0x00, 0x00],
             Err(DllpRefusal::Bytes(DllpFault::Short)),
         ),
-        (
-            &[0x02, 0x00, 0x00, 0x00],
-            Err(DllpRefusal::Bytes(DllpFault::Kind)),
-        ),
+        (&[0x02, 0x00, 0x00, 0x01], Ok(DllpReceived::Gone)),
+        (&[0x24, 0x00, 0x00, 0x00], Ok(DllpReceived::Gone)),
+        (&[0x30, 0xAB, 0xCD, 0xEF], Ok(DllpReceived::Gone)),
+        (&[0x41, 0x08, 0x00, 0x80], Ok(DllpReceived::Gone)),
         (
             &[0xC0, 0x40, 0x00, 0x00],
             Err(DllpRefusal::Bytes(DllpFault::Scaled)),
@@ -125,7 +142,7 @@ fn names(rt: HostRuntime) {
         assert!(rt; refusal.number() == number && refusal.name() == name);
     }
     let rows = [
-        (DllpRefusal::Bytes(DllpFault::Kind), 2, "Kind"),
+        (DllpRefusal::Bytes(DllpFault::Scaled), 3, "Scaled"),
         (DllpRefusal::NotOutstanding, 4, "NotOutstanding"),
         (DllpRefusal::CreditLimit, 5, "CreditLimit"),
     ];
