@@ -1,7 +1,8 @@
 """A peer for `pciex endpoint --link --crc`, over two pipes: linked.py PROGRAM [ADDITIONS [SEED]].
 
 It knows the data link layer by the standard alone, and has a replay buffer, credits, Acks, Naks and CRCs of its own. The
-wires between the two lose packets and DLLPs, flip bits and stop for a while. The peer adds 1 to one of 64 counters, by
+wires between the two lose packets and DLLPs, flip bits and stop for a while. Some packets come nullified first, with EDB and
+without it, and some DLLPs are of types that nobody reads. The peer adds 1 to one of 64 counters, by
 FetchAdd, and writes to other places meanwhile: each completion must have the count so far. At the end each addition has to
 have counted once, in the memory, which is read over the link, and in the trace, which has to be judged `ok` by
 `check --clocked`. Prints the first thing that is wrong and fails, or prints what was done.
@@ -130,6 +131,7 @@ class Device:
     def receives(self):
         for data, is_dllp in self.wires.arrived("device"):
             if not is_dllp:
+                self.nullified(data)
                 answer = self.ask("packet " + data.hex())
                 self.wires.wants(answer in ("accept", "duplicate", "nak", "quiet"), "a packet is answered by " + answer)
                 self.became[answer] += 1
@@ -140,6 +142,15 @@ class Device:
                 number = data[2] % 16 * 256 + data[3]
                 if number != self.acked:
                     self.acked, self.replays_at = number, self.wires.now + REPLAY_TIME
+
+    def nullified(self, data):
+        """Now and then a good packet comes with its LCRC inverted first. Without EDB that is a failed check."""
+        if random.randrange(10) or without_crc(data, False) is None:
+            return
+        edb = random.choice((" edb", ""))
+        answer = self.ask("packet " + data[:-4].hex() + bytes(255 - byte for byte in data[-4:]).hex() + edb)
+        self.wires.wants(answer in (("gone",) if edb else ("nak", "quiet")), "a nullified packet is answered by " + answer)
+        self.became["gone" if edb else answer] += 1
 
     def timers(self):
         if self.wires.now >= self.refreshes_at:
@@ -308,6 +319,8 @@ class Peer:
             first = self.FIRST[COMPLETION]
             self.flow_control(0x80, COMPLETION, first[0] + self.freed[0], first[1] + self.freed[1])
             self.update = False
+        if random.randrange(20) == 0:  # feature exchange, power management, vendor, NOP, another virtual channel
+            self.dllp(random.choice((0x02, 0x20, 0x24, 0x30, 0x31, 0x81)), *random.randbytes(3))
         if self.place < len(self.buffer):
             if self.place == 0:
                 self.replays_at = self.wires.now + REPLAY_TIME

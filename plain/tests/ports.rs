@@ -2,6 +2,7 @@
 use crate::alloc;
 use kit::arrayvec::ArrayVec;
 use lane_core::LaneCredits;
+use link_crc::Check;
 use port_core::{LinkPort, LinkState, Outgoing, PACKET_BYTES, Received};
 use tlp_core::decode;
 
@@ -21,8 +22,8 @@ fn write_of(number: u32) -> [u8; 16] {
 }
 
 /// A packet reaches a port. What it hands up is the next that was entered.
-fn arrive(port: &mut LinkPort, packet: &[u8], good: bool, count: &mut Count) {
-    if let Received::Accepted { need: Some(need), overflows } = port.receive(packet, good) {
+fn arrive(port: &mut LinkPort, packet: &[u8], check: Check, count: &mut Count) {
+    if let Received::Accepted { need: Some(need), overflows } = port.receive(packet, check) {
         assert!(!overflows && packet[2..] == write_of(count.accepted));
         count.accepted += 1;
         port.free(need);
@@ -36,10 +37,11 @@ fn cross(from: &mut LinkPort, to: &mut LinkPort, turn: u32, count: &mut Count) {
     if turn % 7 == 6 {
         return;
     }
+    let check = Check::of(turn % 11 != 10);
     match sent {
         Outgoing::Nothing => {}
-        Outgoing::Packet(_) => arrive(to, &bytes, turn % 11 != 10, count),
-        Outgoing::Dllp(_) => assert!(to.receive_dllp(&bytes, turn % 11 != 10).is_ok()),
+        Outgoing::Packet(_) => arrive(to, &bytes, check, count),
+        Outgoing::Dllp(_) => assert!(to.receive_dllp(&bytes, check).is_ok()),
     }
 }
 

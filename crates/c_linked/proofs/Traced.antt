@@ -33,7 +33,7 @@ acts_if b = cond b (devices.Act ∷ []) []
 abbrev calls_by : LinkedView → Call → List devices.Call
 calls_by l Up = devices.Reset ∷ []
 calls_by l Down = devices.Reset ∷ []
-calls_by l (Receive packet good) = takes_if (is_taken (received l.port packet good)) (tlp_in packet)
+calls_by l (Receive packet check) = takes_if (is_taken (received l.port packet check)) (tlp_in packet)
 calls_by l Act = acts_if (may_act l)
 calls_by l _ = []
 
@@ -70,8 +70,8 @@ may_enter (Some r) l = refl
 stands : (l : LinkedView) (call : Call) → devices.after_calls l.endpoint (calls_by l call) ≡ (after_call l call).endpoint
 stands l Up = refl
 stands l Down = refl
-stands l (Receive packet good) = arrives (received l.port packet good) l (after_receive l.port packet good) (tlp_in packet)
-stands l (ReceiveDllp bytes good) = refl
+stands l (Receive packet check) = arrives (received l.port packet check) l (after_receive l.port packet check) (tlp_in packet)
+stands l (ReceiveDllp bytes check) = refl
 stands l Act = acts (may_act l) l
 stands l Enter = may_enter (refusal_of l) l
 stands l Next = refl
@@ -95,8 +95,8 @@ records : (l : LinkedView) (call : Call) (r : LogView) → laws.log_after l.endp
 unfolding laws.log_after
 records l Up r = refl
 records l Down r = refl
-records l (Receive packet good) r = takes_logged (is_taken (received l.port packet good)) l.endpoint (tlp_in packet) r
-records l (ReceiveDllp bytes good) r = refl
+records l (Receive packet check) r = takes_logged (is_taken (received l.port packet check)) l.endpoint (tlp_in packet) r
+records l (ReceiveDllp bytes check) r = refl
 records l Act r = acts_logged (may_act l) l.endpoint r
 records l Enter r = refl
 records l Next r = refl
@@ -143,10 +143,10 @@ are_bytes : (l : LinkedView) (calls : List Call) → AreCalls calls → laws.Are
 are_bytes l [] h = tt
 are_bytes l (Up ∷ calls) h = are_bytes (after_call l Up) calls h.1
 are_bytes l (Down ∷ calls) h = are_bytes (after_call l Down) calls h.1
-are_bytes l (Receive packet good ∷ calls) h =
-    bytes_more (calls_by l (Receive packet good)) (all_calls (after_call l (Receive packet good)) calls)
-    (takes_bytes (is_taken (received l.port packet good)) (tlp_in packet) (behind packet h.0)) (are_bytes (after_call l (Receive packet good)) calls h.1)
-are_bytes l (ReceiveDllp bytes good ∷ calls) h = are_bytes (after_call l (ReceiveDllp bytes good)) calls h.1
+are_bytes l (Receive packet check ∷ calls) h =
+    bytes_more (calls_by l (Receive packet check)) (all_calls (after_call l (Receive packet check)) calls)
+    (takes_bytes (is_taken (received l.port packet check)) (tlp_in packet) (behind packet h.0)) (are_bytes (after_call l (Receive packet check)) calls h.1)
+are_bytes l (ReceiveDllp bytes check ∷ calls) h = are_bytes (after_call l (ReceiveDllp bytes check)) calls h.1
 are_bytes l (Act ∷ calls) h = bytes_more (calls_by l Act) (all_calls (after_call l Act) calls) (acts_bytes (may_act l)) (are_bytes (after_call l Act) calls h.1)
 are_bytes l (Enter ∷ calls) h = are_bytes (after_call l Enter) calls h.1
 are_bytes l (Next ∷ calls) h = are_bytes (after_call l Next) calls h.1

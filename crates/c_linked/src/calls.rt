@@ -14,6 +14,7 @@ use crate::slot::{Slot, close, open};
 use arrayvec::ArrayVec;
 use c_buffer::{Failure, Length, copy, tell};
 use endpoint_core::Room;
+use link_crc::Check;
 use linked_endpoint::{Arrived, LinkedEndpoint};
 use port_core::{
     DllpReceived, DllpRefusal, Outgoing, PACKET_BYTES, a_refused_call_changes_nothing,
@@ -32,16 +33,16 @@ pub struct Sent {
 }
 
 #[tactic(auto, using(crate::proofs::Turns::then_done))]
-fn receive(session: &mut Session, packet: &[u8], good: bool) -> Result<Arrived, Failure>
-    ensures outcome { ¬ (result ≡ Err NoMemory) → result ≡ Ok (arrived session.old.linked packet.now good) }
-    ensures session { IsAfter result session.old (Receive packet.now good) session.new }
-    ensures no_memory { result ≡ Err NoMemory → is_taken (received session.old.linked.port packet.now good) ≡ true }
+fn receive(session: &mut Session, packet: &[u8], check: Check) -> Result<Arrived, Failure>
+    ensures outcome { ¬ (result ≡ Err NoMemory) → result ≡ Ok (arrived session.old.linked packet.now check) }
+    ensures session { IsAfter result session.old (Receive packet.now check) session.new }
+    ensures no_memory { result ≡ Err NoMemory → is_taken (received session.old.linked.port packet.now check) ≡ true }
     ensures unchanged { IsErr result → session.new ≡ session.old }
 {
     let mut room = Room::new();
     match session
         .linked
-        .receive(packet, good, &mut room, &mut session.recording)
+        .receive(packet, check, &mut room, &mut session.recording)
     {
         Ok(arrived) => {
             settle(session, &mut room);
@@ -51,13 +52,17 @@ fn receive(session: &mut Session, packet: &[u8], good: bool) -> Result<Arrived, 
     }
 }
 
-fn receive_dllp(session: &mut Session, dllp: &[u8], good: bool) -> Result<DllpReceived, DllpRefusal>
-    ensures outcome { result ≡ dllp_answer session.old.linked.port dllp.now good }
-    ensures session { IsAfter result session.old (ReceiveDllp dllp.now good) session.new }
+fn receive_dllp(
+    session: &mut Session,
+    dllp: &[u8],
+    check: Check,
+) -> Result<DllpReceived, DllpRefusal>
+    ensures outcome { result ≡ dllp_answer session.old.linked.port dllp.now check }
+    ensures session { IsAfter result session.old (ReceiveDllp dllp.now check) session.new }
     ensures unchanged { IsErr result → session.new ≡ session.old }
 {
     a_refused_call_changes_nothing();
-    match session.linked.receive_dllp(dllp, good) {
+    match session.linked.receive_dllp(dllp, check) {
         Ok(received) => {
             settle(session, &mut Room::new());
             Ok(received)
@@ -93,18 +98,18 @@ fn next(linked: &mut LinkedEndpoint, buffer: &mut [u8]) -> Result<Sent, Failure>
 pub fn take_packet(
     slot: Slot,
     packet: &[u8],
-    good: bool,
+    check: Check,
     back: &mut Slot,
 ) -> Result<Arrived, Failure>
     ghost session: { SessionView }
     requires { slot.session ≡ Some session }
-    ensures outcome { ¬ (result ≡ Err NoMemory) → result ≡ Ok (arrived session.linked packet.now good) }
-    ensures session { (s : SessionView) × (back.new.session ≡ Some s) × IsAfter result session (Receive packet.now good) s }
-    ensures no_memory { result ≡ Err NoMemory → is_taken (received session.linked.port packet.now good) ≡ true }
+    ensures outcome { ¬ (result ≡ Err NoMemory) → result ≡ Ok (arrived session.linked packet.now check) }
+    ensures session { (s : SessionView) × (back.new.session ≡ Some s) × IsAfter result session (Receive packet.now check) s }
+    ensures no_memory { result ≡ Err NoMemory → is_taken (received session.linked.port packet.now check) ≡ true }
     ensures unchanged { IsErr result → back.new.session ≡ Some session }
 {
     let mut held = open(slot);
-    let outcome = receive(&mut held, packet, good);
+    let outcome = receive(&mut held, packet, check);
     *back = close(held);
     outcome
 }
@@ -115,17 +120,17 @@ pub fn take_packet(
 pub fn take_dllp(
     slot: Slot,
     dllp: &[u8],
-    good: bool,
+    check: Check,
     back: &mut Slot,
 ) -> Result<DllpReceived, DllpRefusal>
     ghost session: { SessionView }
     requires { slot.session ≡ Some session }
-    ensures outcome { result ≡ dllp_answer session.linked.port dllp.now good }
-    ensures session { (s : SessionView) × (back.new.session ≡ Some s) × IsAfter result session (ReceiveDllp dllp.now good) s }
+    ensures outcome { result ≡ dllp_answer session.linked.port dllp.now check }
+    ensures session { (s : SessionView) × (back.new.session ≡ Some s) × IsAfter result session (ReceiveDllp dllp.now check) s }
     ensures unchanged { IsErr result → back.new.session ≡ Some session }
 {
     let mut held = open(slot);
-    let outcome = receive_dllp(&mut held, dllp, good);
+    let outcome = receive_dllp(&mut held, dllp, check);
     *back = close(held);
     outcome
 }

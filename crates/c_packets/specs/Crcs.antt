@@ -7,8 +7,8 @@ use Rattle.link_crc.specs.Crc.{lcrc_of, dllp_crc_of}
 use Rattle.link_crc.specs.Checks.{lcrc_check_of, dllp_check_of}
 use Rattle.link_crc.specs.declared.check.LcrcCheck.{LcrcCheck}
 use Rattle.link_crc.specs.declared.check.LcrcCheck.TheVariants as packets
-use Rattle.link_crc.specs.declared.check.DllpCheck.{DllpCheck}
-use Rattle.link_crc.specs.declared.check.DllpCheck.TheVariants as dllps
+use Rattle.link_crc.specs.declared.check.Check.{Check}
+use Rattle.link_crc.specs.declared.check.Check.TheVariants as dllps
 
 -- the LCRC of a packet, its highest byte first
 abbrev pub lcrc_told : List ℕ → List ℕ → Told ℕ
@@ -30,7 +30,7 @@ packet_code packets.Nullified = 2
 abbrev pub packet_verdict : List ℕ → ℕ
 packet_verdict packet = packet_code (lcrc_check_of packet)
 
-abbrev pub dllp_code : DllpCheck → ℕ
+abbrev pub dllp_code : Check → ℕ
 dllp_code dllps.Good = 0
 dllp_code dllps.Failed = 1
 

@@ -2,7 +2,7 @@
 ghost use Rattle.std.specs.Prelude.{◌≡◌};
 ghost use Rattle.c_packets.specs.Crcs.{packet_verdict, dllp_verdict};
 
-use link_crc::{DllpCheck, LcrcCheck};
+use link_crc::{Check, LcrcCheck};
 
 /// The check of a packet with its LCRC: 0 good, 1 failed, 2 nullified.
 pub fn check_packet(packet: &[u8]) -> u8
@@ -23,7 +23,7 @@ pub fn check_dllp(dllp: &[u8]) -> u8
         return 1;
     }
     match link_crc::check_dllp([dllp[0], dllp[1], dllp[2], dllp[3], dllp[4], dllp[5]]) {
-        DllpCheck::Good => 0,
-        DllpCheck::Failed => 1,
+        Check::Good => 0,
+        Check::Failed => 1,
     }
 }

@@ -10,7 +10,7 @@ mod dllp;
 mod laws;
 mod packet;
 
-pub use check::{DllpCheck, LcrcCheck, check_dllp, check_packet};
+pub use check::{Check, Framing, LcrcCheck, check_dllp, check_packet};
 pub use dllp::dllp_crc;
 pub use laws::{
     every_burst_is_seen, the_error_alone_decides, the_highest_bit_is_sent_first,

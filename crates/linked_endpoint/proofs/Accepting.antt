@@ -3,6 +3,7 @@ use Rattle.std.proofs.Common.{◌≡◌, ℕ, Bool, false, List, [], ◌∷◌, 
 use Rattle.std.specs.Prelude.{if◌then◌else◌}
 use Rattle.tlp_core.specs.TlpView.{TlpView}
 use Rattle.flow_control.specs.declared.needs.Need.{Need}
+use Rattle.link_crc.specs.declared.check.Check.{Check}
 use Rattle.port_core.specs.declared.incoming.Received.{Received}
 use Rattle.port_core.specs.declared.incoming.Received.TheVariants as arrivals
 use Rattle.port_core.specs.Incoming.{tlp_in}
@@ -40,9 +41,9 @@ answered l old h packet tlp is_view is_tlp is_handled =
     is_handled ∙ ap₂ (λ (x : LinkedView) (bytes : List ℕ). device.handled x.endpoint bytes) is_view is_tlp
 
 -- a packet that is accepted within its credits
-pub takes : (l : LinkedView) (packet : List ℕ) (good : Bool) (r : Received) (q : PortView) (need : Option Need) (new : LinkedView) → r ≡ port.received l.port packet good → q ≡ port.after_receive l.port packet good
-    → r ≡ arrivals.Accepted need false → new ≡ taken l q (need_in r) (tlp_in packet) → new ≡ after_receive l packet good
-takes l packet good r q need new is_received is_noted is_accepted is_taken =
+pub takes : (l : LinkedView) (packet : List ℕ) (check : Check) (r : Received) (q : PortView) (need : Option Need) (new : LinkedView) → r ≡ port.received l.port packet check → q ≡ port.after_receive l.port packet check
+    → r ≡ arrivals.Accepted need false → new ≡ taken l q (need_in r) (tlp_in packet) → new ≡ after_receive l packet check
+takes l packet check r q need new is_received is_noted is_accepted is_taken =
     is_taken ∙ ap (λ (x : Received). taken l q (need_in x) (tlp_in packet)) is_accepted
     ∙ ap (λ (p : PortView). taken l p need (tlp_in packet)) is_noted
-    ∙ sym (ap (λ (x : Received). after_arrival x l (port.after_receive l.port packet good) (tlp_in packet)) (sym is_received ∙ is_accepted))
+    ∙ sym (ap (λ (x : Received). after_arrival x l (port.after_receive l.port packet check) (tlp_in packet)) (sym is_received ∙ is_accepted))

@@ -14,7 +14,7 @@ use Rattle.seq_memory.specs.declared.Refusal.{Refusal}
 use Rattle.seq_memory.specs.declared.Refusal.TheVariants as refusals
 use Rattle.seq_memory.specs.declared.reply.ReplyOf.TheVariants as replies
 use Rattle.seq_memory.specs.Entries.{Reply}
-use Rattle.seq_memory.specs.Step.{is_in_block, is_inside, refusal, read_back, bytes_at, data_of, answer_by, answer}
+use Rattle.seq_memory.specs.Step.{is_in_block, is_inside, refusal, read_back, bytes_at, answer_by, answer}
 use Rattle.completer_core.specs.Completion.{completion_for, unless_posted}
 use Rattle.completer_core.proofs.Shapes.{served_bytes}
 use Rattle.flow_control.specs.declared.limits.LaneCredits.{LaneCredits}
@@ -35,7 +35,7 @@ use Rattle.port_core.specs.Runs as ports
 use Rattle.port_core.specs.Runs.{IsOfFewUnits, AreOfFewUnits}
 use Rattle.endpoint_core.specs.declared.waiting.Waiting.{Waiting}
 use Rattle.endpoint_core.specs.declared.waiting.Waiting.TheVariants as waits
-use Rattle.endpoint_core.specs.EndpointView.{DeviceView, EndpointView}
+use Rattle.endpoint_core.specs.EndpointView.{DeviceView}
 use Rattle.endpoint_core.specs.Steps as device
 use Rattle.linked_endpoint.specs.LinkedView.{LinkedView}
 use Rattle.linked_endpoint.specs.Linked.{is_waiting, after_arrival, may_act, is_last, given_back, acted, refusal_of, entered_with}
@@ -179,8 +179,8 @@ enters_few (Some r) l h = h
 call_few : (l : LinkedView) (call : Call) → AreFew l.held → AreFew (after_call l call).held
 call_few l Up h = tt
 call_few l Down h = tt
-call_few l (Receive packet good) h = arrives_few (port.received l.port packet good) l (port.after_receive l.port packet good) (tlp_in packet) h
-call_few l (ReceiveDllp bytes good) h = h
+call_few l (Receive packet check) h = arrives_few (port.received l.port packet check) l (port.after_receive l.port packet check) (tlp_in packet) h
+call_few l (ReceiveDllp bytes check) h = h
 call_few l Act h = acts_few (may_act l) l h
 call_few l Enter h = enters_few (refusal_of l) l h
 call_few l Next h = h
@@ -225,8 +225,8 @@ held_few (Some t) h = (h, tt)
 port_few : (l : LinkedView) (call : Call) → AreFew l.held → AreOfFewUnits (calls_of_port l call)
 port_few l Up h = (tt, tt)
 port_few l Down h = (tt, tt)
-port_few l (Receive packet good) h = (tt, last_few l (port.received l.port packet good) (tlp_in packet))
-port_few l (ReceiveDllp bytes good) h = (tt, tt)
+port_few l (Receive packet check) h = (tt, last_few l (port.received l.port packet check) (tlp_in packet))
+port_few l (ReceiveDllp bytes check) h = (tt, tt)
 port_few l Act h = gives_few (may_act l && is_last l.endpoint) l.needs
 port_few l Enter h = held_few l.held h
 port_few l Next h = (tt, tt)
@@ -243,8 +243,8 @@ record IsFewRun (r : Run) : Type 0 where
 run_few : (r : Run) (call : Call) → IsFewRun r → IsFewRun (run_by r call)
 run_few r Up i = record { held = tt; calls = more_few r.port_calls _ i.calls (port_few r.linked Up i.held) }
 run_few r Down i = record { held = tt; calls = more_few r.port_calls _ i.calls (port_few r.linked Down i.held) }
-run_few r (Receive packet good) i = record { held = call_few r.linked (Receive packet good) i.held; calls = more_few r.port_calls _ i.calls (port_few r.linked (Receive packet good) i.held) }
-run_few r (ReceiveDllp bytes good) i = record { held = i.held; calls = more_few r.port_calls _ i.calls (port_few r.linked (ReceiveDllp bytes good) i.held) }
+run_few r (Receive packet check) i = record { held = call_few r.linked (Receive packet check) i.held; calls = more_few r.port_calls _ i.calls (port_few r.linked (Receive packet check) i.held) }
+run_few r (ReceiveDllp bytes check) i = record { held = i.held; calls = more_few r.port_calls _ i.calls (port_few r.linked (ReceiveDllp bytes check) i.held) }
 run_few r Act i = record { held = call_few r.linked Act i.held; calls = more_few r.port_calls _ i.calls (port_few r.linked Act i.held) }
 run_few r Enter i = record { held = call_few r.linked Enter i.held; calls = more_few r.port_calls _ i.calls (port_few r.linked Enter i.held) }
 run_few r Next i = record { held = i.held; calls = more_few r.port_calls _ i.calls (port_few r.linked Next i.held) }

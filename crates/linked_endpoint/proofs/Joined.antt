@@ -11,6 +11,7 @@ use Rattle.flow_control.specs.declared.limits.LaneCredits.{LaneCredits}
 use Rattle.flow_control.specs.Needs.{need_of}
 use Rattle.link_replay.specs.CargoView.{CargoView}
 use Rattle.lane_core.specs.Content.{cargo_of}
+use Rattle.link_crc.specs.declared.check.Check.{Check}
 use Rattle.port_core.specs.declared.fault.EnterRefusal.{EnterRefusal}
 use Rattle.port_core.specs.declared.incoming.Received.{Received}
 use Rattle.port_core.specs.declared.incoming.Received.TheVariants as arrivals
@@ -322,25 +323,25 @@ abbrev Goes : LinkedView → Story → EndpointView → List devices.Call → Li
 Goes l s start calls accepted completed call =
     IsJoined (after_call l call) (ports.after_calls s (calls_of_port l call)) start (calls ++ calls_of_device l call) (accepted ++ accepted_by l call) (completed ++ completed_by l call)
 
-received-joined : (l : LinkedView) (s : Story) (p : PortView) (start : EndpointView) (calls : List devices.Call) (accepted : List AcceptedPacket) (completed : List TlpView) (packet : List ℕ) (good : Bool) → s.port ≡ p
+received-joined : (l : LinkedView) (s : Story) (p : PortView) (start : EndpointView) (calls : List devices.Call) (accepted : List AcceptedPacket) (completed : List TlpView) (packet : List ℕ) (check : Check) → s.port ≡ p
     → IsJoined l s start calls accepted completed
-    → IsJoined (after_arrival (port.received p packet good) l (port.after_receive p packet good) (tlp_in packet))
-    (ports.after_calls (ports.with_packet s packet good) (frees_last l (port.received p packet good) (tlp_in packet)))
-    start (calls ++ takes_if (is_taken (port.received p packet good)) (tlp_in packet)) (accepted ++ accepted_in (port.received p packet good) packet) (completed ++ [])
-received-joined l s p start calls accepted completed packet good e i =
-    subst (λ (p : PortView). IsJoined (after_arrival (port.received p packet good) l (port.after_receive p packet good) (tlp_in packet))
-    (ports.after_calls (ports.with_packet s packet good) (frees_last l (port.received p packet good) (tlp_in packet)))
-    start (calls ++ takes_if (is_taken (port.received p packet good)) (tlp_in packet)) (accepted ++ accepted_in (port.received p packet good) packet) (completed ++ []))
-    e (arrived-joined (port.received s.port packet good) l s (port.after_receive s.port packet good) packet start calls accepted completed i)
+    → IsJoined (after_arrival (port.received p packet check) l (port.after_receive p packet check) (tlp_in packet))
+    (ports.after_calls (ports.with_packet s packet check) (frees_last l (port.received p packet check) (tlp_in packet)))
+    start (calls ++ takes_if (is_taken (port.received p packet check)) (tlp_in packet)) (accepted ++ accepted_in (port.received p packet check) packet) (completed ++ [])
+received-joined l s p start calls accepted completed packet check e i =
+    subst (λ (p : PortView). IsJoined (after_arrival (port.received p packet check) l (port.after_receive p packet check) (tlp_in packet))
+    (ports.after_calls (ports.with_packet s packet check) (frees_last l (port.received p packet check) (tlp_in packet)))
+    start (calls ++ takes_if (is_taken (port.received p packet check)) (tlp_in packet)) (accepted ++ accepted_in (port.received p packet check) packet) (completed ++ []))
+    e (arrived-joined (port.received s.port packet check) l s (port.after_receive s.port packet check) packet start calls accepted completed i)
 
 passed : (f : PortView → PortView) (l : LinkedView) (s t : Story) (start : EndpointView) (calls : List devices.Call) (accepted : List AcceptedPacket) (completed : List TlpView)
     → t.port ≡ f s.port → t.accepted ≡ s.accepted → t.held ≡ s.held → t.entered ≡ s.entered → IsJoined l s start calls accepted completed
     → IsJoined (with_port l (f l.port)) t start (calls ++ []) (accepted ++ []) (completed ++ [])
 passed f l s t start calls accepted completed p a h e i = same-joined l s t (f l.port) start calls accepted completed (p ∙ ap f (sym i.port_is)) a h e i
 
-goes-joined : (l : LinkedView) (s : Story) (start : EndpointView) (calls : List devices.Call) (accepted : List AcceptedPacket) (completed : List TlpView) (packet : List ℕ) (good : Bool)
-    → IsJoined l s start calls accepted completed → Goes l s start calls accepted completed (Receive packet good)
-goes-joined l s start calls accepted completed packet good i = received-joined l s l.port start calls accepted completed packet good (sym i.port_is) i
+goes-joined : (l : LinkedView) (s : Story) (start : EndpointView) (calls : List devices.Call) (accepted : List AcceptedPacket) (completed : List TlpView) (packet : List ℕ) (check : Check)
+    → IsJoined l s start calls accepted completed → Goes l s start calls accepted completed (Receive packet check)
+goes-joined l s start calls accepted completed packet check i = received-joined l s l.port start calls accepted completed packet check (sym i.port_is) i
 
 entering-joined : (l : LinkedView) (s : Story) (start : EndpointView) (calls : List devices.Call) (accepted : List AcceptedPacket) (completed : List TlpView)
     → IsJoined l s start calls accepted completed → Goes l s start calls accepted completed Enter
@@ -377,9 +378,9 @@ went-on ours r call g =
 call-joined : (ours : LaneCredits) (r : Run) (call : Call) → JoinedRun ours r → JoinedRun ours (run_by r call)
 call-joined ours r Up i = begun ours r (λ (o : LaneCredits). port.risen o) ports.Up (λ s. refl) i
 call-joined ours r Down i = begun ours r (λ (o : LaneCredits). port.new_port o) ports.Down (λ s. refl) i
-call-joined ours r (Receive packet good) i = went-on ours r (Receive packet good) (goes-joined r.linked (story ours r) r.start r.device_calls r.accepted r.completed packet good i)
-call-joined ours r (ReceiveDllp bytes good) i =
-    went-on ours r (ReceiveDllp bytes good) (passed (λ (p : PortView). port.after_dllp_received p bytes good) r.linked (story ours r) _ r.start r.device_calls r.accepted r.completed refl refl refl refl i)
+call-joined ours r (Receive packet check) i = went-on ours r (Receive packet check) (goes-joined r.linked (story ours r) r.start r.device_calls r.accepted r.completed packet check i)
+call-joined ours r (ReceiveDllp bytes check) i =
+    went-on ours r (ReceiveDllp bytes check) (passed (λ (p : PortView). port.after_dllp_received p bytes check) r.linked (story ours r) _ r.start r.device_calls r.accepted r.completed refl refl refl refl i)
 call-joined ours r Act i = went-on ours r Act (act-joined (may_act r.linked) r.linked (story ours r) r.start r.device_calls r.accepted r.completed refl i)
 call-joined ours r Enter i = went-on ours r Enter (entering-joined r.linked (story ours r) r.start r.device_calls r.accepted r.completed i)
 call-joined ours r Next i = went-on ours r Next (passed (λ (p : PortView). port.after_next p) r.linked (story ours r) _ r.start r.device_calls r.accepted r.completed refl refl refl refl i)
@@ -433,8 +434,8 @@ enters-are (Some t) = (tt, tt)
 call-are : (l : LinkedView) (call : Call) → IsCall call → ports.AreCalls (calls_of_port l call)
 call-are l Up h = (tt, tt)
 call-are l Down h = (tt, tt)
-call-are l (Receive packet good) h = (h, last-are l (port.received l.port packet good) (tlp_in packet))
-call-are l (ReceiveDllp bytes good) h = (h, tt)
+call-are l (Receive packet check) h = (h, last-are l (port.received l.port packet check) (tlp_in packet))
+call-are l (ReceiveDllp bytes check) h = (h, tt)
 call-are l Act h = acts-are (may_act l && is_last l.endpoint) l.needs
 call-are l Enter h = enters-are l.held
 call-are l Next h = (tt, tt)
@@ -445,8 +446,8 @@ call-are l Retrained h = (tt, tt)
 run-are : (r : Run) (call : Call) → IsCall call → ports.AreCalls r.port_calls → ports.AreCalls (run_by r call).port_calls
 run-are r Up h k = are-more r.port_calls _ k (call-are r.linked Up h)
 run-are r Down h k = are-more r.port_calls _ k (call-are r.linked Down h)
-run-are r (Receive packet good) h k = are-more r.port_calls _ k (call-are r.linked (Receive packet good) h)
-run-are r (ReceiveDllp bytes good) h k = are-more r.port_calls _ k (call-are r.linked (ReceiveDllp bytes good) h)
+run-are r (Receive packet check) h k = are-more r.port_calls _ k (call-are r.linked (Receive packet check) h)
+run-are r (ReceiveDllp bytes check) h k = are-more r.port_calls _ k (call-are r.linked (ReceiveDllp bytes check) h)
 run-are r Act h k = are-more r.port_calls _ k (call-are r.linked Act h)
 run-are r Enter h k = are-more r.port_calls _ k (call-are r.linked Enter h)
 run-are r Next h k = are-more r.port_calls _ k (call-are r.linked Next h)
@@ -472,8 +473,8 @@ numbers-of (a ∷ rest) = ap (λ (xs : List ℕ). a.number ∷ xs) (numbers-of r
 run-empty : (r : Run) (call : Call) → r.start.waiting ≡ [] → (run_by r call).start.waiting ≡ []
 run-empty r Up e = refl
 run-empty r Down e = refl
-run-empty r (Receive packet good) e = e
-run-empty r (ReceiveDllp bytes good) e = e
+run-empty r (Receive packet check) e = e
+run-empty r (ReceiveDllp bytes check) e = e
 run-empty r Act e = e
 run-empty r Enter e = e
 run-empty r Next e = e

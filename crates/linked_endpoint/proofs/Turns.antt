@@ -1,8 +1,9 @@
 -- Requests act and completions enter, in turn, and what they record.
 use Rattle.std.proofs.Common.{◌≡◌, ℕ, zero, suc, ◌<◌, ◌≤◌, Bool, true, false, cond, List, [], ◌∷◌, ◌++◌, Option, Some, None, inl, inr, refl, sym, subst, ap, ◌∙◌, append_assoc, arith}
-use Rattle.std.specs.Prelude.{◌⊎◌, ◌&&◌, is_some, is_none}
+use Rattle.std.specs.Prelude.{◌&&◌, is_some, is_none}
 use Rattle.std.proofs.lemmas.List.{append-nil}
 use Rattle.tlp_core.specs.TlpView.{TlpView}
+use Rattle.link_crc.specs.declared.check.Check.{Check}
 use Rattle.port_core.specs.declared.fault.EnterRefusal.{EnterRefusal}
 use Rattle.port_core.specs.Incoming.{tlp_in}
 use Rattle.port_core.specs.Port.{received}
@@ -15,7 +16,7 @@ use Rattle.endpoint_log.specs.Recordings as recordings
 use Rattle.endpoint_log.specs.Recordings.{noted, IsOrLost}
 use Rattle.linked_endpoint.specs.LinkedView.{LinkedView}
 use Rattle.linked_endpoint.specs.Linked.{is_taken, acted, after_act, refusal_for, refusal_of, may_act, may_enter, turns_left, entered_with, IsHeldOrEntered}
-use Rattle.linked_endpoint.specs.Runs.{Call, Receive, Act, Enter, after_call, after_calls, AreTurns, GoesOn, entered_unless}
+use Rattle.linked_endpoint.specs.Runs.{Call, Receive, Act, Enter, after_call, after_calls, AreTurns, entered_unless}
 use Rattle.linked_endpoint.specs.Settling.{logged, logged_all, turned, turns, all_turns, settling, settled, IsOnWay}
 use Rattle.linked_endpoint.proofs.Settling.{acted_less, unless_as_many, once_enters, entered_enters, held_rests}
 
@@ -127,15 +128,15 @@ nothing_recorded (On l) = inl refl
 nothing_recorded Lost = refl
 
 -- a packet's TLP goes to the device, or doesn't
-pub taken_logged : (l : LinkedView) (packet : List ℕ) (good : Bool) (old new : Recording) → is_taken (received l.port packet good) ≡ true
-    → IsOrLost new (recordings.came l.endpoint (tlp_in packet) old) → IsOrLost new (noted (logged l (Receive packet good)) old)
-taken_logged l packet good old new taken told =
-    like (log.came l.endpoint.device (becomes (tlp_in packet))) (logged l (Receive packet good)) old new
+pub taken_logged : (l : LinkedView) (packet : List ℕ) (check : Check) (old new : Recording) → is_taken (received l.port packet check) ≡ true
+    → IsOrLost new (recordings.came l.endpoint (tlp_in packet) old) → IsOrLost new (noted (logged l (Receive packet check)) old)
+taken_logged l packet check old new taken told =
+    like (log.came l.endpoint.device (becomes (tlp_in packet))) (logged l (Receive packet check)) old new
     (λ r. sym (ap (λ (b : Bool). cond b (log.came l.endpoint.device (becomes (tlp_in packet)) r) r) taken)) told
 
-pub not_logged : (l : LinkedView) (packet : List ℕ) (good : Bool) (old : Recording) → is_taken (received l.port packet good) ≡ false → IsOrLost old (noted (logged l (Receive packet good)) old)
-not_logged l packet good old taken =
-    like (λ r. r) (logged l (Receive packet good)) old old
+pub not_logged : (l : LinkedView) (packet : List ℕ) (check : Check) (old : Recording) → is_taken (received l.port packet check) ≡ false → IsOrLost old (noted (logged l (Receive packet check)) old)
+not_logged l packet check old taken =
+    like (λ r. r) (logged l (Receive packet check)) old old
     (λ r. sym (ap (λ (b : Bool). cond b (log.came l.endpoint.device (becomes (tlp_in packet)) r) r) taken)) (nothing_recorded old)
 
 -- ---- on the way

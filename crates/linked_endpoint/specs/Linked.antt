@@ -4,6 +4,7 @@ use Rattle.tlp_core.specs.TlpView.{TlpView}
 use Rattle.flow_control.specs.declared.needs.Need.{Need}
 use Rattle.flow_control.specs.declared.limits.LaneCredits.{LaneCredits}
 use Rattle.flow_control.specs.Needs.{need_of}
+use Rattle.link_crc.specs.declared.check.Check.{Check}
 use Rattle.port_core.specs.declared.fault.EnterRefusal.{EnterRefusal}
 use Rattle.port_core.specs.declared.incoming.Received.{Received}
 use Rattle.port_core.specs.declared.incoming.Received.TheVariants as arrivals
@@ -91,13 +92,13 @@ after_arrival arrivals.Duplicate l p tlp = with_port l p
 after_arrival arrivals.NakNow l p tlp = with_port l p
 after_arrival arrivals.Quiet l p tlp = with_port l p
 
-abbrev pub after_receive : LinkedView → List ℕ → Bool → LinkedView
-after_receive l packet good = after_arrival (port.received l.port packet good) l (port.after_receive l.port packet good) (tlp_in packet)
+abbrev pub after_receive : LinkedView → List ℕ → Check → LinkedView
+after_receive l packet check = after_arrival (port.received l.port packet check) l (port.after_receive l.port packet check) (tlp_in packet)
 
-abbrev pub arrived : LinkedView → List ℕ → Bool → Arrived
-arrived l packet good =
-    if is_taken (port.received l.port packet good) then answers.Accepted (device.handled l.endpoint (tlp_in packet))
-    else discarded (port.received l.port packet good)
+abbrev pub arrived : LinkedView → List ℕ → Check → Arrived
+arrived l packet check =
+    if is_taken (port.received l.port packet check) then answers.Accepted (device.handled l.endpoint (tlp_in packet))
+    else discarded (port.received l.port packet check)
 
 -- ---- a request acts
 

@@ -5,6 +5,7 @@ use Rattle.flow_control.specs.declared.needs.Need.{Need}
 use Rattle.flow_control.specs.declared.limits.LaneCredits.{LaneCredits}
 use Rattle.link_replay.specs.CargoView.{CargoView}
 use Rattle.lane_core.specs.Content.{cargo_of}
+use Rattle.link_crc.specs.declared.check.Check.{Check}
 use Rattle.port_core.specs.declared.fault.EnterRefusal.{EnterRefusal}
 use Rattle.port_core.specs.declared.incoming.Received.{Received}
 use Rattle.port_core.specs.declared.incoming.Received.TheVariants as arrivals
@@ -23,9 +24,9 @@ use Rattle.linked_endpoint.specs.Linked.{new_linked, with_port, after_down, afte
 pub data Call : Type 0 where
   Up : Call
   Down : Call
-  -- the bytes of a packet, whose check was good or failed
-  Receive : List ℕ → Bool → Call
-  ReceiveDllp : List ℕ → Bool → Call
+  -- the bytes of a packet, and its check
+  Receive : List ℕ → Check → Call
+  ReceiveDllp : List ℕ → Check → Call
   Act : Call
   Enter : Call
   Next : Call
@@ -35,8 +36,8 @@ pub data Call : Type 0 where
 
 -- what arrives is bytes, of any number and value
 abbrev pub IsCall : Call → Type 0
-IsCall (Receive packet good) = AreBytes packet
-IsCall (ReceiveDllp bytes good) = AreBytes bytes
+IsCall (Receive packet check) = AreBytes packet
+IsCall (ReceiveDllp bytes check) = AreBytes bytes
 IsCall _ = Unit {0}
 
 abbrev pub AreCalls : List Call → Type 0
@@ -50,8 +51,8 @@ entered_unless (Some refusal) l = l
 abbrev pub after_call : LinkedView → Call → LinkedView
 after_call l Up = after_up l
 after_call l Down = after_down l
-after_call l (Receive packet good) = after_receive l packet good
-after_call l (ReceiveDllp bytes good) = with_port l (port.after_dllp_received l.port bytes good)
+after_call l (Receive packet check) = after_receive l packet check
+after_call l (ReceiveDllp bytes check) = with_port l (port.after_dllp_received l.port bytes check)
 after_call l Act = after_act l
 after_call l Enter = entered_unless (refusal_of l) l
 after_call l Next = with_port l (port.after_next l.port)
@@ -110,8 +111,8 @@ enters (Some t) = ports.Enter t ∷ []
 abbrev pub calls_of_port : LinkedView → Call → List ports.Call
 calls_of_port l Up = ports.Up ∷ []
 calls_of_port l Down = ports.Down ∷ []
-calls_of_port l (Receive packet good) = ports.Receive packet good ∷ frees_last l (port.received l.port packet good) (tlp_in packet)
-calls_of_port l (ReceiveDllp bytes good) = ports.ReceiveDllp bytes good ∷ []
+calls_of_port l (Receive packet check) = ports.Receive packet check ∷ frees_last l (port.received l.port packet check) (tlp_in packet)
+calls_of_port l (ReceiveDllp bytes check) = ports.ReceiveDllp bytes check ∷ []
 calls_of_port l Act = if may_act l && is_last l.endpoint then frees_first l.needs else []
 calls_of_port l Enter = enters l.held
 calls_of_port l Next = ports.Next ∷ []
@@ -159,12 +160,12 @@ list_of (Some t) = t ∷ []
 
 -- the device's calls
 abbrev pub calls_of_device : LinkedView → Call → List devices.Call
-calls_of_device l (Receive packet good) = takes_if (is_taken (port.received l.port packet good)) (tlp_in packet)
+calls_of_device l (Receive packet check) = takes_if (is_taken (port.received l.port packet check)) (tlp_in packet)
 calls_of_device l Act = if may_act l then devices.Act ∷ [] else []
 calls_of_device l _ = []
 
 abbrev pub accepted_by : LinkedView → Call → List AcceptedPacket
-accepted_by l (Receive packet good) = accepted_in (port.received l.port packet good) packet
+accepted_by l (Receive packet check) = accepted_in (port.received l.port packet check) packet
 accepted_by l _ = []
 
 abbrev pub completed_by : LinkedView → Call → List TlpView

@@ -15,7 +15,7 @@ use Rattle.linked_endpoint.specs.Runs.{Call, Up, Down, Receive, Act, Enter, afte
 abbrev pub logged : LinkedView → Call → LogView → LogView
 logged l Up r = log.dropped r
 logged l Down r = log.dropped r
-logged l (Receive packet good) r = if is_taken (received l.port packet good) then log.came l.endpoint.device (becomes (tlp_in packet)) r else r
+logged l (Receive packet check) r = if is_taken (received l.port packet check) then log.came l.endpoint.device (becomes (tlp_in packet)) r else r
 logged l Act r = if may_act l then log.acted l.endpoint r else r
 logged l _ r = r
 

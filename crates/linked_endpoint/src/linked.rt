@@ -17,6 +17,7 @@ use config_core::Setup;
 use endpoint_core::{Endpoint, Handled, Room};
 use endpoint_log::Recording;
 use flow_control::{LaneCredits, Need};
+use link_crc::Check;
 use port_core::{
     DllpReceived, DllpRefusal, EnterRefusal, Judged, LinkPort, Outgoing, PACKET_BYTES, Received,
 };
@@ -213,18 +214,18 @@ impl LinkedEndpoint {
     pub fn receive(
         &mut self,
         packet: &[u8],
-        good: bool,
+        check: Check,
         room: &mut Room,
         recording: &mut Recording,
     ) -> Result<Arrived, AllocError>
-        ensures ok { OnOk result (self.new ≡ spec.after_receive self.old packet.now good) }
-        ensures answer { IfOk result (λ a. a ≡ spec.arrived self.old packet.now good) }
-        ensures recorded { OnOk result (IsOrLost recording.new (noted (logged self.old (Receive packet.now good)) recording.old)) }
-        ensures grows { OnErr result (spec.is_taken (link.received self.old.port packet.now good) ≡ true) }
+        ensures ok { OnOk result (self.new ≡ spec.after_receive self.old packet.now check) }
+        ensures answer { IfOk result (λ a. a ≡ spec.arrived self.old packet.now check) }
+        ensures recorded { OnOk result (IsOrLost recording.new (noted (logged self.old (Receive packet.now check)) recording.old)) }
+        ensures grows { OnErr result (spec.is_taken (link.received self.old.port packet.now check) ≡ true) }
         ensures err { OnErr result (self.new ≡ self.old) }
         ensures unrecorded { OnErr result (recording.new ≡ recording.old) }
     {
-        let judged = self.port.judge(packet, good);
+        let judged = self.port.judge(packet, check);
         if let Received::Accepted {
             overflows: false,
             ..
@@ -237,11 +238,11 @@ impl LinkedEndpoint {
     }
 
     /// A DLLP arrives, with a good check or a failed one. A refused one changes nothing.
-    pub fn receive_dllp(&mut self, bytes: &[u8], good: bool) -> Result<DllpReceived, DllpRefusal>
-        ensures answer { result ≡ link.dllp_answer self.old.port bytes.now good }
-        ensures state { self.new ≡ spec.with_port self.old (link.after_dllp_received self.old.port bytes.now good) }
+    pub fn receive_dllp(&mut self, bytes: &[u8], check: Check) -> Result<DllpReceived, DllpRefusal>
+        ensures answer { result ≡ link.dllp_answer self.old.port bytes.now check }
+        ensures state { self.new ≡ spec.with_port self.old (link.after_dllp_received self.old.port bytes.now check) }
     {
-        self.port.receive_dllp(bytes, good)
+        self.port.receive_dllp(bytes, check)
     }
 
     /// Whether a request waits whose next completion may enter the replay buffer, and no other completion is held.

@@ -1,8 +1,7 @@
--- Packets whose LCRC is right.
-use Rattle.std.proofs.Common.{◌≡◌, ◌∙◌, ℕ, List, true, sym, ap}
-use Rattle.link_crc.specs.declared.check.LcrcCheck.{LcrcCheck}
-use Rattle.link_crc.specs.declared.check.LcrcCheck.TheVariants as checks
+-- Packets that have a check.
+use Rattle.std.proofs.Common.{◌≡◌, ◌∙◌, ℕ, List, Option, Some, sym, ap}
+use Rattle.link_crc.specs.declared.check.Check.{Check}
 use Rattle.linked_engine.specs.Lines.{LinkLines, answer_arrival, answer_checked}
 
-pub good : (u : LinkLines) (k : LcrcCheck) (p q : List ℕ) → k ≡ checks.Good → p ≡ q → answer_arrival u p true ≡ answer_checked u k q
-good u k p q e f = ap (λ (x : List ℕ). answer_arrival u x true) f ∙ sym (ap (λ (c : LcrcCheck). answer_checked u c q) e)
+pub arrives : (u : LinkLines) (o : Option Check) (check : Check) (p q : List ℕ) → o ≡ Some check → p ≡ q → answer_arrival u p check ≡ answer_checked u o q
+arrives u o check p q e f = ap (λ (x : List ℕ). answer_arrival u x check) f ∙ sym (ap (λ (x : Option Check). answer_checked u x q) e)

@@ -7,9 +7,8 @@ use Rattle.hex.proofs.HexLemmas.{decode_of-ok}
 use Rattle.tlp_core.specs.Bits.{IsBytes}
 use Rattle.tlp_core.specs.TlpView.{TlpView}
 use Rattle.flow_control.specs.declared.limits.LaneCredits.{LaneCredits}
-use Rattle.link_crc.specs.Checks.{lcrc_check_of}
-use Rattle.link_crc.specs.declared.check.LcrcCheck.{LcrcCheck}
-use Rattle.link_crc.specs.declared.check.LcrcCheck.TheVariants as checks
+use Rattle.link_crc.specs.Checks.{lcrc_check_of, framed}
+use Rattle.link_crc.specs.declared.check.Check.{Check}
 use Rattle.port_core.specs.declared.fault.EnterRefusal.{EnterRefusal}
 use Rattle.port_core.specs.declared.incoming.Received.{Received}
 use Rattle.port_core.specs.declared.incoming.Received.TheVariants as arrivals
@@ -35,7 +34,9 @@ use Rattle.hex_text.specs.Lines.{lines_of, bare, said, is_skipped}
 use Rattle.line_loop.specs.Run.{Answer, Run, after_line, answer_to, new_run}
 use Rattle.trace_text.specs.Texts.{trace_text}
 use Rattle.endpoint_engine.specs.Recorded.{IsRecorded}
-use Rattle.linked_engine.specs.Crcs.{marked, without_last, is_good_dllp}
+use Rattle.linked_engine.specs.declared.frames.Mark.{Mark}
+use Rattle.linked_engine.specs.declared.frames.Mark.TheVariants as marks
+use Rattle.linked_engine.specs.Crcs.{marked_packet, marked_dllp, without_last, dllp_check}
 use Rattle.linked_engine.specs.Traces.{asked, trace_after}
 use Rattle.linked_engine.specs.Lines.{LinkLines, nothing, no_line, called, did, settled, received, reset_by, answer_arrival, answer_checked, answer_packet_bytes, answer_packet, answer_hearing, answer_dllp_bytes, answer_dllp, answer_next, answer_up, answer_down, answer_refresh, answer_replay, answer_retrained, answer_state, answer_trace, answer_timer, answer_link, answer_word, is_packet, is_dllp, answer_line, link_responses, new_lines}
 
@@ -106,8 +107,8 @@ turns_traced law s (Enter ∷ calls) u are i =
     then_did s Enter calls u (turns_traced law s calls (did u (Enter ∷ [])) are.1 (kept s u (did u (Enter ∷ [])) (may_enter (refusal_of u.linked) u.linked) (as_it_was u.log) i))
 turns_traced law s (Up ∷ calls) u are i = absurd are.0
 turns_traced law s (Down ∷ calls) u are i = absurd are.0
-turns_traced law s (Receive packet good ∷ calls) u are i = absurd are.0
-turns_traced law s (ReceiveDllp bytes good ∷ calls) u are i = absurd are.0
+turns_traced law s (Receive packet check ∷ calls) u are i = absurd are.0
+turns_traced law s (ReceiveDllp bytes check ∷ calls) u are i = absurd are.0
 turns_traced law s (Next ∷ calls) u are i = absurd are.0
 turns_traced law s (Refresh ∷ calls) u are i = absurd are.0
 turns_traced law s (Replay ∷ calls) u are i = absurd are.0
@@ -137,9 +138,9 @@ arrived_traced law s u v arrivals.Duplicate p tlp bytes e l i = kept s u v e (l 
 arrived_traced law s u v arrivals.NakNow p tlp bytes e l i = kept s u v e (l ∙ as_it_was u.log) i
 arrived_traced law s u v arrivals.Quiet p tlp bytes e l i = kept s u v e (l ∙ as_it_was u.log) i
 
-received_traced : Law → (s : SetupView) (u : LinkLines) (packet : List ℕ) (good : Bool) → IsBytes packet → IsTraced s u → IsTraced s (received u packet good)
-received_traced law s u packet good bytes i =
-    arrived_traced law s u (received u packet good) (port.received u.linked.port packet good) (port.after_receive u.linked.port packet good) (tlp_in packet)
+received_traced : Law → (s : SetupView) (u : LinkLines) (packet : List ℕ) (check : Check) → IsBytes packet → IsTraced s u → IsTraced s (received u packet check)
+received_traced law s u packet check bytes i =
+    arrived_traced law s u (received u packet check) (port.received u.linked.port packet check) (port.after_receive u.linked.port packet check) (tlp_in packet)
     (behind packet bytes) refl refl i
 
 -- ---- one line
@@ -152,33 +153,32 @@ module _ (law : Law) (s : SetupView) where
   settled_traced : (u : LinkLines) → IsTraced s u → IsTraced s (settled u)
   settled_traced u i = turns_traced law s (settling u.linked) u (law.turns u.linked) i
 
-  arrival_traced : (u : LinkLines) (packet : List ℕ) (good : Bool) → IsBytes packet → IsTraced s u → IsTraced s (answer_arrival u packet good).state
-  arrival_traced u packet good bytes i = settled_traced (received u packet good) (received_traced law s u packet good bytes i)
+  arrival_traced : (u : LinkLines) (packet : List ℕ) (check : Check) → IsBytes packet → IsTraced s u → IsTraced s (answer_arrival u packet check).state
+  arrival_traced u packet check bytes i = settled_traced (received u packet check) (received_traced law s u packet check bytes i)
 
-  checked_traced : (u : LinkLines) (k : LcrcCheck) (packet : List ℕ) → IsBytes packet → IsTraced s u → IsTraced s (answer_checked u k packet).state
-  checked_traced u checks.Good packet bytes i = arrival_traced u packet true bytes i
-  checked_traced u checks.Failed packet bytes i = arrival_traced u packet false bytes i
-  checked_traced u checks.Nullified packet bytes i = i
+  checked_traced : (u : LinkLines) (o : Option Check) (packet : List ℕ) → IsBytes packet → IsTraced s u → IsTraced s (answer_checked u o packet).state
+  checked_traced u (Some check) packet bytes i = arrival_traced u packet check bytes i
+  checked_traced u None packet bytes i = i
 
-  packet_bytes_traced : (u : LinkLines) (r : Result (List ℕ) FromHexError) (good : Bool) → ((b : List ℕ) → r ≡ Ok b → IsBytes b) → IsTraced s u → IsTraced s (answer_packet_bytes u r good).state
-  packet_bytes_traced u (Err e) good are i = i
-  packet_bytes_traced u (Ok b) good are i =
-      either u.has_crc (answer_checked u (lcrc_check_of b) (without_last 4 b)) (answer_arrival u b good)
-      (checked_traced u (lcrc_check_of b) (without_last 4 b) (first_of (length b - 4) b (are b refl)) i) (arrival_traced u b good (are b refl) i)
+  packet_bytes_traced : (u : LinkLines) (r : Result (List ℕ) FromHexError) (mark : Mark) → ((b : List ℕ) → r ≡ Ok b → IsBytes b) → IsTraced s u → IsTraced s (answer_packet_bytes u r mark).state
+  packet_bytes_traced u (Err e) mark are i = i
+  packet_bytes_traced u (Ok b) (marks.Word check) are i = arrival_traced u b check (are b refl) i
+  packet_bytes_traced u (Ok b) (marks.Framing framing) are i =
+      checked_traced u (framed (lcrc_check_of b) framing) (without_last 4 b) (first_of (length b - 4) b (are b refl)) i
 
-  packet_traced : (u : LinkLines) (o : Option (List ℕ × Bool)) → IsTraced s u → IsTraced s (answer_packet u o).state
+  packet_traced : (u : LinkLines) (o : Option (List ℕ × Mark)) → IsTraced s u → IsTraced s (answer_packet u o).state
   packet_traced u None i = i
   packet_traced u (Some m) i = packet_bytes_traced u (decode_of (digits_of m.0)) m.1 (λ b e. (decode_of-ok (digits_of m.0) b e).3) i
 
-  hearing_traced : (u : LinkLines) (bytes : List ℕ) (good : Bool) → IsTraced s u → IsTraced s (answer_hearing u bytes good).state
-  hearing_traced u bytes good i = settled_traced (called u (ReceiveDllp bytes good)) (kept s u (called u (ReceiveDllp bytes good)) refl refl i)
+  hearing_traced : (u : LinkLines) (bytes : List ℕ) (check : Check) → IsTraced s u → IsTraced s (answer_hearing u bytes check).state
+  hearing_traced u bytes check i = settled_traced (called u (ReceiveDllp bytes check)) (kept s u (called u (ReceiveDllp bytes check)) refl refl i)
 
-  dllp_bytes_traced : (u : LinkLines) (r : Result (List ℕ) FromHexError) (good : Bool) → IsTraced s u → IsTraced s (answer_dllp_bytes u r good).state
-  dllp_bytes_traced u (Err e) good i = i
-  dllp_bytes_traced u (Ok b) good i =
-      either u.has_crc (answer_hearing u (take 4 b) (is_good_dllp b)) (answer_hearing u b good) (hearing_traced u (take 4 b) (is_good_dllp b) i) (hearing_traced u b good i)
+  dllp_bytes_traced : (u : LinkLines) (r : Result (List ℕ) FromHexError) (check : Check) → IsTraced s u → IsTraced s (answer_dllp_bytes u r check).state
+  dllp_bytes_traced u (Err e) check i = i
+  dllp_bytes_traced u (Ok b) check i =
+      either u.has_crc (answer_hearing u (take 4 b) (dllp_check b)) (answer_hearing u b check) (hearing_traced u (take 4 b) (dllp_check b) i) (hearing_traced u b check i)
 
-  dllp_traced : (u : LinkLines) (o : Option (List ℕ × Bool)) → IsTraced s u → IsTraced s (answer_dllp u o).state
+  dllp_traced : (u : LinkLines) (o : Option (List ℕ × Check)) → IsTraced s u → IsTraced s (answer_dllp u o).state
   dllp_traced u None i = i
   dllp_traced u (Some m) i = dllp_bytes_traced u (decode_of (digits_of m.0)) m.1 i
 
@@ -206,8 +206,8 @@ module _ (law : Law) (s : SetupView) where
   line_traced : (u : LinkLines) (line : List ℕ) → IsTraced s u → IsTraced s (answer_line u line).state
   line_traced u line i =
       either (is_skipped line) (nothing u) _ i
-      (either (is_packet line) (answer_packet u (marked u.has_crc (drop 7 line))) _ (packet_traced u (marked u.has_crc (drop 7 line)) i)
-      (either (is_dllp line) (answer_dllp u (marked u.has_crc (drop 5 line))) (answer_word u line) (dllp_traced u (marked u.has_crc (drop 5 line)) i) (word_traced u line i)))
+      (either (is_packet line) (answer_packet u (marked_packet u.has_crc (drop 7 line))) _ (packet_traced u (marked_packet u.has_crc (drop 7 line)) i)
+      (either (is_dllp line) (answer_dllp u (marked_dllp u.has_crc (drop 5 line))) (answer_word u line) (dllp_traced u (marked_dllp u.has_crc (drop 5 line)) i) (word_traced u line i)))
 
   said_traced : (u : LinkLines) (line : List ℕ) → IsTraced s u → IsTraced s (answer_to link_responses u line).state
   said_traced u line i = either (nat_lt 512 (length (bare line))) (no_line u) (answer_line u (said line)) i (line_traced u (said line) i)

@@ -3,9 +3,8 @@ use Rattle.std.specs.Prelude.{ℕ, Bool, true, false, if◌then◌else◌, List,
 use Rattle.hex.specs.Hex.{decode_of}
 use Rattle.hex.specs.declared.error.FromHexError.{FromHexError}
 use Rattle.flow_control.specs.declared.limits.LaneCredits.{LaneCredits}
-use Rattle.link_crc.specs.Checks.{lcrc_check_of}
-use Rattle.link_crc.specs.declared.check.LcrcCheck.{LcrcCheck}
-use Rattle.link_crc.specs.declared.check.LcrcCheck.TheVariants as checks
+use Rattle.link_crc.specs.Checks.{lcrc_check_of, framed}
+use Rattle.link_crc.specs.declared.check.Check.{Check}
 use Rattle.config_core.specs.SetupView.{SetupView}
 use Rattle.port_core.specs.Port as port
 use Rattle.linked_endpoint.specs.LinkedView.{LinkedView}
@@ -18,7 +17,9 @@ use Rattle.hex_text.specs.Line.{digits_of}
 use Rattle.hex_text.specs.Lines.{is_skipped}
 use Rattle.trace_text.specs.Texts.{trace_text}
 use Rattle.line_loop.specs.Run.{Answer, Responses, Run, run_of}
-use Rattle.linked_engine.specs.Crcs.{marked, without_last, is_good_dllp}
+use Rattle.linked_engine.specs.declared.frames.Mark.{Mark}
+use Rattle.linked_engine.specs.declared.frames.Mark.TheVariants as marks
+use Rattle.linked_engine.specs.Crcs.{marked_packet, marked_dllp, without_last, dllp_check}
 use Rattle.linked_engine.specs.Texts.{arrived_text, heard_text, sent_text, replay_text, state_text}
 
 -- a device behind its end of a link, and what is recorded of the device, if it is traced
@@ -55,38 +56,37 @@ settled u = did u (settling u.linked)
 
 -- ---- a packet arrives
 
-abbrev pub received : LinkLines → List ℕ → Bool → LinkLines
-received u packet good = did u (Receive packet good ∷ [])
+abbrev pub received : LinkLines → List ℕ → Check → LinkLines
+received u packet check = did u (Receive packet check ∷ [])
 
-abbrev pub answer_arrival : LinkLines → List ℕ → Bool → Answer LinkLines
-answer_arrival u packet good = answered (settled (received u packet good)) (arrived_text (link.arrived u.linked packet good))
+abbrev pub answer_arrival : LinkLines → List ℕ → Check → Answer LinkLines
+answer_arrival u packet check = answered (settled (received u packet check)) (arrived_text (link.arrived u.linked packet check))
 
--- by its LCRC; a nullified one is discarded without a Nak
-abbrev pub answer_checked : LinkLines → LcrcCheck → List ℕ → Answer LinkLines
-answer_checked u checks.Good packet = answer_arrival u packet true
-answer_checked u checks.Failed packet = answer_arrival u packet false
-answer_checked u checks.Nullified packet = answered u (codes "gone")
+-- with its LCRC; a nullified one, which has no check, is discarded without a Nak
+abbrev pub answer_checked : LinkLines → Option Check → List ℕ → Answer LinkLines
+answer_checked u (Some check) packet = answer_arrival u packet check
+answer_checked u None packet = answered u (codes "gone")
 
-abbrev pub answer_packet_bytes : LinkLines → Result (List ℕ) FromHexError → Bool → Answer LinkLines
-answer_packet_bytes u (Err e) good = no_line u
-answer_packet_bytes u (Ok bytes) good =
-    if u.has_crc then answer_checked u (lcrc_check_of bytes) (without_last 4 bytes) else answer_arrival u bytes good
+abbrev pub answer_packet_bytes : LinkLines → Result (List ℕ) FromHexError → Mark → Answer LinkLines
+answer_packet_bytes u (Err e) mark = no_line u
+answer_packet_bytes u (Ok bytes) (marks.Word check) = answer_arrival u bytes check
+answer_packet_bytes u (Ok bytes) (marks.Framing framing) = answer_checked u (framed (lcrc_check_of bytes) framing) (without_last 4 bytes)
 
-abbrev pub answer_packet : LinkLines → Option (List ℕ × Bool) → Answer LinkLines
+abbrev pub answer_packet : LinkLines → Option (List ℕ × Mark) → Answer LinkLines
 answer_packet u None = no_line u
 answer_packet u (Some m) = answer_packet_bytes u (decode_of (digits_of m.0)) m.1
 
 -- ---- a DLLP arrives
 
-abbrev pub answer_hearing : LinkLines → List ℕ → Bool → Answer LinkLines
-answer_hearing u bytes good = answered (settled (called u (ReceiveDllp bytes good))) (heard_text (port.dllp_answer u.linked.port bytes good))
+abbrev pub answer_hearing : LinkLines → List ℕ → Check → Answer LinkLines
+answer_hearing u bytes check = answered (settled (called u (ReceiveDllp bytes check))) (heard_text (port.dllp_answer u.linked.port bytes check))
 
-abbrev pub answer_dllp_bytes : LinkLines → Result (List ℕ) FromHexError → Bool → Answer LinkLines
-answer_dllp_bytes u (Err e) good = no_line u
-answer_dllp_bytes u (Ok bytes) good =
-    if u.has_crc then answer_hearing u (take 4 bytes) (is_good_dllp bytes) else answer_hearing u bytes good
+abbrev pub answer_dllp_bytes : LinkLines → Result (List ℕ) FromHexError → Check → Answer LinkLines
+answer_dllp_bytes u (Err e) check = no_line u
+answer_dllp_bytes u (Ok bytes) check =
+    if u.has_crc then answer_hearing u (take 4 bytes) (dllp_check bytes) else answer_hearing u bytes check
 
-abbrev pub answer_dllp : LinkLines → Option (List ℕ × Bool) → Answer LinkLines
+abbrev pub answer_dllp : LinkLines → Option (List ℕ × Check) → Answer LinkLines
 answer_dllp u None = no_line u
 answer_dllp u (Some m) = answer_dllp_bytes u (decode_of (digits_of m.0)) m.1
 
@@ -155,8 +155,8 @@ is_dllp line = bytes_eq (take 5 line) (codes "dllp ")
 abbrev pub answer_line : LinkLines → List ℕ → Answer LinkLines
 answer_line u line =
     if is_skipped line then nothing u
-    else (if is_packet line then answer_packet u (marked u.has_crc (drop 7 line))
-    else (if is_dllp line then answer_dllp u (marked u.has_crc (drop 5 line))
+    else (if is_packet line then answer_packet u (marked_packet u.has_crc (drop 7 line))
+    else (if is_dllp line then answer_dllp u (marked_dllp u.has_crc (drop 5 line))
     else answer_word u line))
 
 abbrev pub link_responses : Responses LinkLines

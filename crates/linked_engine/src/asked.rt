@@ -3,16 +3,17 @@ ghost use Rattle.std.specs.Prelude.{◌≡◌, ◌≤◌, length, IfOk, OnErr};
 ghost use Rattle.hex.specs.Hex.{decode_of};
 ghost use Rattle.hex_text.specs.Line.{digits_of};
 ghost use Rattle.line_loop.specs.Run.{IsAnswer};
-ghost use Rattle.linked_engine.specs.Crcs.{marked};
+ghost use Rattle.linked_engine.specs.Crcs.{marked_packet, marked_dllp};
 ghost use Rattle.linked_engine.specs.Lines as spec;
 
-use crate::frames::marked;
+use crate::frames::{Mark, marked_dllp, marked_packet};
 use crate::lines::Lines;
 use crate::options::LinkedOptions;
 use crate::packet_line::PacketLine;
 use endpoint_engine::no_line;
 use hex_text::{HexLine, is_skipped};
 use line_loop::{Responder, Verdict};
+use link_crc::Check;
 use std::alloc::{AllocError, Global};
 use std::marker::Model;
 
@@ -56,18 +57,18 @@ impl Asked {
     fn read_packet(
         &mut self,
         digits: &[u8],
-        good: bool,
+        mark: Mark,
         out: &mut Vec<u8>,
     ) -> Result<Verdict, AllocError>
         requires { length digits.now ≤ 512 }
         ensures ok { IfOk result (λ verdict. IsAnswer self.new out.old.items out.new.items verdict
-            (spec.answer_packet_bytes self.old (decode_of (digits_of digits.now)) good)) }
+            (spec.answer_packet_bytes self.old (decode_of (digits_of digits.now)) mark)) }
         ensures err { OnErr result (out.new.items ≡ out.old.items) }
     {
         if !self.packet.read(digits) {
             return no_line(out);
         }
-        self.lines.take_packet(self.packet.bytes(), good, out)
+        self.lines.take_packet(self.packet.bytes(), mark, out)
     }
 
     /// A DLLP of these digits arrives.
@@ -75,29 +76,29 @@ impl Asked {
     fn read_dllp(
         &mut self,
         digits: &[u8],
-        good: bool,
+        check: Check,
         out: &mut Vec<u8>,
     ) -> Result<Verdict, AllocError>
         requires { length digits.now ≤ 512 }
         ensures ok { IfOk result (λ verdict. IsAnswer self.new out.old.items out.new.items verdict
-            (spec.answer_dllp_bytes self.old (decode_of (digits_of digits.now)) good)) }
+            (spec.answer_dllp_bytes self.old (decode_of (digits_of digits.now)) check)) }
         ensures err { OnErr result (out.new.items ≡ out.old.items) }
     {
         if !self.dllp.read(digits) {
             return no_line(out);
         }
-        self.lines.take_dllp(self.dllp.bytes(), good, out)
+        self.lines.take_dllp(self.dllp.bytes(), check, out)
     }
 
     /// Answers what stands behind `packet`.
     fn answer_packet(&mut self, line: &[u8], out: &mut Vec<u8>) -> Result<Verdict, AllocError>
         requires { length line.now ≤ 512 }
         ensures ok { IfOk result (λ verdict. IsAnswer self.new out.old.items out.new.items verdict
-            (spec.answer_packet self.old (marked self.old.has_crc line.now))) }
+            (spec.answer_packet self.old (marked_packet self.old.has_crc line.now))) }
         ensures err { OnErr result (out.new.items ≡ out.old.items) }
     {
-        match marked(self.has_crc(), line) {
-            Some((digits, good)) => self.read_packet(digits, good, out),
+        match marked_packet(self.has_crc(), line) {
+            Some((digits, mark)) => self.read_packet(digits, mark, out),
             None => no_line(out),
         }
     }
@@ -106,11 +107,11 @@ impl Asked {
     fn answer_dllp(&mut self, line: &[u8], out: &mut Vec<u8>) -> Result<Verdict, AllocError>
         requires { length line.now ≤ 512 }
         ensures ok { IfOk result (λ verdict. IsAnswer self.new out.old.items out.new.items verdict
-            (spec.answer_dllp self.old (marked self.old.has_crc line.now))) }
+            (spec.answer_dllp self.old (marked_dllp self.old.has_crc line.now))) }
         ensures err { OnErr result (out.new.items ≡ out.old.items) }
     {
-        match marked(self.has_crc(), line) {
-            Some((digits, good)) => self.read_dllp(digits, good, out),
+        match marked_dllp(self.has_crc(), line) {
+            Some((digits, check)) => self.read_dllp(digits, check, out),
             None => no_line(out),
         }
     }

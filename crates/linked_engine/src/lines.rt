@@ -2,11 +2,11 @@
 ghost use Rattle.std.specs.Prelude.{◌≡◌, Ok, IfOk, OnOk, OnErr};
 ghost use Rattle.linked_endpoint.specs.Linked as link;
 ghost use Rattle.line_loop.specs.Run.{IsAnswer};
-ghost use Rattle.link_crc.specs.Checks.{lcrc_check_of};
+ghost use Rattle.link_crc.specs.Checks.{lcrc_check_of, framed};
 ghost use Rattle.linked_engine.specs.Crcs.{without_last};
 ghost use Rattle.linked_engine.specs.Lines as spec;
 
-use crate::frames::{is_good_dllp, without_dllp_crc, without_lcrc};
+use crate::frames::{Mark, dllp_check, without_dllp_crc, without_lcrc};
 use crate::options::LinkedOptions;
 use crate::texts::{put_arrived, put_heard, put_replay, put_sent, put_state, put_word};
 use arrayvec::ArrayVec;
@@ -15,7 +15,7 @@ use endpoint_engine::no_line;
 use endpoint_log::Recording;
 use hex_text::HexText;
 use line_loop::Verdict;
-use link_crc::{LcrcCheck, check_packet};
+use link_crc::{Check, Framing, check_packet};
 use linked_endpoint::{Arrived, LinkedEndpoint};
 use port_core::PACKET_BYTES;
 use std::alloc::{AllocError, Global};
@@ -86,67 +86,75 @@ impl Lines {
     }
 
     /// A packet arrives.
-    fn receive(&mut self, packet: &[u8], good: bool) -> Result<Arrived, AllocError>
-        ensures answer { IfOk result (λ a. a ≡ link.arrived self.old.linked packet.now good) }
-        ensures state { OnOk result (self.new ≡ spec.received self.old packet.now good) }
+    fn receive(&mut self, packet: &[u8], check: Check) -> Result<Arrived, AllocError>
+        ensures answer { IfOk result (λ a. a ≡ link.arrived self.old.linked packet.now check) }
+        ensures state { OnOk result (self.new ≡ spec.received self.old packet.now check) }
     {
         let arrived = self
             .linked
-            .receive(packet, good, &mut self.rooms.device, &mut self.recording)?;
+            .receive(packet, check, &mut self.rooms.device, &mut self.recording)?;
         self.recording.check()?;
         Ok(arrived)
     }
 
     /// A packet arrives, and requests act.
-    fn come(&mut self, packet: &[u8], good: bool, out: &mut Vec<u8>) -> Result<Verdict, AllocError>
-        ensures ok { IfOk result (λ verdict. IsAnswer self.new out.old.items out.new.items verdict (spec.answer_arrival self.old packet.now good)) }
+    fn come(
+        &mut self,
+        packet: &[u8],
+        check: Check,
+        out: &mut Vec<u8>,
+    ) -> Result<Verdict, AllocError>
+        ensures ok { IfOk result (λ verdict. IsAnswer self.new out.old.items out.new.items verdict (spec.answer_arrival self.old packet.now check)) }
         ensures err { OnErr result (out.new.items ≡ out.old.items) }
     {
-        let arrived = self.receive(packet, good)?;
+        let arrived = self.receive(packet, check)?;
         self.settle()?;
         put_arrived(arrived, out)?;
         Ok(Verdict::Fine)
     }
 
-    /// A packet with its LCRC arrives.
-    fn come_checked(&mut self, bytes: &[u8], out: &mut Vec<u8>) -> Result<Verdict, AllocError>
+    /// A packet with its LCRC arrives, whose framing ends so.
+    fn come_checked(
+        &mut self,
+        bytes: &[u8],
+        framing: Framing,
+        out: &mut Vec<u8>,
+    ) -> Result<Verdict, AllocError>
         ensures ok { IfOk result (λ verdict. IsAnswer self.new out.old.items out.new.items verdict
-            (spec.answer_checked self.old (lcrc_check_of bytes.now) (without_last 4 bytes.now))) }
+            (spec.answer_checked self.old (framed (lcrc_check_of bytes.now) framing) (without_last 4 bytes.now))) }
         ensures err { OnErr result (out.new.items ≡ out.old.items) }
     {
-        match check_packet(bytes) {
-            LcrcCheck::Good => self.come(without_lcrc(bytes), true, out),
-            LcrcCheck::Failed => self.come(without_lcrc(bytes), false, out),
-            LcrcCheck::Nullified => {
+        match check_packet(bytes).framed(framing) {
+            Some(check) => self.come(without_lcrc(bytes), check, out),
+            None => {
                 put_word("gone", out)?;
                 Ok(Verdict::Fine)
             }
         }
     }
 
-    /// The bytes of a packet's line arrive.
+    /// The bytes of a packet's line arrive, and what stands behind them.
     pub(crate) fn take_packet(
         &mut self,
         bytes: &[u8],
-        good: bool,
+        mark: Mark,
         out: &mut Vec<u8>,
     ) -> Result<Verdict, AllocError>
-        ensures ok { IfOk result (λ verdict. IsAnswer self.new out.old.items out.new.items verdict (spec.answer_packet_bytes self.old (Ok bytes.now) good)) }
+        ensures ok { IfOk result (λ verdict. IsAnswer self.new out.old.items out.new.items verdict (spec.answer_packet_bytes self.old (Ok bytes.now) mark)) }
         ensures err { OnErr result (out.new.items ≡ out.old.items) }
     {
-        if self.has_crc {
-            self.come_checked(bytes, out)
-        } else {
-            self.come(bytes, good, out)
+        match mark {
+            Mark::Word(check) => self.come(bytes, check, out),
+            Mark::Framing(framing) => self.come_checked(bytes, framing, out),
         }
     }
 
     /// A DLLP arrives, and requests act.
-    fn hear(&mut self, dllp: &[u8], good: bool, out: &mut Vec<u8>) -> Result<Verdict, AllocError>
-        ensures ok { IfOk result (λ verdict. IsAnswer self.new out.old.items out.new.items verdict (spec.answer_hearing self.old dllp.now good)) }
+    fn hear(&mut self, dllp: &[u8], check: Check, out: &mut Vec<u8>) -> Result<Verdict, AllocError>
+        ensures ok { IfOk result (λ verdict. IsAnswer self.new out.old.items out.new.items verdict (spec.answer_hearing self.old dllp.now check)) }
         ensures err { OnErr result (out.new.items ≡ out.old.items) }
     {
-        let heard = self.linked.receive_dllp(dllp, good);
+        let heard = self.linked.receive_dllp(dllp, check);
         self.settle()?;
         put_heard(heard, out)?;
         Ok(Verdict::Fine)
@@ -156,16 +164,16 @@ impl Lines {
     pub(crate) fn take_dllp(
         &mut self,
         bytes: &[u8],
-        good: bool,
+        check: Check,
         out: &mut Vec<u8>,
     ) -> Result<Verdict, AllocError>
-        ensures ok { IfOk result (λ verdict. IsAnswer self.new out.old.items out.new.items verdict (spec.answer_dllp_bytes self.old (Ok bytes.now) good)) }
+        ensures ok { IfOk result (λ verdict. IsAnswer self.new out.old.items out.new.items verdict (spec.answer_dllp_bytes self.old (Ok bytes.now) check)) }
         ensures err { OnErr result (out.new.items ≡ out.old.items) }
     {
         if self.has_crc {
-            self.hear(without_dllp_crc(bytes), is_good_dllp(bytes), out)
+            self.hear(without_dllp_crc(bytes), dllp_check(bytes), out)
         } else {
-            self.hear(bytes, good, out)
+            self.hear(bytes, check, out)
         }
     }
 

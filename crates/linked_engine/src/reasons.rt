@@ -13,10 +13,19 @@ fn frame_digits_reason(line: &[u8]) -> Reason {
     digits_reason(line, split_word(line).1.unwrap_or(b""))
 }
 
+/// The line without the word behind a packet's digits, if it has it.
+fn without_edb(line: &[u8]) -> &[u8] {
+    if line.starts_with(b"packet ") {
+        line.strip_suffix(b" edb").unwrap_or(line)
+    } else {
+        line
+    }
+}
+
 /// Why the line of a packet or a DLLP is a fault.
 fn frame_reason(line: &[u8], has_crc: bool) -> Reason {
     if has_crc {
-        return frame_digits_reason(line);
+        return frame_digits_reason(without_edb(line));
     }
     for word in [b" good".as_slice(), b" failed".as_slice()] {
         if let Some(front) = line.strip_suffix(word) {

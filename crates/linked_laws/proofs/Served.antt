@@ -201,8 +201,8 @@ turns_end l (calls.Enter ∷ turns) are =
     then l (entered_unless (refusal_of l) l) (after_calls (entered_unless (refusal_of l) l) turns) (unless_left l (refusal_of l)) (turns_end (entered_unless (refusal_of l) l) turns are.1)
 turns_end l (calls.Up ∷ turns) are = absurd are.0
 turns_end l (calls.Down ∷ turns) are = absurd are.0
-turns_end l (calls.Receive packet good ∷ turns) are = absurd are.0
-turns_end l (calls.ReceiveDllp bytes good ∷ turns) are = absurd are.0
+turns_end l (calls.Receive packet check ∷ turns) are = absurd are.0
+turns_end l (calls.ReceiveDllp bytes check ∷ turns) are = absurd are.0
 turns_end l (calls.Next ∷ turns) are = absurd are.0
 turns_end l (calls.Refresh ∷ turns) are = absurd are.0
 turns_end l (calls.Replay ∷ turns) are = absurd are.0
@@ -212,14 +212,14 @@ turns_end l (calls.Retrained ∷ turns) are = absurd are.0
 
 of_link : (l : LinkedView) (cs : List Call) → AreOfLink cs → left (after_calls l cs) ≡ left l
 of_link l [] are = refl
-of_link l (calls.ReceiveDllp bytes good ∷ cs) are = of_link (with_port l (port.after_dllp_received l.port bytes good)) cs are.1
+of_link l (calls.ReceiveDllp bytes check ∷ cs) are = of_link (with_port l (port.after_dllp_received l.port bytes check)) cs are.1
 of_link l (calls.Next ∷ cs) are = of_link (with_port l (port.after_next l.port)) cs are.1
 of_link l (calls.Refresh ∷ cs) are = of_link (with_port l (port.refreshed l.port)) cs are.1
 of_link l (calls.Replay ∷ cs) are = of_link (with_port l (port.after_replay l.port)) cs are.1
 of_link l (calls.Retrained ∷ cs) are = of_link (with_port l (port.after_retrained l.port)) cs are.1
 of_link l (calls.Up ∷ cs) are = absurd are.0
 of_link l (calls.Down ∷ cs) are = absurd are.0
-of_link l (calls.Receive packet good ∷ cs) are = absurd are.0
+of_link l (calls.Receive packet check ∷ cs) are = absurd are.0
 of_link l (calls.Act ∷ cs) are = absurd are.0
 of_link l (calls.Enter ∷ cs) are = absurd are.0
 

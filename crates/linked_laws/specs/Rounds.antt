@@ -13,7 +13,7 @@ use Rattle.linked_endpoint.specs.Runs as calls
 
 -- packets are sent, DLLPs arrive, timers expire: no packet arrives, and the link stays up
 abbrev pub IsOfLink : Call → Type 0
-IsOfLink (calls.ReceiveDllp bytes good) = Unit {0}
+IsOfLink (calls.ReceiveDllp bytes check) = Unit {0}
 IsOfLink calls.Next = Unit {0}
 IsOfLink calls.Refresh = Unit {0}
 IsOfLink calls.Replay = Unit {0}

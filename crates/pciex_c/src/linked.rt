@@ -1,5 +1,6 @@
 //! The endpoint behind its end of a link.
 ghost use Rattle.std.specs.Prelude.{◌≡◌, ◌≤◌, ◌⊎◌, ◌∷◌, [], true, Some, Result, Ok, length};
+ghost use Rattle.link_crc.specs.Checks.{check_if};
 ghost use Rattle.port_core.specs.Port.{received, dllp_answer};
 ghost use Rattle.port_core.specs.declared.port.DllpReceived.{DllpReceived};
 ghost use Rattle.port_core.specs.declared.fault.DllpRefusal.{DllpRefusal};
@@ -20,6 +21,7 @@ ghost use Rattle.pciex_c.specs.LinkCodes.{made_code, arrived_code, arrived_of, d
 use crate::codes::status;
 use crate::link_codes::{arrived, condition, dllp_status, made, sent};
 use c_linked::{FiniteCredits, LinkedSetup, Slot};
+use link_crc::Check;
 use std::alloc::Global;
 
 /// An endpoint behind its link, which is down, in a slot that holds nothing.
@@ -58,13 +60,13 @@ pub extern "C" fn pciex_raw_linked_packet(
 ) -> u32
     ghost session: { SessionView }
     requires { linked.session ≡ Some session }
-    ensures code { ¬ (result ≡ NO_MEMORY) → result ≡ arrived_code (arrived session.linked packet.now good) }
+    ensures code { ¬ (result ≡ NO_MEMORY) → result ≡ arrived_code (arrived session.linked packet.now (check_if good)) }
     ensures session { (outcome : Result Arrived Failure) × (result ≡ arrived_of outcome) × (s : SessionView) × (back.new.session ≡ Some s) ×
-        IsAfter outcome session (Receive packet.now good) s }
-    ensures no_memory { result ≡ NO_MEMORY → is_taken (received session.linked.port packet.now good) ≡ true }
+        IsAfter outcome session (Receive packet.now (check_if good)) s }
+    ensures no_memory { result ≡ NO_MEMORY → is_taken (received session.linked.port packet.now (check_if good)) ≡ true }
     ensures unchanged { 1000 ≤ result → back.new.session ≡ Some session }
 {
-    arrived(c_linked::take_packet(linked, packet, good, back))
+    arrived(c_linked::take_packet(linked, packet, Check::of(good), back))
 }
 
 /// A DLLP that arrives at the endpoint of the slot, which goes to `back`.
@@ -77,12 +79,12 @@ pub extern "C" fn pciex_raw_linked_dllp(
 ) -> u32
     ghost session: { SessionView }
     requires { linked.session ≡ Some session }
-    ensures code { result ≡ dllp_code (dllp_answer session.linked.port dllp.now good) }
+    ensures code { result ≡ dllp_code (dllp_answer session.linked.port dllp.now (check_if good)) }
     ensures session { (outcome : Result DllpReceived DllpRefusal) × (result ≡ dllp_code outcome) × (s : SessionView) × (back.new.session ≡ Some s) ×
-        IsAfter outcome session (ReceiveDllp dllp.now good) s }
+        IsAfter outcome session (ReceiveDllp dllp.now (check_if good)) s }
     ensures unchanged { 1000 ≤ result → back.new.session ≡ Some session }
 {
-    dllp_status(c_linked::take_dllp(linked, dllp, good, back))
+    dllp_status(c_linked::take_dllp(linked, dllp, Check::of(good), back))
 }
 
 /// What the endpoint of the slot, which goes to `back`, sends next.

@@ -9,6 +9,8 @@ use Rattle.dllp_core.specs.Layout.{Spells, low_twelve}
 use Rattle.dllp_core.specs.Faults.{reading}
 use Rattle.link_replay.specs.CargoView.{CargoView}
 use Rattle.link_replay.specs.Runs as sent
+use Rattle.link_crc.specs.declared.check.Check.{Check}
+use Rattle.link_crc.specs.Checks.{passed}
 use Rattle.port_core.specs.declared.init.LinkState.{LinkState}
 use Rattle.port_core.specs.declared.init.LinkState.TheVariants.{Inactive, Init1, Init2, Active}
 use Rattle.port_core.specs.declared.init.Advertised.{Advertised}
@@ -140,7 +142,7 @@ has-number bytes (Update class header units) h s = tt
 abbrev pub IsSpelled : Type 0
 IsSpelled = (bytes : List ℕ) (d : Dllp) → reading bytes ≡ Ok d → Spells bytes d
 
-pub keeps-dllp : IsSpelled → (p : PortView) (bytes : List ℕ) (good : Bool) → AreBytes bytes → Keeps p (after_dllp_received p bytes good)
-keeps-dllp spelled p bytes good h =
-    keeps-if (not good || is_inactive p.state) p p _ (keeps-self p)
+pub keeps-dllp : IsSpelled → (p : PortView) (bytes : List ℕ) (check : Check) → AreBytes bytes → Keeps p (after_dllp_received p bytes check)
+keeps-dllp spelled p bytes check h =
+    keeps-if (not (passed check) || is_inactive p.state) p p _ (keeps-self p)
     (keeps-read p (link_reading bytes) (λ d e. has-number bytes d h (spelled bytes d (is-read bytes d e))))

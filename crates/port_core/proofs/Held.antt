@@ -12,6 +12,7 @@ use Rattle.flow_control.specs.Needs.{need_of}
 use Rattle.flow_control.specs.Credits.{after_received, after_freed}
 use Rattle.link_replay.specs.declared.receiver.Reception.{Reception}
 use Rattle.link_replay.specs.declared.receiver.Reception.TheVariants as receptions
+use Rattle.link_crc.specs.declared.check.Check.{Check}
 use Rattle.port_core.specs.declared.init.LinkState.{LinkState}
 use Rattle.port_core.specs.declared.init.LinkState.TheVariants.{Inactive, Init1, Init2, Active}
 use Rattle.port_core.specs.declared.dllp.LinkDllp.{LinkDllp}
@@ -93,13 +94,13 @@ packet-counts receptions.Duplicate ours l packet held freed h limits k = rw (app
 packet-counts receptions.NakNow ours l packet held freed h limits k = rw (append-nil held, append-nil freed) k
 packet-counts receptions.Quiet ours l packet held freed h limits k = rw (append-nil held, append-nil freed) k
 
-packet-ledger : (b : Bool) (ours : LaneCredits) (s : Story) (packet : List ℕ) (good : Bool) → AreBytes packet → IsInLimits ours → IsLedger ours s → IsLedger ours (packet_by b s packet good)
-packet-ledger true ours s packet good h limits i =
+packet-ledger : (b : Bool) (ours : LaneCredits) (s : Story) (packet : List ℕ) (check : Check) → AreBytes packet → IsInLimits ours → IsLedger ours s → IsLedger ours (packet_by b s packet check)
+packet-ledger true ours s packet check h limits i =
     record {
       ours_is = i.ours_is;
-      counts = packet-counts (reception_on s.port.incoming packet good) ours s.port.incoming.ledger packet s.held s.freed h limits i.counts;
+      counts = packet-counts (reception_on s.port.incoming packet check) ours s.port.incoming.ledger packet s.held s.freed h limits i.counts;
     }
-packet-ledger false ours s packet good h limits i = record { ours_is = i.ours_is; counts = rw (append-nil s.held, append-nil s.freed) i.counts }
+packet-ledger false ours s packet check h limits i = record { ours_is = i.ours_is; counts = rw (append-nil s.held, append-nil s.freed) i.counts }
 
 -- ---- the other calls
 
@@ -133,8 +134,8 @@ dllp-ledger ours s q dllps k i =
 call-ledger : IsSpelled → (ours : LaneCredits) (s : Story) (call : Call) → IsInLimits ours → IsCall call → IsLedger ours s → IsLedger ours (after_call s call)
 call-ledger spelled ours s Up limits is i = risen-again ours s.port.ours i.ours_is
 call-ledger spelled ours s Down limits is i = new-again ours s.port.ours i.ours_is
-call-ledger spelled ours s (Receive packet good) limits is i = packet-ledger (is_up s.port.state) ours s packet good is limits i
-call-ledger spelled ours s (ReceiveDllp bytes good) limits is i = dllp-ledger ours s _ _ (keeps-dllp spelled s.port bytes good is) i
+call-ledger spelled ours s (Receive packet check) limits is i = packet-ledger (is_up s.port.state) ours s packet check is limits i
+call-ledger spelled ours s (ReceiveDllp bytes check) limits is i = dllp-ledger ours s _ _ (keeps-dllp spelled s.port bytes check is) i
 call-ledger spelled ours s (Free place) limits is i = freed-ledger (slice_get s.held place) ours s place refl i
 call-ledger spelled ours s (Enter t) limits is i = entered-ledger (refusal_of s.port (need_of t)) ours s t i
 call-ledger spelled ours s Next limits is i = sent-ledger (choice_of s.port) ours s i

@@ -19,6 +19,8 @@ use Rattle.flow_control.specs.Needs.{need_of}
 use Rattle.flow_control.specs.Credits.{CreditGateView, same, gate_of, gate_covers, after_consume, after_limit, first_gate}
 use Rattle.lane_core.specs.declared.packet.Fate.TheVariants.{Good}
 use Rattle.lane_core.specs.Steps.{after_dllp}
+use Rattle.link_crc.specs.declared.check.Check.{Check}
+use Rattle.link_crc.specs.Checks.{passed}
 use Rattle.port_core.specs.declared.init.LinkState.{LinkState}
 use Rattle.port_core.specs.declared.init.LinkState.TheVariants.{Inactive, Init1, Init2, Active}
 use Rattle.port_core.specs.declared.init.Advertised.{Advertised}
@@ -482,13 +484,13 @@ enter-known None s t e small k = entered-at s.port.state s t refl e small k
 
 -- ---- any call
 
-packet-known : (b : Bool) (s : Story) (packet : List ℕ) (good : Bool) → KnownIn s → KnownIn (packet_by b s packet good)
-packet-known true s packet good k = by-good (is_good packet good) s k
+packet-known : (b : Bool) (s : Story) (packet : List ℕ) (check : Check) → KnownIn s → KnownIn (packet_by b s packet check)
+packet-known true s packet check k = by-good (is_good packet check) s k
   where
     by-good : (g : Bool) (s : Story) → KnownIn s → IsKnown (state_after s.port.state g) s.port.peer s.port.sender.gate s.heard s.used
     by-good true s k = activated-known s.port.state s.port.peer s.port.sender.gate s.heard s.used k
     by-good false s k = k
-packet-known false s packet good k = k
+packet-known false s packet check k = k
 
 freed-known : (o : Option Need) (s : Story) (place : ℕ) → KnownIn s → KnownIn (without_held s place o)
 freed-known None s place k = k
@@ -526,9 +528,9 @@ pub record Believes : Type 0 where
 call-known : Believes → (s : Story) (call : Call) → IsCall call → IsOfFewUnits call → KnownIn s → KnownIn (after_call s call)
 call-known b s Up is of k = init1-known _
 call-known b s Down is of k = inactive-known _
-call-known b s (Receive packet good) is of k = packet-known (is_up s.port.state) s packet good k
-call-known b s (ReceiveDllp bytes good) is of k =
-    good-known (not good || is_inactive s.port.state) s.port (link_reading bytes) s.heard s.used (λ d e. has-credits bytes d is (b.spelled bytes d (is-read bytes d e))) k
+call-known b s (Receive packet check) is of k = packet-known (is_up s.port.state) s packet check k
+call-known b s (ReceiveDllp bytes check) is of k =
+    good-known (not (passed check) || is_inactive s.port.state) s.port (link_reading bytes) s.heard s.used (λ d e. has-credits bytes d is (b.spelled bytes d (is-read bytes d e))) k
 call-known b s (Free place) is of k = freed-known (slice_get s.held place) s place k
 call-known b s (Enter t) is of k = enter-known (refusal_of s.port (need_of t)) s t refl (small-need b.header t of) k
 call-known b s Next is of k = sent-known (choice_of s.port) s k

@@ -15,6 +15,7 @@ use Rattle.link_replay.specs.ReceiverRuns as received_runs
 use Rattle.link_replay.specs.SenderView.{SenderView, with_accepted}
 use Rattle.link_replay.specs.Runs as sent
 use Rattle.lane_core.specs.Content.{cargo_of}
+use Rattle.link_crc.specs.declared.check.Check.{Check}
 use Rattle.port_core.specs.declared.init.LinkState.{LinkState}
 use Rattle.port_core.specs.declared.init.LinkState.TheVariants.{Inactive, Init1, Init2, Active}
 use Rattle.port_core.specs.declared.dllp.LinkDllp.{LinkDllp}
@@ -78,20 +79,20 @@ active-good true Init2 h = refl
 active-good true Active h = cc
 
 -- `after_call` of a packet, by whether the link is up
-abbrev pub packet_by : Bool → Story → List ℕ → Bool → Story
-packet_by b s packet good =
-    let r = if b then received_on s.port.incoming packet good else arrivals.Dropped in
+abbrev pub packet_by : Bool → Story → List ℕ → Check → Story
+packet_by b s packet check =
+    let r = if b then received_on s.port.incoming packet check else arrivals.Dropped in
     record {
       port =
           if b then
           record {
             ours = s.port.ours;
-            state = state_after s.port.state (is_good packet good);
+            state = state_after s.port.state (is_good packet check);
             peer = s.port.peer;
             sender = s.port.sender;
             given = s.port.given;
-            incoming = after_packet s.port.incoming packet good;
-            due = due_received s.port.ours s.port.due (received_on s.port.incoming packet good);
+            incoming = after_packet s.port.incoming packet check;
+            due = due_received s.port.ours s.port.due (received_on s.port.incoming packet check);
           }
           else s.port;
       accepted = s.accepted ++ accepted_if r packet;
@@ -102,18 +103,18 @@ packet_by b s packet good =
       heard = s.heard;
     }
 
-packet-story : (b : Bool) (s : Story) (packet : List ℕ) (good : Bool) → is_up s.port.state ≡ b → IsStory s → IsStory (packet_by b s packet good)
-packet-story true s packet good e i =
+packet-story : (b : Bool) (s : Story) (packet : List ℕ) (check : Check) → is_up s.port.state ≡ b → IsStory s → IsStory (packet_by b s packet check)
+packet-story true s packet check e i =
     record {
       receives =
-          receives-more s.port.incoming.receiving s.accepted (accepted_if (received_on s.port.incoming packet good) packet)
-          (received_runs.Receive (number_in packet) (is_good packet good)) i.receives
-          (numbers-under (reception_on s.port.incoming packet good) s.port.incoming.ledger packet);
+          receives-more s.port.incoming.receiving s.accepted (accepted_if (received_on s.port.incoming packet check) packet)
+          (received_runs.Receive (number_in packet) (is_good packet check)) i.receives
+          (numbers-under (reception_on s.port.incoming packet check) s.port.incoming.ledger packet);
       sends = i.sends;
-      before = λ h. cc (e, up-good (is_good packet good) s.port.state h);
-      closed = λ h. i.closed (active-good (is_good packet good) s.port.state h);
+      before = λ h. cc (e, up-good (is_good packet check) s.port.state h);
+      closed = λ h. i.closed (active-good (is_good packet check) s.port.state h);
     }
-packet-story false s packet good e i =
+packet-story false s packet check e i =
     record {
       receives = rw (append-nil s.accepted) i.receives;
       sends = i.sends;
@@ -203,8 +204,8 @@ refreshed-story Active s i = record { receives = i.receives; sends = i.sends; be
 call-story : IsSpelled → (s : Story) (call : Call) → IsCall call → IsStory s → IsStory (after_call s call)
 call-story spelled s Up is i = risen-story s.port.ours
 call-story spelled s Down is i = new-story s.port.ours
-call-story spelled s (Receive packet good) is i = packet-story (is_up s.port.state) s packet good refl i
-call-story spelled s (ReceiveDllp bytes good) is i = kept s _ _ (keeps-dllp spelled s.port bytes good is) i
+call-story spelled s (Receive packet check) is i = packet-story (is_up s.port.state) s packet check refl i
+call-story spelled s (ReceiveDllp bytes check) is i = kept s _ _ (keeps-dllp spelled s.port bytes check is) i
 call-story spelled s (Free place) is i = freed-story s place (slice_get s.held place) i
 call-story spelled s (Enter t) is i = entered-story (refusal_of s.port (need_of t)) s t refl i
 call-story spelled s Next is i = sent-story (choice_of s.port) s i

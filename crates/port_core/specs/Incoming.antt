@@ -4,6 +4,8 @@ use Rattle.flow_control.specs.declared.needs.Need.{Need}
 use Rattle.flow_control.specs.declared.limits.LaneCredits.{LaneCredits}
 use Rattle.flow_control.specs.declared.ledger.CreditLedger.{CreditLedger}
 use Rattle.flow_control.specs.Credits.{first_ledger, after_received, after_freed, ledger_of}
+use Rattle.link_crc.specs.declared.check.Check.{Check}
+use Rattle.link_crc.specs.Checks.{passed}
 use Rattle.link_replay.specs.declared.receiver.NakScheduled.{NakScheduled}
 use Rattle.link_replay.specs.declared.receiver.NakScheduled.TheVariants as naks
 use Rattle.link_replay.specs.declared.receiver.Reception.{Reception}
@@ -56,12 +58,12 @@ abbrev pub need_in : List ℕ → Option Need
 need_in packet = if nat_lt (length packet) 2 then None else need_at (tlp_in packet)
 
 -- fewer than two bytes count as a failed check
-abbrev pub is_good : List ℕ → Bool → Bool
-is_good packet good = good && nat_le 2 (length packet)
+abbrev pub is_good : List ℕ → Check → Bool
+is_good packet check = passed check && nat_le 2 (length packet)
 
 -- the receiver's answer
-abbrev pub reception_on : IncomingView → List ℕ → Bool → Reception
-reception_on e packet good = reception_of e.receiving (number_in packet) (is_good packet good)
+abbrev pub reception_on : IncomingView → List ℕ → Check → Reception
+reception_on e packet check = reception_of e.receiving (number_in packet) (is_good packet check)
 
 -- what becomes of the packet under this answer, and of the ledger
 abbrev pub received_under : Reception → CreditLedger → List ℕ → Received
@@ -76,12 +78,12 @@ ledger_under receptions.Duplicate l packet = l
 ledger_under receptions.NakNow l packet = l
 ledger_under receptions.Quiet l packet = l
 
-abbrev pub received_on : IncomingView → List ℕ → Bool → Received
-received_on e packet good = received_under (reception_on e packet good) e.ledger packet
+abbrev pub received_on : IncomingView → List ℕ → Check → Received
+received_on e packet check = received_under (reception_on e packet check) e.ledger packet
 
-abbrev pub after_packet : IncomingView → List ℕ → Bool → IncomingView
-after_packet e packet good =
-    record { receiving = after_receive e.receiving (number_in packet) (is_good packet good); ledger = ledger_under (reception_on e packet good) e.ledger packet }
+abbrev pub after_packet : IncomingView → List ℕ → Check → IncomingView
+after_packet e packet check =
+    record { receiving = after_receive e.receiving (number_in packet) (is_good packet check); ledger = ledger_under (reception_on e packet check) e.ledger packet }
 
 -- ---- what is sent back
 

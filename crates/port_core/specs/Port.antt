@@ -11,6 +11,8 @@ use Rattle.seq12.specs.Numbers.{distance_of}
 use Rattle.flow_control.specs.declared.needs.Need.{Need}
 use Rattle.flow_control.specs.declared.limits.LaneCredits.{LaneCredits}
 use Rattle.flow_control.specs.Credits.{after_freed, update_of}
+use Rattle.link_crc.specs.declared.check.Check.{Check}
+use Rattle.link_crc.specs.Checks.{passed}
 use Rattle.link_replay.specs.ReceiverView.{acknowledgment_of}
 use Rattle.link_replay.specs.SenderView.{next_item}
 use Rattle.lane_core.specs.declared.packet.Fate.TheVariants.{Good}
@@ -67,24 +69,24 @@ risen ours = record (new_port ours) { state = Init1; due = due_all_init nothing_
 
 -- ---- packets that arrive
 
-abbrev pub received : PortView → List ℕ → Bool → Received
-received p packet good = if is_up p.state then incoming.received_on p.incoming packet good else arrivals.Dropped
+abbrev pub received : PortView → List ℕ → Check → Received
+received p packet check = if is_up p.state then incoming.received_on p.incoming packet check else arrivals.Dropped
 
 -- a good packet sets Flag FI2
 abbrev pub state_after : LinkState → Bool → LinkState
 state_after state good = if good then activated state else state
 
-abbrev pub after_receive : PortView → List ℕ → Bool → PortView
-after_receive p packet good =
+abbrev pub after_receive : PortView → List ℕ → Check → PortView
+after_receive p packet check =
     if is_up p.state then
     record {
       ours = p.ours;
-      state = state_after p.state (incoming.is_good packet good);
+      state = state_after p.state (incoming.is_good packet check);
       peer = p.peer;
       sender = p.sender;
       given = p.given;
-      incoming = incoming.after_packet p.incoming packet good;
-      due = due_received p.ours p.due (incoming.received_on p.incoming packet good);
+      incoming = incoming.after_packet p.incoming packet check;
+      due = due_received p.ours p.due (incoming.received_on p.incoming packet check);
     }
     else p
 
@@ -198,11 +200,11 @@ is_inactive Init1 = false
 is_inactive Init2 = false
 is_inactive Active = false
 
-abbrev pub dllp_answer : PortView → List ℕ → Bool → Result DllpReceived DllpRefusal
-dllp_answer p bytes good = if not good || is_inactive p.state then Ok Gone else read_answer p (link_reading bytes)
+abbrev pub dllp_answer : PortView → List ℕ → Check → Result DllpReceived DllpRefusal
+dllp_answer p bytes check = if not (passed check) || is_inactive p.state then Ok Gone else read_answer p (link_reading bytes)
 
-abbrev pub after_dllp_received : PortView → List ℕ → Bool → PortView
-after_dllp_received p bytes good = if not good || is_inactive p.state then p else after_read p (link_reading bytes)
+abbrev pub after_dllp_received : PortView → List ℕ → Check → PortView
+after_dllp_received p bytes check = if not (passed check) || is_inactive p.state then p else after_read p (link_reading bytes)
 
 -- ---- packets to send
 

@@ -10,6 +10,7 @@ use Rattle.flow_control.specs.declared.limits.LaneCredits.{LaneCredits}
 use Rattle.flow_control.specs.Limits.{least_units}
 use Rattle.flow_control.specs.Needs.{need_of}
 use Rattle.flow_control.specs.Credits.{same, gate_of, ledger_of}
+use Rattle.link_crc.specs.declared.check.Check.{Check}
 use Rattle.link_replay.specs.CargoView.{CargoView}
 use Rattle.lane_core.specs.Content.{cargo_of, wire_bytes}
 use Rattle.port_core.specs.declared.init.Advertised.{Advertised}
@@ -31,9 +32,9 @@ use Rattle.port_core.specs.Port.{PortView, new_port, risen, received, after_rece
 pub data Call : Type 0 where
   Up : Call
   Down : Call
-  -- the bytes of a packet, whose check was good or failed
-  Receive : List ℕ → Bool → Call
-  ReceiveDllp : List ℕ → Bool → Call
+  -- the bytes of a packet, and its check
+  Receive : List ℕ → Check → Call
+  ReceiveDllp : List ℕ → Check → Call
   -- the owner gives back the credits of the packet at this place of those that hold some
   Free : ℕ → Call
   Enter : TlpView → Call
@@ -48,8 +49,8 @@ AreBytes bytes = (k : ℕ) → slice_index bytes k < 256
 
 -- what arrives is bytes, of any number and value
 abbrev pub IsCall : Call → Type 0
-IsCall (Receive packet good) = AreBytes packet
-IsCall (ReceiveDllp bytes good) = AreBytes bytes
+IsCall (Receive packet check) = AreBytes packet
+IsCall (ReceiveDllp bytes check) = AreBytes bytes
 IsCall _ = Unit {0}
 
 abbrev pub AreCalls : List Call → Type 0
@@ -111,13 +112,13 @@ holding_in arrivals.Quiet = []
 abbrev pub with_port : Story → PortView → Story
 with_port s p = record s { port = p }
 
-abbrev pub with_packet : Story → List ℕ → Bool → Story
-with_packet s packet good =
+abbrev pub with_packet : Story → List ℕ → Check → Story
+with_packet s packet check =
     record {
-      port = after_receive s.port packet good;
-      accepted = s.accepted ++ accepted_if (received s.port packet good) packet;
-      held = s.held ++ holding_in (received s.port packet good);
-      freed = s.freed ++ overflowing_in (received s.port packet good);
+      port = after_receive s.port packet check;
+      accepted = s.accepted ++ accepted_if (received s.port packet check) packet;
+      held = s.held ++ holding_in (received s.port packet check);
+      freed = s.freed ++ overflowing_in (received s.port packet check);
       entered = s.entered;
       used = s.used;
       heard = s.heard;
@@ -140,15 +141,15 @@ heard_if (Ok Took) (Err fault) = []
 heard_if (Ok Gone) r = []
 heard_if (Err refusal) r = []
 
-abbrev pub with_dllp : Story → List ℕ → Bool → Story
-with_dllp s bytes good =
-    record s { port = after_dllp_received s.port bytes good; heard = s.heard ++ heard_if (dllp_answer s.port bytes good) (link_reading bytes) }
+abbrev pub with_dllp : Story → List ℕ → Check → Story
+with_dllp s bytes check =
+    record s { port = after_dllp_received s.port bytes check; heard = s.heard ++ heard_if (dllp_answer s.port bytes check) (link_reading bytes) }
 
 abbrev pub after_call : Story → Call → Story
 after_call s Up = story_of (risen s.port.ours)
 after_call s Down = story_of (new_port s.port.ours)
-after_call s (Receive packet good) = with_packet s packet good
-after_call s (ReceiveDllp bytes good) = with_dllp s bytes good
+after_call s (Receive packet check) = with_packet s packet check
+after_call s (ReceiveDllp bytes check) = with_dllp s bytes check
 after_call s (Free place) = without_held s place (slice_get s.held place)
 after_call s (Enter t) = with_entered s t (refusal_of s.port (need_of t))
 after_call s Next = with_port s (after_next s.port)

@@ -5,6 +5,7 @@ ghost use Rattle.port_core.specs.Incoming as spec;
 use crate::needs::need_at;
 use dllp_core::{Class, Dllp};
 use flow_control::{CreditLedger, LaneCredits, Need};
+use link_crc::Check;
 use link_replay::{NakScheduled, Receiver, Reception};
 use seq12::Seq12;
 use std::marker::Model;
@@ -108,11 +109,11 @@ impl IncomingEnd {
     }
 
     /// A packet arrives, with a good check or a failed one; fewer than two bytes count as a failed check.
-    pub fn receive(&mut self, packet: &[u8], good: bool) -> Received
-        ensures answer { result ≡ spec.received_on self.old packet.now good }
-        ensures state { self.new ≡ spec.after_packet self.old packet.now good }
+    pub fn receive(&mut self, packet: &[u8], check: Check) -> Received
+        ensures answer { result ≡ spec.received_on self.old packet.now check }
+        ensures state { self.new ≡ spec.after_packet self.old packet.now check }
     {
-        let is_good = good && packet.len() >= 2;
+        let is_good = check.passed() && packet.len() >= 2;
         match self.receiver.receive(number_at(packet), is_good) {
             Reception::Accept => {
                 let need = need_in(packet);

@@ -4,6 +4,7 @@ ghost use Rattle.dllp_core.specs.declared.packet.Class.{Class};
 ghost use Rattle.flow_control.specs.declared.limits.LaneCredits.{LaneCredits};
 ghost use Rattle.flow_control.specs.Limits.{IsInLimits};
 ghost use Rattle.flow_control.specs.Credits.{ledger_of};
+ghost use Rattle.link_crc.specs.declared.check.Check.{Check};
 ghost use Rattle.link_replay.specs.ReceiverRuns.{AreConsecutive};
 ghost use Rattle.link_replay.specs.SenderView.{next_number};
 ghost use Rattle.link_replay.specs.Runs.{KeepsTheLast};
@@ -25,9 +26,9 @@ use link_replay::{
 
 /// A packet or DLLP that is discarded or refused changes nothing, nor does `next` if there is nothing to send.
 pub fn a_refused_call_changes_nothing()
-    ensures packet { (p : PortView) (packet : List ℕ) (good : Bool) → received p packet good ≡ Received.Dropped → after_receive p packet good ≡ p }
-    ensures dllp { (p : PortView) (bytes : List ℕ) (good : Bool) (r : _) → dllp_answer p bytes good ≡ Err r → after_dllp_received p bytes good ≡ p }
-    ensures gone { (p : PortView) (bytes : List ℕ) (good : Bool) → dllp_answer p bytes good ≡ Ok DllpReceived.Gone → after_dllp_received p bytes good ≡ p }
+    ensures packet { (p : PortView) (packet : List ℕ) (check : Check) → received p packet check ≡ Received.Dropped → after_receive p packet check ≡ p }
+    ensures dllp { (p : PortView) (bytes : List ℕ) (check : Check) (r : _) → dllp_answer p bytes check ≡ Err r → after_dllp_received p bytes check ≡ p }
+    ensures gone { (p : PortView) (bytes : List ℕ) (check : Check) → dllp_answer p bytes check ≡ Ok DllpReceived.Gone → after_dllp_received p bytes check ≡ p }
     ensures nothing { (p : PortView) → outgoing_of p ≡ Outgoing.Nothing → after_next p ≡ p }
 {}
 

@@ -2,7 +2,7 @@
 //! number, and credits (PCI Express Base 4.0, sections 2.6 and 3.2 to 3.6).
 //!
 //! A packet here is its sequence number's two bytes and its TLP. CRCs, framing, link training and time are the caller's:
-//! it says whether a packet's or a DLLP's check was good, and calls when a timer expires. Arriving TLPs may be of any
+//! it says what the check of a packet or of a DLLP was, and calls when a timer expires. Arriving TLPs may be of any
 //! kind: a port hands them up as they came, and its owner says when their credits are free.
 #![tactic(auto)]
 

@@ -14,6 +14,7 @@ use crate::outgoing::{OutgoingEnd, PACKET_BYTES};
 use arrayvec::ArrayVec;
 use dllp_core::{Class, Dllp, DllpFault};
 use flow_control::{LaneCredits, Need};
+use link_crc::Check;
 use seq12::Seq12;
 use std::alloc::Global;
 use std::marker::Model;
@@ -155,18 +156,18 @@ impl LinkPort {
 
     /// A packet arrives, with a good check or a failed one. While the link is down or in FC_INIT1 it is discarded, and no
     /// Ack is due. A good one ends FC_INIT2.
-    pub fn receive(&mut self, packet: &[u8], good: bool) -> Received
-        ensures answer { result ≡ spec.received self.old packet.now good }
-        ensures state { self.new ≡ spec.after_receive self.old packet.now good }
+    pub fn receive(&mut self, packet: &[u8], check: Check) -> Received
+        ensures answer { result ≡ spec.received self.old packet.now check }
+        ensures state { self.new ≡ spec.after_receive self.old packet.now check }
     {
-        let judged = self.judge(packet, good);
+        let judged = self.judge(packet, check);
         self.note(&judged)
     }
 
     /// What [`receive`](Self::receive) would do with a packet, which [`note`](Self::note) then does.
-    pub fn judge(&self, packet: &[u8], good: bool) -> Judged
-        ensures received { result.received ≡ spec.received self.now packet.now good }
-        ensures noted { spec.noted self.now result ≡ spec.after_receive self.now packet.now good }
+    pub fn judge(&self, packet: &[u8], check: Check) -> Judged
+        ensures received { result.received ≡ spec.received self.now packet.now check }
+        ensures noted { spec.noted self.now result ≡ spec.after_receive self.now packet.now check }
     {
         let mut incoming = self.incoming;
         if !self.state.is_up() {
@@ -176,9 +177,9 @@ impl LinkPort {
                 state: self.state,
             };
         }
-        let received = incoming.receive(packet, good);
+        let received = incoming.receive(packet, check);
         let mut state = self.state;
-        if good && packet.len() >= 2 {
+        if check.passed() && packet.len() >= 2 {
             state = state.activated();
         }
         Judged {
@@ -276,11 +277,11 @@ impl LinkPort {
     }
 
     /// A DLLP arrives, with a good check or a failed one. In FC_INIT1 only InitFCs count. A refused one changes nothing.
-    pub fn receive_dllp(&mut self, bytes: &[u8], good: bool) -> Result<DllpReceived, DllpRefusal>
-        ensures answer { result ≡ spec.dllp_answer self.old bytes.now good }
-        ensures state { self.new ≡ spec.after_dllp_received self.old bytes.now good }
+    pub fn receive_dllp(&mut self, bytes: &[u8], check: Check) -> Result<DllpReceived, DllpRefusal>
+        ensures answer { result ≡ spec.dllp_answer self.old bytes.now check }
+        ensures state { self.new ≡ spec.after_dllp_received self.old bytes.now check }
     {
-        if !good || self.state == LinkState::Inactive {
+        if !check.passed() || self.state == LinkState::Inactive {
             return Ok(DllpReceived::Gone);
         }
         let dllp = match decode(bytes) {

@@ -5,6 +5,7 @@ use endpoint_core::Room;
 use endpoint_log::Recording;
 use flow_control::LaneCredits;
 use hex_text::HexLine;
+use link_crc::Check;
 use linked_endpoint::{Arrived, LinkedEndpoint};
 use port_core::DllpReceived;
 use std::alloc::{AllocError, Global};
@@ -35,7 +36,7 @@ pub fn arrives(linked: &mut LinkedEndpoint, room: &mut Room, digits: &str) -> Op
     }
     let mut recording = Recording::Lost;
     let arrived = linked
-        .receive(line.bytes(), true, room, &mut recording)
+        .receive(line.bytes(), Check::Good, room, &mut recording)
         .ok()?;
     linked.settle(room, &mut recording).ok()?;
     Some(arrived)
@@ -47,7 +48,7 @@ pub fn takes(linked: &mut LinkedEndpoint, digits: &str) -> bool {
     if digits.len() > 512 || !line.read(digits.as_bytes()) {
         return false;
     }
-    linked.receive_dllp(line.bytes(), true) == Ok(DllpReceived::Took)
+    linked.receive_dllp(line.bytes(), Check::Good) == Ok(DllpReceived::Took)
 }
 
 /// Whether what is sent next has these digits, and zeros behind them; or, without digits, nothing is sent.

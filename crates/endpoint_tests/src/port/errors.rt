@@ -2,6 +2,7 @@
 use crate::port::session::{enters, refusal, sends, takes};
 use dllp_core::{Class, DllpFault};
 use flow_control::LaneCredits;
+use link_crc::Check;
 use port_core::{DllpReceived, DllpRefusal, EnterRefusal, LinkPort, LinkState, Received};
 
 /// Little credit.
@@ -35,8 +36,8 @@ fn begin(port: &mut LinkPort) -> bool {
 
 /// More than was advertised is handed up with a note, and its credits are back.
 fn overflow_is_noted(port: &mut LinkPort) -> bool {
-    let first = port.receive(&ADD_0, true);
-    let second = port.receive(&ADD_1, true);
+    let first = port.receive(&ADD_0, Check::Good);
+    let second = port.receive(&ADD_1, Check::Good);
     let is_first = match first {
         Received::Accepted { overflows, .. } => !overflows,
         _ => false,
@@ -80,7 +81,7 @@ fn no_credits(rt: HostRuntime) {
 fn acks_count_what_was_given(port: &mut LinkPort) -> bool {
     takes(port, [0xE0, 0x00, 0x00, 0x00])
         && enters(port, &ADD, 0)
-        && port.receive_dllp(&[0, 0, 0, 0], true) == Err(DllpRefusal::NotOutstanding)
+        && port.receive_dllp(&[0, 0, 0, 0], Check::Good) == Err(DllpRefusal::NotOutstanding)
         && sends(port, &ADD_0)
         && port.replay() == 1
         && takes(port, [0x00, 0x00, 0x00, 0x00])
@@ -98,7 +99,7 @@ fn dllps_that_are_refused(rt: HostRuntime) {
     let mut port = LinkPort::new(FEW, rt.alloc());
     port.up(rt.alloc());
     assert_eq!(rt;
-        port.receive_dllp(&[0x40, 0x3F, 0xC0, 0x40], true),
+        port.receive_dllp(&[0x40, 0x3F, 0xC0, 0x40], Check::Good),
         Err(DllpRefusal::CreditLimit)
     );
     assert!(rt; begin(&mut port));
@@ -121,10 +122,10 @@ fn dllps_that_are_refused(rt: HostRuntime) {
         (&[0x00, 0x00, 0x0F, 0xFF], Ok(DllpReceived::Took)),
     ];
     for (bytes, want) in rows {
-        assert_eq!(rt; port.receive_dllp(bytes, true), want);
+        assert_eq!(rt; port.receive_dllp(bytes, Check::Good), want);
     }
     assert_eq!(rt;
-        port.receive_dllp(&[0xC0, 0, 0, 0], false),
+        port.receive_dllp(&[0xC0, 0, 0, 0], Check::Failed),
         Ok(DllpReceived::Gone)
     );
     assert_eq!(rt; port.state(), LinkState::Init2);

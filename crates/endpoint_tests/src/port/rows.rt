@@ -2,6 +2,7 @@
 use crate::port::session::{CREDITS, enters, hands_up, initialize, refusal, sends, takes};
 use dllp_core::Class;
 use flow_control::Need;
+use link_crc::Check;
 use port_core::{
     DllpReceived, EnterRefusal, InitStage, LinkDllp, LinkPort, LinkState, Received, decode, need_at,
 };
@@ -25,17 +26,17 @@ const WRITE: [u8; 18] = [
 #[test]
 fn nothing_before_initialization(rt: HostRuntime) {
     let mut port = LinkPort::new(CREDITS, rt.alloc());
-    assert_eq!(rt; port.receive(&READ, true), Received::Dropped);
+    assert_eq!(rt; port.receive(&READ, Check::Good), Received::Dropped);
     assert!(rt; sends(&mut port, &[]));
     assert_eq!(rt;
-        port.receive_dllp(&[0x40, 8, 0, 0x80], true),
+        port.receive_dllp(&[0x40, 8, 0, 0x80], Check::Good),
         Ok(DllpReceived::Gone)
     );
     port.up(rt.alloc());
-    assert_eq!(rt; port.receive(&READ, true), Received::Dropped);
+    assert_eq!(rt; port.receive(&READ, Check::Good), Received::Dropped);
     assert_eq!(rt; refusal(&mut port, &ANSWER), Some(EnterRefusal::NotActive));
     assert_eq!(rt;
-        port.receive_dllp(&[0, 0, 0, 0], true),
+        port.receive_dllp(&[0, 0, 0, 0], Check::Good),
         Ok(DllpReceived::Gone)
     );
 }
@@ -58,9 +59,9 @@ fn packets_are_right(port: &mut LinkPort) -> bool {
         && sends(port, &[0x90, 0x04, 0x40, 0x10])
         && sends(port, &ANSWER_PACKET)
         && sends(port, &[])
-        && port.receive(&READ, true) == Received::Duplicate
-        && port.receive(&WRITE, false) == Received::NakNow
-        && port.receive(&WRITE, false) == Received::Quiet
+        && port.receive(&READ, Check::Good) == Received::Duplicate
+        && port.receive(&WRITE, Check::Failed) == Received::NakNow
+        && port.receive(&WRITE, Check::Failed) == Received::Quiet
         && sends(port, &[0x10, 0, 0, 0])
         && sends(port, &[])
         && hands_up(port, &WRITE)

@@ -1,6 +1,7 @@
 //! A port beside the bytes of its link.
 use arrayvec::ArrayVec;
 use flow_control::LaneCredits;
+use link_crc::Check;
 use port_core::{DllpReceived, EnterRefusal, LinkPort, Outgoing, Received};
 
 /// The credits of an endpoint: completions are infinite.
@@ -22,12 +23,12 @@ pub fn sends(port: &mut LinkPort, bytes: &[u8]) -> bool {
 
 /// Whether a DLLP takes effect.
 pub fn takes(port: &mut LinkPort, dllp: [u8; 4]) -> bool {
-    port.receive_dllp(&dllp, true) == Ok(DllpReceived::Took)
+    port.receive_dllp(&dllp, Check::Good) == Ok(DllpReceived::Took)
 }
 
 /// Whether a packet is handed up, and its credits go back at once.
 pub fn hands_up(port: &mut LinkPort, packet: &[u8]) -> bool {
-    match port.receive(packet, true) {
+    match port.receive(packet, Check::Good) {
         Received::Accepted {
             need: Some(need),
             overflows: false,

@@ -1,5 +1,5 @@
 //! CRCs of packets and DLLPs. The LCRCs are also zlib's, and all of them `crcmod`'s of Python and `Digest::CRC`'s of Perl.
-use link_crc::{DllpCheck, LcrcCheck, check_dllp, check_packet, dllp_crc, lcrc};
+use link_crc::{Check, LcrcCheck, check_dllp, check_packet, dllp_crc, lcrc};
 
 /// Packet 000h, a FetchAdd, and its LCRC.
 const FETCH_ADD: [u8; 22] = [
@@ -62,11 +62,11 @@ fn checks_of_packets(rt: HostRuntime) {
 fn checks_of_dllps(rt: HostRuntime) {
     assert_eq!(rt;
         check_dllp([0x90, 0x00, 0x80, 0x03, 0x19, 0x8B]),
-        DllpCheck::Good
+        Check::Good
     );
     assert_eq!(rt;
         check_dllp([0x90, 0x00, 0x80, 0x03, 0xE6, 0x74]),
-        DllpCheck::Failed
+        Check::Failed
     );
 }
 
@@ -75,6 +75,6 @@ fn checks_of_dllps(rt: HostRuntime) {
 fn an_error_that_passes(rt: HostRuntime) {
     assert_eq!(rt;
         check_dllp([0x90 ^ 0x11, 0xA0, 0x80 ^ 0x01, 0x03, 0x19, 0x8B]),
-        DllpCheck::Good
+        Check::Good
     );
 }

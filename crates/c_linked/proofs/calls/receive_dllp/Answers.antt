@@ -9,8 +9,8 @@ same : (c : goal.In-Err) → with_linked (record { linked = c.session.inside.lin
 same c =
     let old = c.session.inside.linked in
     ap (λ (l : LinkedView). with_linked (record { linked = old; recording = c.session.inside.recording }) l)
-    (kept old c.receive_dllp.new.self (after_dllp_received old.port c.args.dllp.now c.args.good) c.receive_dllp.ensures.state
-    (c.a_refused_call_changes_nothing.ensures.dllp old.port c.args.dllp.now c.args.good c.in-Err.refusal
+    (kept old c.receive_dllp.new.self (after_dllp_received old.port c.args.dllp.now c.args.check) c.receive_dllp.ensures.state
+    (c.a_refused_call_changes_nothing.ensures.dllp old.port c.args.dllp.now c.args.check c.in-Err.refusal
     (sym c.receive_dllp.ensures.answer ∙ c.in-Err.is)))
     ∙ c.session.view_is
 

@@ -7,5 +7,5 @@ use Rattle.linked_engine.proofs.lines.Lines.receive.Goals as goal
 pub returns-clause-state : goal.returns-clause-state
 returns-clause-state c =
     let s = c.self.inside in
-    did_lines s.linked c.receive.new.self s.recording c.receive.new.recording s.has_crc (Receive c.args.packet.now c.args.good ∷ []) c.in_ok-arrived.ensures.ok c.in_ok-arrived.ensures.recorded c.in_ok-check.ensures
-    ∙ ap (λ (u : LinkLines). received u c.args.packet.now c.args.good) c.self.view_is
+    did_lines s.linked c.receive.new.self s.recording c.receive.new.recording s.has_crc (Receive c.args.packet.now c.args.check ∷ []) c.in_ok-arrived.ensures.ok c.in_ok-arrived.ensures.recorded c.in_ok-check.ensures
+    ∙ ap (λ (u : LinkLines). received u c.args.packet.now c.args.check) c.self.view_is
