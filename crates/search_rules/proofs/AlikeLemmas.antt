@@ -12,27 +12,27 @@ use Rattle.log_runs.specs.EventView as events
 use Rattle.log_runs.specs.declared.Step.{Step}
 use Rattle.log_runs.specs.declared.Step.TheVariants as steps
 use Rattle.log_runs.specs.LogView.{LogView}
-use Rattle.log_runs.specs.Runs.{State, MayPass, MayAct, Allowed, Leads, Live, Dead, next, acted_on, bytes_after}
+use Rattle.log_runs.specs.Runs.{State, MayPass, MayAct, Leads, Live, next, acted_on, bytes_after}
 use Rattle.search_rules.specs.Rules.{Suits}
 use Rattle.search_rules.specs.Alike.{AreAlike, IsDueBefore, GoesFirst}
 use Rattle.search_rules.proofs.RuleLemmas.{clash, set_here, set_there, set_swap, acted_kept, same_state, suits, run, before}
 
 -- a posted write is no other request
-apart : (x : Option EventView) (i j : ℕ) (one other : Op) (told asked : Option Reply) → x ≡ Some (events.Sub i one told) → x ≡ Some (events.Sub j other asked)
+pub apart : (x : Option EventView) (i j : ℕ) (one other : Op) (told asked : Option Reply) → x ≡ Some (events.Sub i one told) → x ≡ Some (events.Sub j other asked)
     → is_posted one ≡ false → is_posted other ≡ true → ⊥
 apart x i j one other told asked e f unposted posted =
     let same : one ≡ other = cc in
     clash posted (ap is_posted (sym same) ∙ unposted)
 
-same_requester : (x : Option EventView) (i j : ℕ) (one other : Op) (told asked : Option Reply) → x ≡ Some (events.Sub i one told) → x ≡ Some (events.Sub j other asked) → i ≡ j
+pub same_requester : (x : Option EventView) (i j : ℕ) (one other : Op) (told asked : Option Reply) → x ≡ Some (events.Sub i one told) → x ≡ Some (events.Sub j other asked) → i ≡ j
 same_requester x i j one other told asked e f = cc
 
-acts_by : (x : Extent) (m : List ℕ) (i : ℕ) (op : Op) (told : Option Reply) (o : Option EventView) → o ≡ Some (events.Sub i op told) → acted_on x m o ≡ bytes_after x m op
+pub acts_by : (x : Extent) (m : List ℕ) (i : ℕ) (op : Op) (told : Option Reply) (o : Option EventView) → o ≡ Some (events.Sub i op told) → acted_on x m o ≡ bytes_after x m op
 unfolding acted_on
 acts_by x m i op told o e = ap (acted_on x m) e
 
 -- requests that are alike leave the same
-leaves_same : (log : LogView) (b c : ℕ) (m : List ℕ) → AreAlike log b c → acted_on log.extent m (slice_get log.events b) ≡ acted_on log.extent m (slice_get log.events c)
+pub leaves_same : (log : LogView) (b c : ℕ) (m : List ℕ) → AreAlike log b c → acted_on log.extent m (slice_get log.events b) ≡ acted_on log.extent m (slice_get log.events c)
 leaves_same log b c m h =
     acts_by log.extent m h.requester h.op h.told (slice_get log.events b) h.first ∙ sym (acts_by log.extent m h.other h.op h.told (slice_get log.events c) h.second)
 

@@ -9,3 +9,5 @@ pub mod JunkLemmas
 pub mod MissLemmas
 pub mod NeverLemmas
 pub mod AlikeLemmas
+pub mod IdleLemmas
+pub mod RestLemmas

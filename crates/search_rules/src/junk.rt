@@ -17,9 +17,9 @@ use tlp_core::OpRef;
 
 /// A request: its operation, and its answer, if it has one.
 #[derive(Clone, Copy)]
-struct Request<'a> {
-    op: &'a OpRef<'a>,
-    told: Option<&'a ReplyRef<'a>>,
+pub(crate) struct Request<'a> {
+    pub(crate) op: &'a OpRef<'a>,
+    pub(crate) told: Option<&'a ReplyRef<'a>>,
 }
 
 /// The memory would do the operation.
@@ -169,7 +169,7 @@ fn misses_there(log: &Log, one: Request, other: &OpRef<'_>, third: Request) -> b
 }
 
 /// What the third leaves at the addresses of the other is nothing to the operation.
-fn leaves_junk(log: &Log, one: Request, other: &OpRef<'_>, third: Request) -> bool
+pub(crate) fn leaves_junk(log: &Log, one: Request, other: &OpRef<'_>, third: Request) -> bool
     ensures { IsTrue result →
         specs.LeavesJunk log.now.extent one.entry.op.now (told_of one.entry.told) other.now third.entry.op.now (told_of third.entry.told) }
 {

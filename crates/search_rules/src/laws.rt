@@ -5,8 +5,10 @@ ghost use Rattle.seq_memory.specs.Entries.{Reply};
 ghost use Rattle.log_runs.specs.EventView as events;
 ghost use Rattle.log_runs.specs.declared.Step.TheVariants as steps;
 ghost use Rattle.log_runs.specs.LogView.{LogView};
-ghost use Rattle.log_runs.specs.Runs.{State, MayAct, Live, Dead, IsForced, next, start};
+ghost use Rattle.log_runs.specs.declared.Step.{Step};
+ghost use Rattle.log_runs.specs.Runs.{State, Allowed, MayAct, Live, Dead, IsForced, next, start};
 ghost use Rattle.search_rules.specs.Alike.{GoesFirst};
+ghost use Rattle.search_rules.specs.Idle.{GoesOrIdles, HasMore, IsIdle};
 ghost use Rattle.search_rules.specs.Rules.{NeverBrings, NeverPuts, Yields, LetsFirst, IsOutside, IsLost, LacksByte, IsLast, IsFirst, IsOverJunk, ChangesNothing, NeverSuits};
 
 use search_effects::laws::{a_request_sees_its_addresses, apart_requests_commute};
@@ -74,6 +76,24 @@ pub fn the_first_of_alike_requests_acts_first()
     ensures { (log : LogView) (s : State) (b c : ℕ) → GoesFirst log s b c → MayAct log s c → Live log (next log s (steps.Act c)) →
         Live log (next log s (steps.Act b)) }
 {}
+
+/// Where more requests have acted to which no answer comes, no more leads to the end.
+pub fn more_acted_is_no_better()
+    ensures { (log : LogView) (s t : State) → HasMore log s t → Dead log s → Dead log t }
+{}
+
+/// A request to which no answer comes may wait, where nobody who is pending needs what it leaves: if no step leads to the end
+/// but by the act of such a request, none does; and if each other step that does is as good as one, so is that. What is alike
+/// may wait then, too.
+pub fn idle_requests_may_wait()
+    ensures dead { (log : LogView) (s : State) → (s.event ≡ length log.events → ⊥) → ((x : Step) → Allowed log s x → GoesOrIdles log s ⊥ x) → Dead log s }
+    ensures live { (log : LogView) (s t : State) → (s.event ≡ length log.events → ⊥) → ((x : Step) → Allowed log s x → GoesOrIdles log s (Live log t) x) →
+        Live log s → Live log t }
+    ensures alike { (log : LogView) (s : State) (p b : ℕ) → GoesFirst log s p b → MayAct log s b → IsIdle log s p → IsIdle log s b }
+{
+    apart_requests_commute();
+    only_the_place_changes();
+}
 
 /// An event that is no submission brings nothing, yields to any request and lets it be the first.
 #[tactic(auto, using(crate::proofs::PairLemmas::idle_brings, crate::proofs::PairLemmas::idle_yields, crate::proofs::FirstLemmas::idle_first))]

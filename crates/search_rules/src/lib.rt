@@ -6,7 +6,8 @@
 //! that could act before it takes away for good what it needs, or makes no difference to it; and if none
 //! that has one of its bytes can act before it. It acts at once, too, if others may act in turn after it
 //! and leave only junk: nobody who is left then needs what it overwrote, or what any of them put there.
-//! What is junk is judged word by word. Of requests that are alike the one that is due first acts first.
+//! What is junk is judged word by word. Of requests that are alike the one that is due first acts first. One that was never
+//! answered may wait where nobody needs what it leaves.
 //! [`laws`] says this of all runs, whatever the operations do. What two requests of a log do to each
 //! other is told by their bytes.
 //!
@@ -16,13 +17,16 @@
 
 mod alike;
 mod answers;
+mod idle;
 mod junk;
 pub mod laws;
 mod missing;
 mod pairs;
+mod resting;
 
 pub use alike::are_alike;
 pub use answers::first_unanswerable;
+pub use idle::{Made, is_junk_behind, is_unanswered, rests_behind};
 pub use junk::{is_junk_at, is_served, is_within, leaves_junk_at, overlooks};
 pub use missing::{Need, need_at, never_puts};
 pub use pairs::{

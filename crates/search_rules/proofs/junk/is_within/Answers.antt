@@ -1,4 +1,3 @@
-use Rattle.search_effects.specs.Effects.{told_of}
 use Rattle.search_rules.proofs.PairLemmas.{sub_at}
 use Rattle.search_rules.proofs.MissLemmas.{within_at}
 use Rattle.search_rules.proofs.junk.is_within.Goals as goal
