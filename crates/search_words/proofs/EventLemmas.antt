@@ -14,6 +14,7 @@ use Rattle.log_runs.specs.EventView.{EventView, event_of}
 use Rattle.log_runs.specs.EventView as events
 use Rattle.log_runs.specs.LogView.{LogView}
 use Rattle.search_rules.specs.Junk.{IsJunk, LeavesJunk, word}
+use Rattle.search_rules.specs.Idle.{IsJunkBehind}
 use Rattle.search_rules.specs.Rules.{IsJunkAt, LeavesJunkAt}
 
 pub sub_at : (es : List EventView) (b : ℕ) (r : Event) (i : ℕ) (op : Op) (told : Option Reply) → r ≡ lent.Sub i op told → Some (event_of r) ≡ slice_get es b
@@ -66,6 +67,13 @@ leaves_at log b g w i l one third told had seen behind junk i2 l2 one2 third2 to
     (subst (λ z. LeavesJunk x one2 told2 (word x w) z had) (one_op (slice_get log.events g) l l2 third third2 had had2 behind at2)
     (subst (λ z. LeavesJunk x one2 z (word x w) third had) (one_reply (slice_get log.events b) i i2 one one2 told told2 seen at)
     (subst (λ z. LeavesJunk x z told (word x w) third had) (one_op (slice_get log.events b) i i2 one one2 told told2 seen at) junk)))
+
+pub behind_at : (log : LogView) (b i : ℕ) (one third : Op) (told : Option Reply) (made : Reply) → slice_get log.events b ≡ Some (events.Sub i one told)
+    → LeavesJunk log.extent one told third third (Some made) → IsJunkBehind log third made b
+behind_at log b i one third told made seen junk i2 one2 told2 at =
+    let x = log.extent in
+    subst (λ z. LeavesJunk x one2 z third third (Some made)) (one_reply (slice_get log.events b) i i2 one one2 told told2 seen at)
+    (subst (λ z. LeavesJunk x z told third third (Some made)) (one_op (slice_get log.events b) i i2 one one2 told told2 seen at) junk)
 
 -- ---- replies
 

@@ -15,10 +15,11 @@ use Rattle.log_runs.specs.LogView.{LogView}
 use Rattle.log_runs.specs.Runs.{reply_of, bytes_after, acted_on}
 use Rattle.search_words.specs.Lists.{Has, InList}
 use Rattle.search_words.specs.WordsView.{WordsView}
-use Rattle.search_words.specs.Words.{value_in, NeedsWord, IsCareless, IsKnownAt, IsWords, MayNeed, NamesWord, HasWord, HasWordAt, NeedsWordAt, LeavesWordAt, IsOutAt, key}
+use Rattle.search_words.specs.Words.{value_in, NeedsWord, LeavesWord, IsCareless, IsKnownAt, IsWords, MayNeed, NamesWord, HasWord, HasWordAt, NeedsWordAt, LeavesWordAt, IsOutAt, key}
 use Rattle.search_rules.specs.Junk.{Overlooks, Touches, word}
+use Rattle.search_rules.specs.Idle.{IsJunkBehind}
 use Rattle.search_rules.specs.Rules.{Suits, Ends, NeverBrings, Yields, LetsFirst, Names, IsJunkAt, LeavesJunkAt, AreApartThere}
-use Rattle.search_words.proofs.EventLemmas.{junk_at, leaves_at}
+use Rattle.search_words.proofs.EventLemmas.{junk_at, leaves_at, behind_at}
 use Rattle.search_words.proofs.EventLemmas.{way_of}
 use Rattle.search_words.proofs.EventLemmas.{address_at, count_at}
 use Rattle.search_words.proofs.WordLemmas.{value_alike}
@@ -168,6 +169,33 @@ module _ (log : LogView) (t : WordsView) (words : IsWords log t) where
         (alike_there (after x.base x.block k third) n w same ∙ leaves k agrees (ap (λ z. refusal x.base z x.block third) size ∙ served))
         agreed))))
   ]
+
+  -- what the operation leaves, where it is answered so and v stands at one of its words then
+  module _ (third : Op) (made : Reply) (b w v : ℕ) (inside : HasWord log.extent.base third w) (served : refusal log.extent.base log.extent.size log.extent.block third ≡ None)
+      (leaves : LeavesWord log.extent third (Some made) w v) where
+    over_all : (one : Op) (told : Option Reply) → count_of third ≤ 4 → Overlooks log.extent one told (word log.extent w) → Overlooks log.extent one told third
+    over_all one told few over m n size same = over m n size (record {
+      size = same.size;
+      others = λ k out. same.others k (elim out [
+        | inl before ↦ inl (omega (arith, before, few, inside.1, inside.2))
+        | inr behind ↦ inr (omega (arith, behind, few, inside.1, inside.2))
+      ]);
+    })
+
+    stands : (k n : List ℕ) → length k ≡ log.extent.size → Agrees log.extent.base log.extent.block k third (Some made)
+        → AreSameAt log.extent.base third (after log.extent.base log.extent.block k third) n → value_in n (4 * w) ≡ v
+    stands k n size agrees same =
+        let x = log.extent in
+        value_alike n (after x.base x.block k third) (4 * w) (4 * w) (λ i l. same (4 * w + i) (omega (arith, inside.1)) (omega (arith, inside.2, l)))
+        ∙ leaves k agrees (ap (λ z. refusal x.base z x.block third) size ∙ served)
+
+    pub made_or : NamesWord log b w → w < log.extent.size / 4
+        → MayNeed t w v b ⊎ (Has t.careless w b × (count_of third ≤ 4 → IsJunkBehind log third made b)) ⊎ IsJunkBehind log third made b
+    made_or (i, op, told, at, touches) within = elim (by_need b i w v op told at touches within) [
+      | inl need ↦ inl need
+      | inr (inl (listed, over)) ↦ inr (inl (listed, λ few. behind_at log b i op third told made at (inr (inl (over_all op told few over)))))
+      | inr (inr misses) ↦ inr (inr (behind_at log b i op third told made at (inr (inr (λ k n size agrees same agreed. misses n (stands k n size agrees same) agreed)))))
+    ]
 
   module _ (brings : (base block : ℕ) (m : List ℕ) (one other : Op) (reply : Reply) → (refusal base (length m) block one ≡ None → answer base block (after base block m one) other ≡ reply → ⊥)
       → answer base block (after base block m one) other ≡ reply → answer base block m other ≡ reply)

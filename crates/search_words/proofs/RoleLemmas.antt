@@ -1,6 +1,6 @@
 -- What AtomicOps find and leave.
-use Rattle.std.proofs.Common.{◌≡◌, ◌∙◌, ℕ, zero, suc, ◌-◌, ◌+◌, ◌<◌, Bool, true, List, [], ◌∷◌, Some, None, Option, length, replicate, refl, sym, ap, subst}
-use Rattle.std.specs.Prelude.{slice_get, slice_index}
+use Rattle.std.proofs.Common.{◌≡◌, ◌∙◌, ℕ, zero, suc, ◌-◌, ◌+◌, ◌<◌, true, List, [], Some, None, Option, length, replicate, refl, sym, ap, subst}
+use Rattle.std.specs.Prelude.{slice_index}
 use Rattle.std.proofs.lemmas.Option.{same_Some}
 use Rattle.arrayvec.specs.ArrayVec.{ArrayVec}
 use Rattle.tlp_core.specs.Operation.{address_of, count_of}

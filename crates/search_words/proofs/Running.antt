@@ -13,7 +13,7 @@ use Rattle.log_runs.specs.declared.Step.{Step}
 use Rattle.log_runs.specs.declared.Step.TheVariants as steps
 use Rattle.log_runs.specs.LogView.{LogView}
 use Rattle.log_runs.specs.Runs.{State, MayPass, MayAct, Leads, Dead, next, start, acted_on, bytes_after}
-use Rattle.search_rules.specs.Rules.{Suits, NeverBrings}
+use Rattle.search_rules.specs.Rules.{Suits}
 use Rattle.search_words.specs.declared.roles.Role.{Role}
 use Rattle.search_words.specs.declared.roles.Role.TheVariants as roles
 use Rattle.search_words.specs.Counts.{AreRoles, IsFirst, IsOverdrawn, IsRole, Takes, puts_of, sum_of, takes_of}

@@ -3,7 +3,7 @@
 //! [`Words`] lists the requests of a log by the words that they name: those that need a value of a word,
 //! and those that leave one there, by that value; and those that write all of it, whatever stands there.
 //! So whoever may be something to a request is found without a look at all others: [`near_there`],
-//! [`near_junk`], [`near_needed`], [`near_left`], [`near_value`] and [`near_named`] return lists for a
+//! [`near_junk`], [`near_needed`], [`near_left`], [`near_made`], [`near_value`] and [`near_named`] return lists for a
 //! [`Stretch`], a word and a part of the log, and say of each request that isn't in them that it is
 //! nothing. Whoever writes all of a word needs nothing that stands or is left there. [`span_of`] says
 //! which words a request has.
@@ -30,6 +30,7 @@ mod words;
 
 pub use counting::first_overdrawn;
 pub use near::{
-    Near, Stretch, near_junk, near_left, near_named, near_needed, near_there, near_value, span_of,
+    Near, Stretch, near_junk, near_left, near_made, near_named, near_needed, near_there,
+    near_value, span_of,
 };
 pub use words::{Words, words_of};

@@ -2,13 +2,15 @@
 //!
 //! Each word of a request is looked at by itself: [`span_of`] says which it has. Whoever names bytes of
 //! such a word either is in one of the lists that are returned for it, or is nothing to the request.
-ghost use Rattle.std.specs.Prelude.{◌≡◌, ◌+◌, ◌*◌, ◌<◌, ◌≤◌, ◌/◌, ◌⊎◌, ℕ, Option, Some, IfSome, IsTrue, length, slice_get};
+ghost use Rattle.std.specs.Prelude.{◌≡◌, ◌+◌, ◌*◌, ◌<◌, ◌≤◌, ◌/◌, ◌⊎◌, ℕ, Option, Some, None, IfSome, IsTrue, length, slice_get};
 ghost use Rattle.tlp_core.specs.Ops.{Op};
 ghost use Rattle.tlp_core.specs.Operation.{address_of, count_of};
 ghost use Rattle.seq_memory.specs.Entries.{Reply};
+ghost use Rattle.seq_memory.specs.Step.{refusal};
 ghost use Rattle.log_runs.specs.EventView as events;
 ghost use Rattle.search_words.specs.Lists.{Has, InList};
-ghost use Rattle.search_words.specs.Words.{value_in, AllRise, IsWords, MayNeed, NamesWord, IsNear, HasWord, HasWordAt, NeedsWordAt, LeavesWordAt, IsOutAt, key};
+ghost use Rattle.search_words.specs.Words.{value_in, AllRise, IsWords, MayNeed, NamesWord, IsNear, HasWord, HasWordAt, NeedsWordAt, LeavesWord, LeavesWordAt, IsOutAt, key};
+ghost use Rattle.search_rules.specs.Idle.{IsJunkBehind};
 ghost use Rattle.search_rules.specs.Rules.{NeverBrings, Yields, LetsFirst, Names, IsJunkAt, LeavesJunkAt, AreApartThere};
 
 use crate::lists::window;
@@ -16,7 +18,7 @@ use crate::words::{Words, left_at, needed_at, number_of, place_in, value_in};
 use log_runs::laws::headers_are_of_events;
 use log_runs::{Event, EventHeader, Log};
 use search_effects::laws::what_takes_a_reply_away_yields;
-use search_rules::is_served;
+use search_rules::{Made, is_served};
 
 /// Requests in four lists. One may be in several of them.
 #[derive(Clone, Copy)]
@@ -256,6 +258,52 @@ pub fn near_left<'a>(words: &'a Words, log: &Log, g: usize, stretch: Stretch) ->
 {
     match left_of(log, g, stretch.word) {
         Some(value) => near_by_need(words, stretch, value, &[]),
+        None => near_by_name(words, stretch),
+    }
+}
+
+/// [`careless_at`], if a range of so many bytes may have more than the word.
+fn careless_beside(words: &Words, stretch: Stretch, size: u32) -> &[usize]
+    requires { (n : ℕ) × AllRise words.now n }
+    ensures { 4 < size → (b : ℕ) → stretch.from ≤ b → b < stretch.to → Has words.now.careless stretch.word b → InList result.now b }
+{
+    if size <= 4 {
+        return &[];
+    }
+    careless_at(words, stretch)
+}
+
+/// What the operation, which would be served, leaves at the word, all of which is in its range, where it is answered so.
+fn made_at(log: &Log, made: Made, word: u64) -> Option<u64>
+    requires { word < log.now.extent.size / 4 }
+    ensures word { IfSome result (λ v. HasWord log.now.extent.base made.entry.op.now word) }
+    ensures served { IfSome result (λ v. refusal log.now.extent.base log.now.extent.size log.now.extent.block made.entry.op.now ≡ None) }
+    ensures leaves { IfSome result (LeavesWord log.now.extent made.entry.op.now (Some made.entry.reply.now) word) }
+    ensures few { IfSome result (λ v. v < 4294967296) }
+    ensures words { IfSome result (λ v. word < 262144) }
+{
+    let Made { op, reply } = made;
+    let extent = log.extent();
+    if !has_word(extent.base(), (op.address(), op.size()), word) || !is_served(log, op) {
+        return None;
+    }
+    let value = left_at(log, op, Some(reply), word)?;
+    Some(value)
+}
+
+/// The requests of the stretch to which it may be something what the operation leaves, where it is answered so; of those that
+/// name bytes of the word.
+pub fn near_made<'a>(words: &'a Words, log: &Log, made: Made, stretch: Stretch) -> Near<'a>
+    requires words { IsWords log.now words.now }
+    requires word { stretch.word < log.now.extent.size / 4 }
+    ensures { (b : ℕ) → stretch.from ≤ b → b < stretch.to → NamesWord log.now b stretch.word →
+        IsNear result b ⊎ IsJunkBehind log.now made.entry.op.now made.entry.reply.now b }
+{
+    match made_at(log, made, stretch.word) {
+        Some(value) => {
+            let careless = careless_beside(words, stretch, made.op.size());
+            near_by_need(words, stretch, value, careless)
+        }
         None => near_by_name(words, stretch),
     }
 }
