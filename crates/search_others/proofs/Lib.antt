@@ -3,3 +3,4 @@ pub mod ApartLemmas
 pub mod Suiting
 pub mod NothingLemmas
 pub mod DueLemmas
+pub mod PassLemmas

@@ -19,7 +19,7 @@ pub struct Loss {
 }
 
 /// As many requests as are seen in the time of a look at one, where only a few numbers of them are.
-const QUICK: u64 = 8;
+pub(crate) const QUICK: u64 = 8;
 
 /// The range of the request is one word.
 fn is_word(log: &Log, q: usize) -> bool {
