@@ -1,0 +1,2 @@
+pub mod WithFault
+pub mod Free
