@@ -19,4 +19,5 @@ abbrev pub IsNew : FaultKind → List Record → Type 0
 IsNew (kinds.Twice by) rs = IsFree by rs
 IsNew (kinds.Apart by) rs = IsFree by rs
 IsNew (kinds.Early by m) rs = IsFree by rs
+IsNew (kinds.Refused by) rs = IsFree by rs
 IsNew _ rs = Unit {0}

@@ -3,10 +3,11 @@ ghost use Rattle.std.specs.Prelude.{◌≡◌, ◌++◌, ◌∷◌, [], ◌==◌
 ghost use Rattle.log_faults.specs.WithFault as spec;
 
 use crate::faults::{Fault, FaultKind};
-use crate::operations::done;
+use crate::operations::{carried_out, done};
 use history_words::RecordRef;
 use seq_memory::Extent;
 use std::alloc::{AllocError, Global};
+use tlp_core::OpRef;
 use trace_store::{RecordStore, Records};
 
 /// Adds the request as the first one of that requester.
@@ -15,6 +16,43 @@ fn put_own(log: &mut RecordStore, by: u8, asked: &Option<RecordRef<'_>>) -> Resu
 {
     match asked {
         Some(RecordRef::Sub { op, n, .. }) => log.submitted(by, 0, *n, op),
+        _ => Ok(()),
+    }
+}
+
+/// Whose requests these are, and the `n` of their submissions.
+#[derive(Clone, Copy)]
+struct Of {
+    by: u8,
+    n: u64,
+}
+
+/// Adds submissions of these operations, under the numbers from 0 on.
+fn put_in_turn(log: &mut RecordStore, of: Of, parts: &[OpRef<'_>]) -> Result<(), AllocError>
+    ensures { OnOk result (log.new ≡ record log.old { records = log.old.records ++ spec.in_turn of.by 0 of.n parts.now }) }
+{
+    let mut number = 0u32;
+    for op in parts {
+        let Some(next) = number.checked_add(1) else {
+            return Err(AllocError);
+        };
+        log.submitted(of.by, number, of.n, op)?;
+        number = next;
+    }
+    Ok(())
+}
+
+/// Adds the parts of the request as those of that requester.
+fn put_own_parts(
+    log: &mut RecordStore,
+    by: u8,
+    asked: &Option<RecordRef<'_>>,
+    parts: &[OpRef<'_>],
+) -> Result<(), AllocError>
+    ensures { OnOk result (log.new ≡ record log.old { records = log.old.records ++ spec.own_parts by asked.now parts.now }) }
+{
+    match asked {
+        Some(RecordRef::Sub { n, .. }) => put_in_turn(log, Of { by, n: *n }, parts),
         _ => Ok(()),
     }
 }
@@ -162,14 +200,43 @@ fn put_changed(log: &mut RecordStore, fault: Fault, item: &Item<'_>) -> Result<(
     log.push(&item.what)
 }
 
+/// What is asked for at the place of a fault, and the parts of a request that is carried out, though it isn't served.
+#[derive(Drop)]
+struct Asked<'a> {
+    what: Option<RecordRef<'a>>,
+    parts: Vec<OpRef<'a>>,
+}
+
+/// Adds the parts of the request before the record, if it is the one there.
+fn put_refused(
+    log: &mut RecordStore,
+    by: u8,
+    place: usize,
+    asked: &Asked<'_>,
+    item: &Item<'_>,
+) -> Result<(), AllocError>
+    ensures { OnOk result (log.new ≡ record log.old {
+      records = log.old.records ++
+          ((if item.now.place == place then spec.own_parts by asked.now.what asked.now.parts.items else []) ++ item.now.what ∷ []);
+    }) }
+{
+    if item.place == place {
+        put_own_parts(log, by, &asked.what, &asked.parts)?;
+    }
+    log.push(&item.what)
+}
+
 /// Adds what stands in place of the record.
 fn put(
     log: &mut RecordStore,
     fault: Fault,
-    asked: &Option<RecordRef<'_>>,
+    asked: &Asked<'_>,
     item: &Item<'_>,
 ) -> Result<(), AllocError>
-    ensures { OnOk result (log.new ≡ record log.old { records = log.old.records ++ spec.told fault.kind fault.place asked.now item.now.place item.now.what }) }
+    ensures { OnOk result (log.new ≡ record log.old {
+      records = log.old.records ++
+          spec.told fault.kind fault.place asked.now.what asked.now.parts.items item.now.place item.now.what;
+    }) }
 {
     let place = fault.place;
     match fault.kind {
@@ -177,9 +244,25 @@ fn put(
         FaultKind::Swapped => put_changed(log, fault, item),
         FaultKind::First => put_changed(log, fault, item),
         FaultKind::Last => put_changed(log, fault, item),
-        FaultKind::Twice(by) => put_twice(log, by, place, asked, item),
-        FaultKind::Apart(by) => put_apart(log, by, asked, &item.what),
-        FaultKind::Early(by, before) => { put_early(log, by, Move { place, before }, asked, item) }
+        FaultKind::Twice(by) => put_twice(log, by, place, &asked.what, item),
+        FaultKind::Apart(by) => put_apart(log, by, &asked.what, &item.what),
+        FaultKind::Early(by, before) => { put_early(log, by, Move { place, before }, &asked.what, item) }
+        FaultKind::Refused(by) => put_refused(log, by, place, asked, item),
+    }
+}
+
+/// The parts of what is asked for, if it is carried out, though it isn't served.
+fn parts_of<'a>(
+    alloc: Global,
+    extent: Extent,
+    kind: FaultKind,
+    asked: &Option<RecordRef<'a>>,
+) -> Result<Vec<OpRef<'a>>, AllocError>
+    ensures { IfOk result (λ v. v.items ≡ spec.parts_of kind extent asked.now) }
+{
+    match (kind, asked) {
+        (FaultKind::Refused(_), Some(RecordRef::Sub { op, .. })) => carried_out(alloc, extent, op),
+        _ => Ok(Vec::new(alloc)),
     }
 }
 
@@ -192,7 +275,9 @@ pub fn changed(
 ) -> Result<RecordStore, AllocError>
     ensures { IfOk result (λ t. t ≡ spec.with_fault fault (record { base = extent.base; size = extent.size; block = extent.block; records = records.now })) }
 {
-    let asked = records.get(fault.place);
+    let what = records.get(fault.place);
+    let parts = parts_of(alloc, extent, fault.kind, &what)?;
+    let asked = Asked { what, parts };
     let mut log = RecordStore::new(alloc, extent);
     for place in 0..records.len() {
         if let Some(what) = records.get(place) {

@@ -18,6 +18,8 @@ pub enum FaultKind {
     Apart(u8),
     /// It is a request of this requester's own, submitted before the record there, and so is its answer.
     Early(u8, usize),
+    /// It is carried out, though it isn't served: by parts that lie in a block each, as requests of this requester.
+    Refused(u8),
 }
 
 /// A fault at the request that is submitted at the place.

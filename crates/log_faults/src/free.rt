@@ -58,6 +58,7 @@ pub fn is_new(records: &Records<'_>, kind: FaultKind) -> bool
         FaultKind::Twice(by) => is_free(records, by),
         FaultKind::Apart(by) => is_free(records, by),
         FaultKind::Early(by, _) => is_free(records, by),
+        FaultKind::Refused(by) => is_free(records, by),
         FaultKind::Lost => true,
         FaultKind::Swapped => true,
         FaultKind::First => true,

@@ -1,8 +1,12 @@
 //! What a request asks for, as a device with a fault does it.
-ghost use Rattle.std.specs.Prelude.{◌≡◌};
+ghost use Rattle.std.specs.Prelude.{◌≡◌, IfOk};
+ghost use Rattle.op_pieces.specs.Pieces.{is_served as serves};
 ghost use Rattle.log_faults.specs.WithFault as spec;
 
 use crate::faults::FaultKind;
+use op_pieces::cut;
+use seq_memory::{Extent, refusal_lent};
+use std::alloc::{AllocError, Global};
 use tlp_core::{OpRef, PayloadRef, Width};
 
 /// How many DW an operand has.
@@ -128,5 +132,30 @@ pub(crate) fn done<'a>(kind: FaultKind, op: &OpRef<'a>) -> OpRef<'a>
         FaultKind::Twice(_) => op.again(),
         FaultKind::Apart(_) => op.again(),
         FaultKind::Early(..) => op.again(),
+        FaultKind::Refused(_) => op.again(),
     }
+}
+
+/// A memory that lies there serves the operation.
+fn is_served(extent: Extent, op: &OpRef<'_>) -> bool
+    ensures { result ≡ serves extent op.now }
+{
+    refusal_lent(extent.base(), extent.block(), extent.size(), op).is_none()
+}
+
+/// An operation that isn't served, in parts that lie in a block each.
+pub(crate) fn carried_out<'a>(
+    alloc: Global,
+    extent: Extent,
+    op: &OpRef<'a>,
+) -> Result<Vec<OpRef<'a>>, AllocError>
+    ensures { IfOk result (λ v. v.items ≡ spec.carried_out extent op.now) }
+{
+    if is_served(extent, op) {
+        return Ok(Vec::new(alloc));
+    }
+    if u128::from(op.address()) + u128::from(op.size()) <= 1 << 64 {
+        return cut(alloc, u64::from(extent.block()), op);
+    }
+    Ok(Vec::new(alloc))
 }
