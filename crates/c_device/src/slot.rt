@@ -2,7 +2,9 @@
 ghost use Rattle.std.specs.Prelude.{◌≡◌, ◌⊎◌, Option, Some, Ok, Err, IsOk, IsErr, IfOk, IfErr, []};
 ghost use Rattle.seq_memory.specs.History.{MemoryView};
 ghost use Rattle.c_buffer.specs.declared.outcome.Failure.TheVariants.{NoMemory};
-ghost use Rattle.c_device.specs.Slot.{slot_owns, memory_coded};
+ghost use Rattle.std.specs.Coded.{coded_option};
+ghost use Rattle.c_buffer.specs.Slot.{slot_owns};
+ghost use Rattle.c_device.specs.Slot.{memory_row};
 ghost use Rattle.c_device.specs.Calls.{limits};
 
 use c_buffer::{Failure, Parts};
@@ -16,11 +18,11 @@ use std::marker::Model;
 pub struct Slot {
     at: *mut (),
     alloc: Global,
-    pub ghost memory: { Option MemoryView } by { memory_coded },
+    pub ghost memory: { Option MemoryView } by { coded_option memory_row.coded },
 }
 
 impl Model for Slot {
-    ghost also_owns = { λ s. slot_owns s.alloc s.at s.memory };
+    ghost also_owns = { λ s. slot_owns memory_row s.alloc s.at s.memory };
 }
 
 fn of_parts(parts: Parts<Memory, Global>) -> Slot

@@ -1,5 +1,4 @@
 pub mod SessionView
-pub mod Slot
 pub mod Calls
 pub mod Texts
 pub use Rattle.c_buffer.specs.Buffer

@@ -1,7 +1,9 @@
 //! Slots.
 ghost use Rattle.std.specs.Prelude.{◌≡◌, ◌⊎◌, Option, Some, Ok, Err, IsOk, IsErr, IfOk, IfErr};
 ghost use Rattle.c_buffer.specs.declared.outcome.Failure.TheVariants.{NoMemory};
-ghost use Rattle.c_endpoint.specs.Slot.{slot_owns, session_coded};
+ghost use Rattle.std.specs.Coded.{coded_option};
+ghost use Rattle.c_buffer.specs.Slot.{slot_owns};
+ghost use Rattle.c_endpoint.specs.contracts.session.Session.{the_row};
 ghost use Rattle.c_endpoint.specs.SessionView.{SessionView, new_session};
 ghost use Rattle.c_endpoint.specs.Calls.{limit, setup_with};
 
@@ -20,11 +22,11 @@ use std::marker::Model;
 pub struct Slot {
     at: *mut (),
     alloc: Global,
-    pub ghost session: { Option SessionView } by { session_coded },
+    pub ghost session: { Option SessionView } by { coded_option the_row.coded },
 }
 
 impl Model for Slot {
-    ghost also_owns = { λ s. slot_owns s.alloc s.at s.session };
+    ghost also_owns = { λ s. slot_owns the_row s.alloc s.at s.session };
 }
 
 fn of_parts(parts: Parts<Session, Global>) -> Slot

@@ -7,7 +7,9 @@ ghost use Rattle.c_buffer.specs.declared.outcome.Failure.TheVariants.{Text, NoMe
 ghost use Rattle.c_buffer.specs.Buffer.{filled, is_silent};
 ghost use Rattle.c_fabric.specs.SessionView.{SessionView, new_session};
 ghost use Rattle.c_fabric.specs.Calls.{made, making, AsksFor, IsFabricCall};
-ghost use Rattle.c_fabric.specs.Slot.{slot_owns, session_coded};
+ghost use Rattle.std.specs.Coded.{coded_option};
+ghost use Rattle.c_buffer.specs.Slot.{slot_owns};
+ghost use Rattle.c_fabric.specs.contracts.session.Session.{the_row};
 
 use crate::session::Session;
 use crate::witness::{LastSeen, SessionWitness};
@@ -25,11 +27,11 @@ use tlp_core::MAX_PAYLOAD;
 pub struct Slot {
     at: *mut (),
     alloc: Global,
-    pub ghost session: { Option SessionView } by { session_coded },
+    pub ghost session: { Option SessionView } by { coded_option the_row.coded },
 }
 
 impl Model for Slot {
-    ghost also_owns = { λ s. slot_owns s.alloc s.at s.session };
+    ghost also_owns = { λ s. slot_owns the_row s.alloc s.at s.session };
 }
 
 fn of_parts(parts: Parts<Session, Global>) -> Slot

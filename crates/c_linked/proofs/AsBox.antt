@@ -1,21 +1,30 @@
--- A session's box, its parts and a slot as rows.
-use mir.Syntax.{impl, tnil, dnil}
-use mathlib.Core.List.{[]}
-use denote.Signature.{Slot, plain}
+-- A session's box; its parts and a slot, which hold one.
+use mathlib.Core.Path.{refl}
+use Rattle.std.specs.Prelude.{Option, Some}
 use Rattle.std_alloc.proofs.BoxSteps.Form.{Bx}
-use Rattle.std_heap.specs.contracts.Global as Heap
-use Rattle.std_heap.specs.contracts.GlobalAllocator.TheImpl.{ghosts, dict}
-use Rattle.std_heap.proofs.Global.TheLaws as heap
-use Rattle.c_linked.specs.contracts.session.Session as Held
-use Rattle.c_linked.proofs.session.Session.TheLaws as laws
-use Rattle.c_buffer.specs.contracts.parts.Parts as Parts
-use Rattle.c_linked.specs.contracts.slot.Slot as held
+use Rattle.c_buffer.proofs.SlotMoves.{Holder, heap_box, parts_of}
+use Rattle.c_linked.specs.contracts.session.Session as Session
+use Rattle.c_linked.proofs.session.Session.TheLaws as session
+use Rattle.c_linked.specs.contracts.slot.Slot as Slot
 
 abbrev pub E : Bx
-E = record { row = Held.the_row; laws = laws.the_row_laws; al = record { row = Heap.the_row; laws = heap.the_row_laws; g = ghosts; d = dict; drops = impl [] tnil dnil } }
+E = heap_box Session.the_row session.the_row_laws
 
-abbrev pub FromParts : Slot 0
-FromParts = plain (λ _. Parts.the_row Held.the_row Heap.the_row ghosts)
+abbrev pub parts : Holder E
+parts = parts_of E (λ p a x ws. refl) (λ p. tt) (λ p f. refl)
 
-abbrev pub FromSlot : Slot 0
-FromSlot = plain (λ _. held.the_row)
+abbrev pub slot : Holder E
+slot = record {
+  type = Slot.the_type;
+  Held = Option E.row.Denot;
+  one = Some;
+  ptr = λ s. s.at;
+  alloc = λ s. s.alloc;
+  held = λ s. s.session;
+  made = λ p a x. record { at = p; alloc = a; session = x };
+  held_made = λ p a x. refl;
+  made_of = λ s. refl;
+  owns = λ p a x ws. refl;
+  last = λ s. tt;
+  silent = λ s f. refl;
+}

@@ -1,6 +1,5 @@
 pub mod SessionView
 pub mod Traces
-pub mod Slot
 pub mod Making
 pub mod Calls
 pub use Rattle.c_buffer.specs.Buffer

@@ -1,4 +1,3 @@
-pub mod Slot
 pub mod Failures
 pub mod Calls
 pub use Rattle.c_buffer.specs.Buffer

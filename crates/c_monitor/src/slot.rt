@@ -7,7 +7,9 @@ ghost use Rattle.monitor_ports.specs.Heads.{memory_of};
 ghost use Rattle.c_buffer.specs.declared.outcome.Failure.TheVariants.{NoMemory};
 ghost use Rattle.c_buffer.specs.Buffer.{filled};
 ghost use Rattle.c_device.specs.Calls.{limits};
-ghost use Rattle.c_monitor.specs.Slot.{slot_owns, monitor_coded};
+ghost use Rattle.std.specs.Coded.{coded_option};
+ghost use Rattle.c_buffer.specs.Slot.{slot_owns};
+ghost use Rattle.monitor_ports.specs.contracts.monitor.Monitor.{the_row};
 ghost use Rattle.c_monitor.specs.Calls.{made, making, AsksFor, IsMonitorCall};
 
 use arrayvec::ArrayString;
@@ -23,11 +25,11 @@ use std::marker::Model;
 pub struct Slot {
     at: *mut (),
     alloc: Global,
-    pub ghost monitor: { Option spec.Monitor } by { monitor_coded },
+    pub ghost monitor: { Option spec.Monitor } by { coded_option the_row.coded },
 }
 
 impl Model for Slot {
-    ghost also_owns = { λ s. slot_owns s.alloc s.at s.monitor };
+    ghost also_owns = { λ s. slot_owns the_row s.alloc s.at s.monitor };
 }
 
 fn of_parts(parts: Parts<Monitor, Global>) -> Slot
