@@ -3,13 +3,8 @@ use Rattle.std.proofs.Common.{◌≡◌, ◌∙◌, ◌++◌, ℕ, Bool, true, f
 use Rattle.std.proofs.lemmas.List.{append-nil}
 use Rattle.std.specs.Io.KnownBytes.{Appends}
 use Rattle.std.specs.Prelude.{nat_lt, Option, Some, None}
-use Rattle.fabric_core.specs.declared.config.ConfigFault.{ConfigFault}
-use Rattle.fabric_steps.specs.Event.{Event}
-use Rattle.fabric_steps.specs.declared.fault.Refusal.{Refusal}
-use Rattle.script_text.specs.declared.line.Line.{Line}
-use Rattle.script_text.specs.declared.line.Line.TheVariants as lines
 use Rattle.hex_text.specs.Lines.{lines_of, bare, said}
-use Rattle.line_loop.specs.Run.{Answer, Run, after_line, new_run, run_of}
+use Rattle.line_loop.specs.Run.{Run, after_line, new_run, run_of}
 use Rattle.svg_text.specs.Shapes.{Shape, page_text}
 use Rattle.svg_text.specs.Xml.{IsDocument}
 use Rattle.chart_links.specs.declared.window.ChartWindow.{ChartWindow}
@@ -18,53 +13,11 @@ use Rattle.chart_engine.specs.Chart as spec
 use Rattle.chart_engine.specs.Chart.{CharterView, chart_responses, out_chart, WritesDocument}
 use Rattle.chart_engine.specs.Events.{IsOfEvents, WritesEvents}
 
--- no line is answered by a text
-
-of_made : (s : CharterView) (c : _) (f : Option ConfigFault) → (spec.made s c f).text ≡ []
-of_made s c None = refl
-of_made s c (Some x) = refl
-
-of_config : (s : CharterView) (o : Option Session) (c : _) → (spec.made_once s o c).text ≡ []
-of_config s None c = of_made s c _
-of_config s (Some now) c = refl
-
-of_refusal : (s : CharterView) (p : Session) (o : Option Refusal) → (spec.unless_refused s p o).text ≡ []
-of_refusal s p None = refl
-of_refusal s p (Some r) = refl
-
-of_event : (s : CharterView) (o : Option Session) (e : Event) → (spec.happened s o e).text ≡ []
-of_event s None e = refl
-of_event s (Some p) e = of_refusal s _ _
-
-of_settle : (s : CharterView) (o : Option Session) → (spec.settles s o).text ≡ []
-of_settle s None = refl
-of_settle s (Some p) = refl
-
-of_line : (s : CharterView) (l : Option Line) → (spec.by_line s l).text ≡ []
-of_line s None = refl
-of_line s (Some (lines.Fabric c)) = of_config s s.session c
-of_line s (Some (lines.Event e)) = of_event s s.session e
-of_line s (Some lines.Settle) = of_settle s s.session
-
-unless : (s : CharterView) (ending : Option (List ℕ)) (a : Answer CharterView) → a.text ≡ [] → (spec.unless_ended s ending a).text ≡ []
-unless s None a e = e
-unless s (Some line) a e = refl
-
-skipped : (s : CharterView) (b : Bool) (a : Answer CharterView) → a.text ≡ [] → (cond b (spec.nothing (spec.counted s)) a).text ≡ []
-skipped s true a e = refl
-skipped s false a e = e
-
-quiet_line : (s : CharterView) (line : List ℕ) → (spec.chart_line s line).text ≡ []
-quiet_line s line = unless s s.ending _ (skipped s _ _ (of_line s _))
-
-quiet_long : (s : CharterView) → (spec.chart_long_line s).text ≡ []
-quiet_long s = unless s s.ending _ refl
-
 -- a line more, and nothing is written
 silent_line : (t : Bool) (run : Run CharterView) (line : List ℕ) → run.text ≡ []
     → run.text ++ (cond t (chart_responses.on_long_line run.state) (chart_responses.on_line run.state (said line))).text ≡ []
-silent_line true run line e = ap (λ (t : List ℕ). run.text ++ t) (quiet_long run.state) ∙ append-nil run.text ∙ e
-silent_line false run line e = ap (λ (t : List ℕ). run.text ++ t) (quiet_line run.state (said line)) ∙ append-nil run.text ∙ e
+silent_line true run line e = append-nil run.text ∙ e
+silent_line false run line e = append-nil run.text ∙ e
 
 silent : (ls : List (List ℕ)) (run : Run CharterView) → run.text ≡ [] → (fold (after_line chart_responses) run ls).text ≡ []
 silent [] run e = e

@@ -14,7 +14,7 @@ use Rattle.fabric_settle.specs.Rounds.{settlement}
 use Rattle.script_text.specs.declared.line.Line.{Line}
 use Rattle.script_text.specs.declared.line.Line.TheVariants as lines
 use Rattle.hex_text.specs.Lines.{lines_of, bare, said}
-use Rattle.line_loop.specs.Run.{Answer, Run, after_line, new_run}
+use Rattle.line_loop.specs.Run.{Run, after_line, new_run}
 use Rattle.chart_links.specs.declared.window.ChartWindow.{ChartWindow}
 use Rattle.chart_links.specs.ChartView.{ChartView, new_chart, charted, headed, row_for, head_row, rows_with}
 use Rattle.chart_links.specs.Levels.{new_lines}
@@ -229,49 +229,49 @@ shown_last w p line event r e = record {
 no_ending : {A : Type 0} (line : List ℕ) → Some line ≡ None → A
 no_ending line e = absurd cc
 
-goes_on : (w : ChartWindow) (s : CharterView) (p : Session) → s.window ≡ w → Exact w p.fabric p.chart → Holds w (spec.goes_on s p).state
+goes_on : (w : ChartWindow) (s : CharterView) (p : Session) → s.window ≡ w → Exact w p.fabric p.chart → Holds w (spec.goes_on s p).0
 goes_on w s p window e = record { window = window; exact = λ none. e; shows = as_shown w p e }
 
-ends : (w : ChartWindow) (s : CharterView) (o : Option Session) (line : List ℕ) → s.window ≡ w → ShowsEventsIfAny w o → Holds w (spec.ends s o line).state
+ends : (w : ChartWindow) (s : CharterView) (o : Option Session) (line : List ℕ) → s.window ≡ w → ShowsEventsIfAny w o → Holds w (spec.ends s o line).0
 ends w s o line window e = record { window = window; exact = λ some. no_ending line some; shows = e }
 
-of_made : (w : ChartWindow) (s : CharterView) (c : Config) (x : Option ConfigFault) → Holds w s → config_fault c ≡ x → Holds w (spec.made s c x).state
+of_made : (w : ChartWindow) (s : CharterView) (c : Config) (x : Option ConfigFault) → Holds w s → config_fault c ≡ x → Holds w (spec.made s c x).0
 of_made w s c (Some x) h is = ends w s s.session _ h.window h.shows
 of_made w s c None h is =
     goes_on w s (spec.session (new_fabric c) (spec.new_witness s.window c.requesters)) h.window
     (record { config = c; faultless = is; tales = []; happened = refl; chart = ap (λ (v : ChartWindow). spec.new_witness v c.requesters) h.window ∙ none_shown w c.requesters (new_fabric c) })
 
-of_made_once : (w : ChartWindow) (s : CharterView) (o : Option Session) (c : Config) → Holds w s → Holds w (spec.made_once s o c).state
+of_made_once : (w : ChartWindow) (s : CharterView) (o : Option Session) (c : Config) → Holds w s → Holds w (spec.made_once s o c).0
 of_made_once w s None c h = of_made w s c (config_fault c) h refl
 of_made_once w s (Some p) c h = ends w s s.session _ h.window h.shows
 
-of_left : NextRow → (w : ChartWindow) (s : CharterView) (p : Session) (event : Event) (a : Result (Seen × Fabric) Refusal) → s.window ≡ w → answer p.fabric event ≡ a → Exact w p.fabric p.chart
-    → Holds w (spec.unless_refused s (spec.left_by (spec.next_line s) p event a) (spec.refusal_in a)).state
-of_left q w s p event (Ok a) window is e = goes_on w s _ window (one_more q w p.fabric a.1 p.chart (spec.next_line s) event a.0 e is)
-of_left q w s p event (Err r) window is e = ends w s _ _ window (shown_last w p (spec.next_line s) event r e)
+of_answer : NextRow → (w : ChartWindow) (s : CharterView) (p : Session) (event : Event) (a : Result (Seen × Fabric) Refusal) → s.window ≡ w → answer p.fabric event ≡ a → Exact w p.fabric p.chart
+    → Holds w (spec.answered s p event a).0
+of_answer q w s p event (Ok a) window is e = goes_on w s _ window (one_more q w p.fabric a.1 p.chart (spec.next_line s) event a.0 e is)
+of_answer q w s p event (Err r) window is e = ends w s _ _ window (shown_last w p (spec.next_line s) event r e)
 
-of_happened : NextRow → (w : ChartWindow) (s : CharterView) (o : Option Session) (event : Event) → Holds w s → ExactIfAny w o → Holds w (spec.happened s o event).state
+of_happened : NextRow → (w : ChartWindow) (s : CharterView) (o : Option Session) (event : Event) → Holds w s → ExactIfAny w o → Holds w (spec.happened s o event).0
 of_happened q w s None event h e = ends w s s.session _ h.window h.shows
-of_happened q w s (Some p) event h e = of_left q w s p event (answer p.fabric event) h.window refl e
+of_happened q w s (Some p) event h e = of_answer q w s p event (answer p.fabric event) h.window refl e
 
-of_settled : NextRow → Settled → (w : ChartWindow) (s : CharterView) (o : Option Session) → Holds w s → ExactIfAny w o → Holds w (spec.settles s o).state
+of_settled : NextRow → Settled → (w : ChartWindow) (s : CharterView) (o : Option Session) → Holds w s → ExactIfAny w o → Holds w (spec.settles s o).0
 of_settled q l w s None h e = ends w s s.session _ h.window h.shows
 of_settled q l w s (Some p) h e = goes_on w s _ h.window (of_each q w (spec.next_line s) (settlement p.fabric).happened p.fabric (settlement p.fabric).fabric (settles_with p.chart (spec.next_line s) p.fabric) (l p.fabric) (one_settle q w p.fabric p.chart (spec.next_line s) e))
 
-of_line : NextRow → Settled → (w : ChartWindow) (s : CharterView) (o : Option Line) → Holds w s → ExactIfAny w s.session → Holds w (spec.by_line s o).state
+of_line : NextRow → Settled → (w : ChartWindow) (s : CharterView) (o : Option Line) → Holds w s → ExactIfAny w s.session → Holds w (spec.by_line s o).0
 of_line q l w s None h e = ends w s s.session _ h.window h.shows
 of_line q l w s (Some (lines.Fabric c)) h e = of_made_once w s s.session c h
 of_line q l w s (Some (lines.Event event)) h e = of_happened q w s s.session event h e
 of_line q l w s (Some lines.Settle) h e = of_settled q l w s s.session h e
 
-unless : (w : ChartWindow) (s : CharterView) (ending : Option (List ℕ)) (a : Answer CharterView) → Holds w s → s.ending ≡ ending → (ExactIfAny w s.session → Holds w a.state)
-    → Holds w (spec.unless_ended s ending a).state
-unless w s None a h is next = next (h.exact is)
-unless w s (Some line) a h is next = h
+unless : (w : ChartWindow) (s : CharterView) (ending : Option (List ℕ)) (l : CharterView × Bool) → Holds w s → s.ending ≡ ending → (ExactIfAny w s.session → Holds w l.0)
+    → Holds w (spec.unless_ended s ending l).0
+unless w s None l h is next = next (h.exact is)
+unless w s (Some line) l h is next = h
 
-skipped : (w : ChartWindow) (s : CharterView) (b : Bool) (a : Answer CharterView) → Holds w s → Holds w a.state → Holds w (cond b (spec.nothing (spec.counted s)) a).state
-skipped w s true a h next = record { window = h.window; exact = h.exact; shows = h.shows }
-skipped w s false a h next = next
+skipped : (w : ChartWindow) (s : CharterView) (b : Bool) (l : CharterView × Bool) → Holds w s → Holds w l.0 → Holds w (cond b (spec.counted s, false) l).0
+skipped w s true l h next = record { window = h.window; exact = h.exact; shows = h.shows }
+skipped w s false l h next = next
 
 of_chart_line : NextRow → Settled → (w : ChartWindow) (s : CharterView) (line : List ℕ) → Holds w s → Holds w (spec.chart_line s line).state
 of_chart_line q l w s line h = unless w s s.ending _ h refl (λ e. skipped w s _ _ h (of_line q l w s _ h e))

@@ -77,17 +77,17 @@ pub record CharterView : Type 0 where
 abbrev pub next_line : CharterView → ℕ
 next_line s = min (s.lines + 1) (2 ^ 64 - 1)
 
--- nothing is done
-abbrev pub nothing : CharterView → Answer CharterView
-nothing s = record { state = s; text = []; is_fault = false }
+-- what a line leaves, and whether it is a fault; it writes nothing
+abbrev pub quiet : CharterView × Bool → Answer CharterView
+quiet l = record { state = l.0; text = []; is_fault = l.1 }
 
 -- one line more
 abbrev pub counted : CharterView → CharterView
 counted s = record s { lines = next_line s }
 
 -- the line did this to the fabric and its chart
-abbrev pub goes_on : CharterView → Session → Answer CharterView
-goes_on s now = record { state = record s { lines = next_line s; session = Some now }; text = []; is_fault = false }
+abbrev pub goes_on : CharterView → Session → CharterView × Bool
+goes_on s now = (record s { lines = next_line s; session = Some now }, false)
 
 -- ---- what ends a run
 
@@ -95,43 +95,35 @@ abbrev pub told : CharterView → List ℕ → List ℕ → List ℕ
 told s kind name = kind ++ (decimal (next_line s) ++ 32 ∷ name)
 
 -- the run ends with this line
-abbrev pub ends : CharterView → Option Session → List ℕ → Answer CharterView
-ends s now line = record { state = record s { lines = next_line s; session = now; ending = Some line }; text = []; is_fault = true }
+abbrev pub ends : CharterView → Option Session → List ℕ → CharterView × Bool
+ends s now line = (record s { lines = next_line s; session = now; ending = Some line }, true)
 
-abbrev pub fault : CharterView → List ℕ → Answer CharterView
+abbrev pub fault : CharterView → List ℕ → CharterView × Bool
 fault s name = ends s s.session (told s (codes "fault ") name)
 
-abbrev pub no_line : CharterView → Answer CharterView
+abbrev pub no_line : CharterView → CharterView × Bool
 no_line s = fault s (codes "Script")
 
 -- ---- lines
 
-abbrev pub made : CharterView → Config → Option ConfigFault → Answer CharterView
+abbrev pub made : CharterView → Config → Option ConfigFault → CharterView × Bool
 made s c (Some x) = fault s (fault_name x)
 made s c None = goes_on s (session (new_fabric c) (new_witness s.window c.requesters))
 
 -- a script has one fabric
-abbrev pub made_once : CharterView → Option Session → Config → Answer CharterView
+abbrev pub made_once : CharterView → Option Session → Config → CharterView × Bool
 made_once s None c = made s c (config_fault c)
 made_once s (Some now) c = no_line s
 
--- what an event with this answer leaves, and why it is refused
-abbrev pub left_by : ℕ → Session → Event → Result (Seen × Fabric) Refusal → Session
-left_by line p event (Ok a) = session a.1 (witnessed p.chart line event a.0 a.1)
-left_by line p event (Err r) = session p.fabric (refused_with p.chart line event r p.fabric)
+-- an event happens, or it is refused, which ends the run
+abbrev pub answered : CharterView → Session → Event → Result (Seen × Fabric) Refusal → CharterView × Bool
+answered s p event (Ok a) = goes_on s (session a.1 (witnessed p.chart (next_line s) event a.0 a.1))
+answered s p event (Err r) =
+    ends s (Some (session p.fabric (refused_with p.chart (next_line s) event r p.fabric))) (told s (codes "refused ") (refusal_text r))
 
-abbrev pub refusal_in : Result (Seen × Fabric) Refusal → Option Refusal
-refusal_in (Ok a) = None
-refusal_in (Err r) = Some r
-
--- a refusal ends the run
-abbrev pub unless_refused : CharterView → Session → Option Refusal → Answer CharterView
-unless_refused s now None = goes_on s now
-unless_refused s now (Some r) = ends s (Some now) (told s (codes "refused ") (refusal_text r))
-
-abbrev pub happened : CharterView → Option Session → Event → Answer CharterView
+abbrev pub happened : CharterView → Option Session → Event → CharterView × Bool
 happened s None event = no_line s
-happened s (Some p) event = unless_refused s (left_by (next_line s) p event (answer p.fabric event)) (refusal_in (answer p.fabric event))
+happened s (Some p) event = answered s p event (answer p.fabric event)
 
 -- a chart that is told what happened, as of that line
 abbrev pub charted_of : ℕ → ChartWitnessView → Happening → ChartWitnessView
@@ -141,26 +133,26 @@ abbrev pub after_rounds : ℕ → ChartWitnessView → Settling → Session
 after_rounds line chart t = session t.fabric (fold (charted_of line) chart t.happened)
 
 -- its row, and rounds of events until nothing moves
-abbrev pub settles : CharterView → Option Session → Answer CharterView
+abbrev pub settles : CharterView → Option Session → CharterView × Bool
 settles s None = no_line s
 settles s (Some p) = goes_on s (after_rounds (next_line s) (settles_with p.chart (next_line s) p.fabric) (settlement p.fabric))
 
-abbrev pub by_line : CharterView → Option Line → Answer CharterView
+abbrev pub by_line : CharterView → Option Line → CharterView × Bool
 by_line s None = no_line s
 by_line s (Some (lines.Fabric c)) = made_once s s.session c
 by_line s (Some (lines.Event event)) = happened s s.session event
 by_line s (Some lines.Settle) = settles s s.session
 
 -- after the end of the run nothing is read
-abbrev pub unless_ended : CharterView → Option (List ℕ) → Answer CharterView → Answer CharterView
-unless_ended s None a = a
-unless_ended s (Some line) a = nothing s
+abbrev pub unless_ended : CharterView → Option (List ℕ) → CharterView × Bool → CharterView × Bool
+unless_ended s None l = l
+unless_ended s (Some line) l = (s, false)
 
 abbrev pub chart_line : CharterView → List ℕ → Answer CharterView
-chart_line s line = unless_ended s s.ending (if is_skipped line then nothing (counted s) else by_line s (line_of (words line)))
+chart_line s line = quiet (unless_ended s s.ending (if is_skipped line then (counted s, false) else by_line s (line_of (words line))))
 
 abbrev pub chart_long_line : CharterView → Answer CharterView
-chart_long_line s = unless_ended s s.ending (no_line s)
+chart_long_line s = quiet (unless_ended s s.ending (no_line s))
 
 -- ---- the end
 

@@ -2,7 +2,6 @@
 ghost use Rattle.std.specs.Prelude.{◌≡◌, ◌≤◌, ◌++◌, ◌∷◌, [], Some, length, codes, option_map, IfOk, OnOk, OnErr};
 ghost use Rattle.std.specs.Fmt.{decimal};
 ghost use Rattle.arrayvec.specs.ArrayString.{array_string_len};
-ghost use Rattle.fabric_core.specs.Answers.{answer};
 ghost use Rattle.fabric_steps.specs.Faults.{IsTold};
 ghost use Rattle.fabric_core.specs.Config.{fault_name};
 ghost use Rattle.script_text.specs.Names.{refusal_text};
@@ -82,26 +81,6 @@ fn tell_refused(
     witness.refused(line, event.to_owned(), refusal, fabric)
 }
 
-/// An event happens to a fabric or is refused, and its chart is told. Gives why it was refused.
-fn happen_charted(
-    fabric: &mut Fabric,
-    chart: &mut ChartWitness,
-    line: u64,
-    event: &EventRef<'_>,
-) -> Result<Option<Refusal>, AllocError>
-    ensures fabric { OnOk result (fabric.new ≡ (spec.left_by line (spec.session fabric.old chart.old) event.now (answer fabric.old event.now)).fabric) }
-    ensures chart { OnOk result (chart.new ≡ (spec.left_by line (spec.session fabric.old chart.old) event.now (answer fabric.old event.now)).chart) }
-    ensures refusal { IfOk result (λ r. r ≡ spec.refusal_in (answer fabric.old event.now)) }
-{
-    match happen(fabric, chart, line, event) {
-        Ok(()) => Ok(None),
-        Err(refusal) => {
-            tell_refused(chart, line, event, refusal, fabric)?;
-            Ok(Some(refusal))
-        }
-    }
-}
-
 impl Charter {
     pub(crate) fn new(alloc: Global, window: ChartWindow) -> Charter
         ensures { result ≡ spec.new_script window }
@@ -156,7 +135,7 @@ impl Charter {
 
     /// The line is none of a script.
     fn no_line(&mut self) -> Verdict
-        ensures { (o : _) → IsAnswer self.new o o result (spec.no_line self.old) }
+        ensures { (o : _) → IsAnswer self.new o o result (spec.quiet (spec.no_line self.old)) }
     {
         let mut line = told("fault ", self.next_line());
         line.push_str("Script");
@@ -166,7 +145,7 @@ impl Charter {
 
     /// There is no fabric of the configuration.
     fn not_made(&mut self, fault: ConfigFault) -> Verdict
-        ensures { (o : _) → IsAnswer self.new o o result (spec.fault self.old (fault_name fault)) }
+        ensures { (o : _) → IsAnswer self.new o o result (spec.quiet (spec.fault self.old (fault_name fault))) }
     {
         let mut line = told("fault ", self.next_line());
         write_config_fault(&fault, &mut line);
@@ -176,7 +155,7 @@ impl Charter {
 
     /// The fabric refused an event.
     fn end_refused(&mut self, refusal: Refusal) -> Verdict
-        ensures { (o : _) → IsAnswer self.new o o result (spec.ends self.old self.old.session (spec.told self.old (codes "refused ") (refusal_text refusal))) }
+        ensures { (o : _) → IsAnswer self.new o o result (spec.quiet (spec.ends self.old self.old.session (spec.told self.old (codes "refused ") (refusal_text refusal)))) }
     {
         let mut line = told("refused ", self.next_line());
         write_refusal(&refusal, &mut line);
@@ -186,7 +165,7 @@ impl Charter {
 
     /// The fabric of the script is made, with its chart.
     fn make(&mut self, config: Config) -> Result<Verdict, AllocError>
-        ensures { IfOk result (λ verdict. (o : _) → IsAnswer self.new o o verdict (spec.made_once self.old self.old.session config)) }
+        ensures { IfOk result (λ verdict. (o : _) → IsAnswer self.new o o verdict (spec.quiet (spec.made_once self.old self.old.session config))) }
     {
         if self.session.is_some() {
             return Ok(self.no_line());
@@ -207,25 +186,27 @@ impl Charter {
 
     /// An event happens, or is refused.
     fn happen(&mut self, event: &EventRef<'_>) -> Result<Verdict, AllocError>
-        ensures { IfOk result (λ verdict. (o : _) → IsAnswer self.new o o verdict (spec.happened self.old self.old.session event.now)) }
+        ensures { IfOk result (λ verdict. (o : _) → IsAnswer self.new o o verdict (spec.quiet (spec.happened self.old self.old.session event.now))) }
     {
         let line = self.next_line();
         let Some(session) = &mut self.session else {
             return Ok(self.no_line());
         };
-        let refusal = happen_charted(&mut session.fabric, &mut session.chart, line, event)?;
-        match refusal {
-            None => {
+        match happen(&mut session.fabric, &mut session.chart, line, event) {
+            Ok(()) => {
                 self.count();
                 Ok(Verdict::Fine)
             }
-            Some(refusal) => Ok(self.end_refused(refusal)),
+            Err(refusal) => {
+                tell_refused(&mut session.chart, line, event, refusal, &session.fabric)?;
+                Ok(self.end_refused(refusal))
+            }
         }
     }
 
     /// The fabric is run until nothing moves.
     fn settle(&mut self) -> Result<Verdict, AllocError>
-        ensures { IfOk result (λ verdict. (o : _) → IsAnswer self.new o o verdict (spec.settles self.old self.old.session)) }
+        ensures { IfOk result (λ verdict. (o : _) → IsAnswer self.new o o verdict (spec.quiet (spec.settles self.old self.old.session))) }
     {
         let line = self.next_line();
         let Some(session) = &mut self.session else {
