@@ -1,6 +1,6 @@
 -- Which steps are enough.
 use Rattle.std.proofs.Common.{◌≡◌, ◌∙◌, ℕ, zero, suc, ◌+◌, ◌<◌, ◌≤◌, true, false, List, Some, None, Option, [], ◌∷◌, ◌++◌, take, length, get_or, refl, sym, ap, subst, inl, inr, arith, add-one, ◌⊎◌, Bool}
-use Rattle.std.specs.Prelude.{slice_get, ◌==◌, IfSome, is_some}
+use Rattle.std.specs.Prelude.{slice_get, ◌==◌, not, IfSome, is_some}
 use Rattle.std.specs.List.{Contains, All}
 use Rattle.std.specs.List.Sorted.{IsPermutation}
 use Rattle.std.proofs.Math.Seq.{take-suc}
@@ -12,28 +12,36 @@ use Rattle.std.proofs.lemmas.List.Sorted.{All-permutation, Contains-permutation,
 use Rattle.log_runs.specs.LogView.{LogView}
 use Rattle.log_runs.specs.declared.Step.{Step}
 use Rattle.log_runs.specs.declared.Step.TheVariants as steps
-use Rattle.log_runs.specs.Runs.{State, Allowed, MayAct, Leads, Live, Dead, AllDead, Covers, IsForced, next}
+use Rattle.log_runs.specs.Runs.{State, Allowed, MayAct, Live, Dead, Covers, IsForced, next}
 use Rattle.search_places.specs.Pending.{has, submits}
 use Rattle.search_rules.specs.Alike.{GoesFirst}
-use Rattle.search_choices.specs.Turns.{Precedes, turn}
-use Rattle.search_choices.specs.Offered.{Offers, IsOnly, IsPreceded}
+use Rattle.search_rules.specs.Idle.{IsIdle, GoesOrIdles}
+use Rattle.search_choices.specs.Turns.{turn}
+use Rattle.search_choices.specs.Offered.{Offers, IsOnly, NeedNotAct}
 use Rattle.search_places.specs.PlaceView.{PlaceView}
 use Rattle.search_places.specs.Places.{IsPlace}
 
 pub clash : {b : Bool} → b ≡ true → b ≡ false → ⊥
 clash t f = let e : true ≡ false = sym t ∙ f in cc
 
--- no step leads anywhere
-pub dead_first : (log : LogView) (s : State) → (s.event ≡ length log.events → ⊥) → ((x : Step) → Allowed log s x → Dead log (next log s x)) → Dead log s
-dead_first log s more dead live = first live.steps live.leads
-  where
-    first : (ys : List Step) → Leads log s ys live.last → ⊥
-    first [] e = more (ap (λ (u : State). u.event) e ∙ live.over)
-    first (y ∷ ys) e = dead y e.0 (record { steps = ys; last = live.last; leads = e.1; over = live.over })
+pub not_false : (x : Bool) → not x ≡ false → x ≡ true
+not_false true e = refl
+not_false false e = sym e
 
 -- where a run leads on after c, one does after b, which goes first
 abbrev pub FirstLeads : LogView → State → Type 0
 FirstLeads log s = (b c : ℕ) → GoesFirst log s b c → MayAct log s c → Live log (next log s (steps.Act c)) → Live log (next log s (steps.Act b))
+
+-- what is like a request that is idle is idle
+abbrev pub IdleAlike : LogView → State → Type 0
+IdleAlike log s = (p b : ℕ) → GoesFirst log s p b → MayAct log s b → IsIdle log s p → IsIdle log s b
+
+-- if no step leads on but by a request that is idle, none does; and if each other is as good as one, so is that
+abbrev pub DeadIdle : LogView → State → Type 0
+DeadIdle log s = ((x : Step) → Allowed log s x → GoesOrIdles log s ⊥ x) → Dead log s
+
+abbrev pub LiveIdle : LogView → State → Type 0
+LiveIdle log s = (t : State) → ((x : Step) → Allowed log s x → GoesOrIdles log s (Live log t) x) → Live log s → Live log t
 
 -- ---- all of them
 
@@ -76,7 +84,7 @@ module _ (log : LogView) (s : State) (due : List ℕ) where
   offers_act xs ys p c e may h = subst (λ (zs : List Step). Offers log s due zs (p ++ c ∷ [])) (sym e) (record {
     allowed = all_put xs (steps.Act c) h.allowed may;
     pass = λ r. kept xs (steps.Act c) steps.Pass (h.pass r);
-    each = λ k look m. elim (more_looked p c k look) as (λ z. Contains (xs ++ steps.Act c ∷ []) (steps.Act k) ⊎ IsPreceded log s due k) [
+    each = λ k look m. elim (more_looked p c k look) as (λ z. Contains (xs ++ steps.Act c ∷ []) (steps.Act k) ⊎ NeedNotAct log s due k) [
       | inl before ↦ elim (h.each k before m) [
         | inl there ↦ inl (kept xs (steps.Act c) (steps.Act k) there)
         | inr preceded ↦ inr preceded
@@ -85,13 +93,13 @@ module _ (log : LogView) (s : State) (due : List ℕ) where
     ];
   })
 
-  pub offers_preceded : (xs : List Step) (p : List ℕ) (c : ℕ) → IsPreceded log s due c → Offers log s due xs p → Offers log s due xs (p ++ c ∷ [])
+  pub offers_preceded : (xs : List Step) (p : List ℕ) (c : ℕ) → NeedNotAct log s due c → Offers log s due xs p → Offers log s due xs (p ++ c ∷ [])
   offers_preceded xs p c preceded h = record {
     allowed = h.allowed;
     pass = h.pass;
     each = λ k look m. elim (more_looked p c k look) [
       | inl before ↦ h.each k before m
-      | inr now ↦ inr (subst (IsPreceded log s due) now preceded)
+      | inr now ↦ inr (subst (NeedNotAct log s due) now preceded)
     ];
   }
 
@@ -129,7 +137,7 @@ module _ (log : LogView) (s : State) (due : List ℕ) where
 
   -- o is the only one of those that were looked at that may act and isn't preceded, if it is some; else there is none
   abbrev pub OnlySo : Option ℕ → List ℕ → Type 0
-  OnlySo o p = ((q : ℕ) → o ≡ Some q → MayAct log s q) × ((b : ℕ) → has p b ≡ true → MayAct log s b → (o ≡ Some b) ⊎ IsPreceded log s due b)
+  OnlySo o p = ((q : ℕ) → o ≡ Some q → MayAct log s q) × ((b : ℕ) → has p b ≡ true → MayAct log s b → (o ≡ Some b) ⊎ NeedNotAct log s due b)
 
   pub only_nothing : (o : Option ℕ) → o ≡ None → OnlySo o []
   only_nothing o e = (λ q f. let g : None ≡ Some q = sym e ∙ f in cc, λ b look may. cc)
@@ -137,7 +145,7 @@ module _ (log : LogView) (s : State) (due : List ℕ) where
   pub only_found : (o : Option ℕ) (p : List ℕ) (c : ℕ) → o ≡ None → MayAct log s c → OnlySo o p → OnlySo (Some c) (p ++ c ∷ [])
   only_found o p c none may h = (
     λ q e. let same : c ≡ q = cc in subst (MayAct log s) same may,
-    λ k look m. elim (more_looked p c k look) as (λ z. (Some c ≡ Some k) ⊎ IsPreceded log s due k) [
+    λ k look m. elim (more_looked p c k look) as (λ z. (Some c ≡ Some k) ⊎ NeedNotAct log s due k) [
       | inl before ↦ elim (h.1 k before m) [
         | inl found ↦ let e : None ≡ Some k = sym none ∙ found in absurd (cc)
         | inr preceded ↦ inr preceded
@@ -146,12 +154,12 @@ module _ (log : LogView) (s : State) (due : List ℕ) where
     ],
   )
 
-  pub only_passed : (o : Option ℕ) (p : List ℕ) (c : ℕ) → (MayAct log s c → IsPreceded log s due c) → OnlySo o p → OnlySo o (p ++ c ∷ [])
+  pub only_passed : (o : Option ℕ) (p : List ℕ) (c : ℕ) → (MayAct log s c → NeedNotAct log s due c) → OnlySo o p → OnlySo o (p ++ c ∷ [])
   only_passed o p c shut h = (
     h.0,
     λ k look m. elim (more_looked p c k look) [
       | inl before ↦ h.1 k before m
-      | inr now ↦ inr (subst (IsPreceded log s due) now (shut (subst (MayAct log s) (sym now) m)))
+      | inr now ↦ inr (subst (NeedNotAct log s due) now (shut (subst (MayAct log s) (sym now) m)))
     ],
   )
 
@@ -168,64 +176,67 @@ module _ (log : LogView) (s : State) (due : List ℕ) where
       told None h = tt
       told (Some q) h = record {
         may = h.0 q refl;
-        none = λ b look m. elim (h.1 b look m) as (λ z. (q ≡ b) ⊎ IsPreceded log s due b) [
+        none = λ b look m. elim (h.1 b look m) as (λ z. (q ≡ b) ⊎ NeedNotAct log s due b) [
           | inl found ↦ let f : Some q ≡ Some b = found in inl cc
           | inr preceded ↦ inr preceded
         ];
       }
 
--- ---- those that are preceded
+-- ---- those that need not act
 
-module _ (log : LogView) (s : State) (due : List ℕ) (leads : FirstLeads log s) where
-  -- if no step of the list leads anywhere, nobody does who may act
-  dead_each : (xs : List Step) → AllDead log s xs → ((b : ℕ) → MayAct log s b → Contains xs (steps.Act b) ⊎ IsPreceded log s due b)
-      → (n b : ℕ) → turn log due b < n → MayAct log s b → Dead log (next log s (steps.Act b))
-  dead_each xs dead all zero b l may = absurd (omega (arith, l))
-  dead_each xs dead all (suc n) b l may = elim (all b may) [
-    | inl there ↦ All-contains (λ x. Allowed log s x → Dead log (next log s x)) xs (steps.Act b) dead there may
-    | inr (p, h) ↦ λ live. dead_each xs dead all n p (omega (arith, h.before, l)) h.first.may (leads p b h.first may live)
+module _ (log : LogView) (s : State) (due : List ℕ) (leads : FirstLeads log s) (alike : IdleAlike log s) where
+  -- if G follows where a request of the list leads on, it does where any does that isn't idle
+  goes_each : (G : Type 0) (Told : ℕ → Type 0) → ((b : ℕ) → Told b → MayAct log s b → Live log (next log s (steps.Act b)) → G)
+      → ((b : ℕ) → MayAct log s b → Told b ⊎ NeedNotAct log s due b)
+      → (n b : ℕ) → turn log due b < n → MayAct log s b → (Live log (next log s (steps.Act b)) → G) ⊎ IsIdle log s b
+  goes_each G Told goes all zero b l may = absurd (omega (arith, l))
+  goes_each G Told goes all (suc n) b l may = elim (all b may) [
+    | inl told ↦ inl (goes b told may)
+    | inr (inl (p, h)) ↦ elim (goes_each G Told goes all n p (omega (arith, h.before, l)) h.first.may) [
+      | inl leads_p ↦ inl (λ live. leads_p (leads p b h.first may live))
+      | inr idle ↦ inr (alike p b h.first may idle)
+    ]
+    | inr (inr idle) ↦ inr idle
   ]
 
-  pub covers_all : (xs : List Step) → (s.event ≡ length log.events → ⊥) → (Allowed log s steps.Pass → Contains xs steps.Pass)
-      → ((b : ℕ) → MayAct log s b → Contains xs (steps.Act b) ⊎ IsPreceded log s due b) → Covers log s xs
-  covers_all xs more pass all dead = dead_first log s more each
+  idle_step : (G : Type 0) (b : ℕ) → (Live log (next log s (steps.Act b)) → G) ⊎ IsIdle log s b → GoesOrIdles log s G (steps.Act b)
+  idle_step G b (inl goes) = inl goes
+  idle_step G b (inr idle) = inr (b, refl, idle)
+
+  pub covers_all : (xs : List Step) → DeadIdle log s → (Allowed log s steps.Pass → Contains xs steps.Pass)
+      → ((b : ℕ) → MayAct log s b → Contains xs (steps.Act b) ⊎ NeedNotAct log s due b) → Covers log s xs
+  covers_all xs dead_idle pass all dead = dead_idle each
     where
-      each : (x : Step) → Allowed log s x → Dead log (next log s x)
-      each steps.Pass a = All-contains (λ x. Allowed log s x → Dead log (next log s x)) xs steps.Pass dead (pass a) a
-      each (steps.Act b) a = dead_each xs dead all (turn log due b + 1) b (omega arith) a
+      lost : (x : Step) → Contains xs x → Allowed log s x → Dead log (next log s x)
+      lost x there a = All-contains (λ y. Allowed log s y → Dead log (next log s y)) xs x dead there a
 
-  -- if somebody who may act leads on, the only one does
-  live_only : (q : ℕ) → ((b : ℕ) → MayAct log s b → (q ≡ b) ⊎ IsPreceded log s due b) → (n b : ℕ) → turn log due b < n → MayAct log s b
-      → Live log (next log s (steps.Act b)) → Live log (next log s (steps.Act q))
-  live_only q only zero b l may live = absurd (omega (arith, l))
-  live_only q only (suc n) b l may live = elim (only b may) [
-    | inl same ↦ subst (λ c. Live log (next log s (steps.Act c))) (sym same) live
-    | inr (p, h) ↦ live_only q only n p (omega (arith, h.before, l)) h.first.may (leads p b h.first may live)
-  ]
+      each : (x : Step) → Allowed log s x → GoesOrIdles log s ⊥ x
+      each steps.Pass a = inl (lost steps.Pass (pass a) a)
+      each (steps.Act b) a = idle_step ⊥ b (goes_each ⊥ (λ c. Contains xs (steps.Act c)) (λ c there may. lost (steps.Act c) there may) all (turn log due b + 1) b (omega arith) a)
 
   -- the only step acts at once
-  pub only_is_forced : (q : ℕ) → (s.event ≡ length log.events → ⊥) → MayAct log s q → (Allowed log s steps.Pass → ⊥)
-      → ((b : ℕ) → MayAct log s b → (q ≡ b) ⊎ IsPreceded log s due b) → IsForced log s (steps.Act q)
-  only_is_forced q more may shut only = record { allowed = may; live = λ l. first l.steps l.last l.leads l.over }
+  pub only_is_forced : (q : ℕ) → LiveIdle log s → MayAct log s q → (Allowed log s steps.Pass → ⊥)
+      → ((b : ℕ) → MayAct log s b → (q ≡ b) ⊎ NeedNotAct log s due b) → IsForced log s (steps.Act q)
+  only_is_forced q live_idle may shut only = record { allowed = may; live = live_idle (next log s (steps.Act q)) each }
     where
-      first : (ys : List Step) (t : State) → Leads log s ys t → t.event ≡ length log.events → Live log (next log s (steps.Act q))
-      first [] t e over = absurd (more (ap (λ (u : State). u.event) e ∙ over))
-      first (steps.Pass ∷ ys) t e over = absurd (shut e.0)
-      first (steps.Act b ∷ ys) t e over = live_only q only (turn log due b + 1) b (omega arith) e.0 (record { steps = ys; last = t; leads = e.1; over = over })
+      each : (x : Step) → Allowed log s x → GoesOrIdles log s (Live log (next log s (steps.Act q))) x
+      each steps.Pass a = absurd (shut a)
+      each (steps.Act b) a = idle_step (Live log (next log s (steps.Act q))) b
+          (goes_each (Live log (next log s (steps.Act q))) (λ c. q ≡ c) (λ c same m live. subst (λ d. Live log (next log s (steps.Act d))) (sym same) live) only (turn log due b + 1) b (omega arith) a)
 
 module _ (who_is_left : (log : LogView) (p : PlaceView) (b : ℕ) → IsPlace log p → b < p.state.event → submits (slice_get log.events b) ≡ true → slice_get p.state.acted b ≡ Some false → has p.pending b ≡ true) where
   -- who may act is pending
   acts_pending : (log : LogView) (p : PlaceView) (b : ℕ) → IsPlace log p → MayAct log p.state b → has p.pending b ≡ true
   acts_pending log p b place m = who_is_left log p b place m.since (ap submits m.submitted) m.once
 
-  pub only_forced : (log : LogView) (p : PlaceView) (due : List ℕ) (q : ℕ) → FirstLeads log p.state → IsOnly log p.state due p.pending q → IsPlace log p
-      → (p.state.event ≡ length log.events → ⊥) → (Allowed log p.state steps.Pass → ⊥) → IsForced log p.state (steps.Act q)
-  only_forced log p due q leads only place more shut =
-      only_is_forced log p.state due leads q more only.may shut (λ b a. only.none b (acts_pending log p b place a) a)
+  pub only_forced : (log : LogView) (p : PlaceView) (due : List ℕ) (q : ℕ) → FirstLeads log p.state → IdleAlike log p.state → LiveIdle log p.state → IsOnly log p.state due p.pending q → IsPlace log p
+      → (Allowed log p.state steps.Pass → ⊥) → IsForced log p.state (steps.Act q)
+  only_forced log p due q leads alike live only place shut =
+      only_is_forced log p.state due leads alike q live only.may shut (λ b a. only.none b (acts_pending log p b place a) a)
 
-  pub offers_all : (log : LogView) (p : PlaceView) (due : List ℕ) (xs : List Step) → FirstLeads log p.state → Offers log p.state due xs p.pending → IsPlace log p
-      → (p.state.event ≡ length log.events → ⊥) → Covers log p.state xs
-  offers_all log p due xs leads h place more = covers_all log p.state due leads xs more h.pass (λ b a. h.each b (acts_pending log p b place a) a)
+  pub offers_all : (log : LogView) (p : PlaceView) (due : List ℕ) (xs : List Step) → FirstLeads log p.state → IdleAlike log p.state → DeadIdle log p.state → Offers log p.state due xs p.pending → IsPlace log p
+      → Covers log p.state xs
+  offers_all log p due xs leads alike dead h place = covers_all log p.state due leads alike xs dead h.pass (λ b a. h.each b (acts_pending log p b place a) a)
 
 pub none_of : (o : Option ℕ) → is_some o ≡ false → o ≡ None
 none_of None e = refl

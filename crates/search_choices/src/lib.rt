@@ -6,7 +6,7 @@
 //! A [`Turn`] says when a request acts in such a run.
 //!
 //! Of requests that ask for the same and were answered the same, or weren't, only the one that is due first is
-//! tried. [`Links`] say which may be alike.
+//! tried. [`Links`] say which may be alike. One that was never answered isn't tried while nobody needs what it leaves.
 #![tactic(auto)]
 
 mod alike;

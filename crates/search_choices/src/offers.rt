@@ -7,16 +7,16 @@ ghost use Rattle.std.specs.List.{All};
 ghost use Rattle.log_runs.specs.Runs.{Allowed, Covers, IsForced, MayAct};
 ghost use Rattle.search_places.specs.Places.{IsPlace};
 ghost use Rattle.search_others.specs.Known.{AreOthers};
-ghost use Rattle.search_choices.specs.Offered.{Offers, IsOnly, IsPreceded};
+ghost use Rattle.search_choices.specs.Offered.{Offers, IsOnly, NeedNotAct};
 
 use crate::alike::is_preceded;
 use crate::guesses::{Turn, guess, write_before};
 use crate::links::Links;
 use log_runs::{Event, Log, Step};
-use search_others::Others;
+use search_others::{Others, is_idle};
 use search_places::Place;
 use search_places::laws::who_is_left_is_pending;
-use search_rules::laws::the_first_of_alike_requests_acts_first;
+use search_rules::laws::{idle_requests_may_wait, the_first_of_alike_requests_acts_first};
 use search_rules::never_brings;
 use std::alloc::{AllocError, Global};
 use tlp_core::OpRef;
@@ -223,7 +223,7 @@ fn look(
     Ok(())
 }
 
-/// [`look`], unless another request precedes it.
+/// [`look`], unless another request precedes it, or it is idle.
 fn offer(
     steps: &mut Vec<Step>,
     scene: Scene<'_, '_, '_, '_>,
@@ -241,11 +241,15 @@ fn offer(
     if is_preceded(place, log, others, links, b) {
         return Ok(());
     }
+    if is_idle(place, log, others, b) {
+        return Ok(());
+    }
     look(steps, log, place, b, c)?;
     Ok(())
 }
 
-/// The steps that are enough, in no order: all that may be taken, but for those of requests that others precede.
+/// The steps that are enough, in no order: all that may be taken, but for those of requests that others precede, or that are
+/// idle.
 fn allowed(
     alloc: Global,
     scene: Scene<'_, '_, '_, '_>,
@@ -275,22 +279,26 @@ fn may_act(log: &Log, place: &Place, b: usize, write: usize) -> bool
     place.may_act(log, b)
 }
 
-/// Request `b` may act, and as far as is known no other precedes it. It may be that it waits for that posted write.
+/// Request `b` may act, and as far as is known no other precedes it and it isn't idle. It may be that it waits for that posted
+/// write.
 fn is_open(scene: Scene<'_, '_, '_, '_>, links: &Links, b: usize, write: usize) -> bool
     requires place { IsPlace scene.log.now scene.place.now }
     requires others { AreOthers scene.log.now scene.others.now }
     ensures yes { IsTrue result → MayAct scene.entry.log.now scene.entry.place.now.state b }
     ensures no { result ≡ false → MayAct scene.entry.log.now scene.entry.place.now.state b →
-        IsPreceded scene.entry.log.now scene.entry.place.now.state scene.entry.others.now.due b }
+        NeedNotAct scene.entry.log.now scene.entry.place.now.state scene.entry.others.now.due b }
 {
     let Scene { log, others, place } = scene;
     if !may_act(log, place, b, write) {
         return false;
     }
-    !is_preceded(place, log, others, links, b)
+    if is_preceded(place, log, others, links, b) {
+        return false;
+    }
+    !is_idle(place, log, others, b)
 }
 
-/// The only pending request that may act, if there is just one, but for those that others precede.
+/// The only pending request that may act, if there is just one, but for those that others precede, or that are idle.
 fn only_act(scene: Scene<'_, '_, '_, '_>, links: &Links) -> Option<usize>
     requires place { IsPlace scene.log.now scene.place.now }
     requires others { AreOthers scene.log.now scene.others.now }
@@ -311,7 +319,7 @@ fn only_act(scene: Scene<'_, '_, '_, '_>, links: &Links) -> Option<usize>
 }
 
 /// The only step that is enough, if there is just one, and it isn't that the next event is passed: a request acts, and each
-/// other that may act is preceded.
+/// other that may act is preceded or idle.
 pub fn only_step(log: &Log, others: &Others, links: &Links, place: &Place) -> Option<Step>
     requires place { IsPlace log.now place.now }
     requires others { AreOthers log.now others.now }
@@ -320,6 +328,7 @@ pub fn only_step(log: &Log, others: &Others, links: &Links, place: &Place) -> Op
 {
     who_is_left_is_pending();
     the_first_of_alike_requests_acts_first();
+    idle_requests_may_wait();
     if place.may_pass(log) {
         return None;
     }
@@ -329,7 +338,8 @@ pub fn only_step(log: &Log, others: &Others, links: &Links, place: &Place) -> Op
 }
 
 /// The steps that are enough, if one leads on: all that may be taken, but for those of requests that another one, which is
-/// alike, precedes. `hints` and what is known of the log's requests say which are tried first.
+/// alike, precedes, or that were never answered while nobody needs what they leave. `hints` and what is known of the log's
+/// requests say which are tried first.
 pub fn choices(
     alloc: Global,
     log: &Log,
@@ -345,6 +355,7 @@ pub fn choices(
 {
     who_is_left_is_pending();
     the_first_of_alike_requests_acts_first();
+    idle_requests_may_wait();
     let target = target(place, log);
     let guess = guess(place, log, hints.turns, target);
     let aim = Aim { target, guess };

@@ -14,5 +14,7 @@ returns-clause-covers c =
     let due = c.args.others.now.due in
     let tried : Offers c.args.log.now c.args.place.now.state due c.sort_by_cached_key.new.self.items c.args.place.now.pending = offers_permuted c.args.log.now c.args.place.now.state due c.in_ok-steps.steps.items c.sort_by_cached_key.new.self.items c.args.place.now.pending
     c.sort_by_cached_key.ensures.permutation c.in_ok-steps.ensures in
-    offers_all c.who_is_left_is_pending.ensures c.args.log.now c.args.place.now due c.sort_by_cached_key.new.self.items
-    (c.the_first_of_alike_requests_acts_first.ensures c.args.log.now c.args.place.now.state) tried c.requires.place c.requires.more
+    let log = c.args.log.now in
+    let s = c.args.place.now.state in
+    offers_all c.who_is_left_is_pending.ensures log c.args.place.now due c.sort_by_cached_key.new.self.items
+    (c.the_first_of_alike_requests_acts_first.ensures log s) (c.idle_requests_may_wait.ensures.alike log s) (c.idle_requests_may_wait.ensures.dead log s c.requires.more) tried c.requires.place

@@ -1,4 +1,4 @@
-use Rattle.std.proofs.Common.{◌≡◌, ◌∙◌, ◌++◌, ◌∷◌, [], false, take, get_or, sym, subst}
+use Rattle.std.proofs.Common.{◌≡◌, ◌++◌, ◌∷◌, [], false, take, get_or, sym, subst}
 use Rattle.std.specs.Prelude.{is_some}
 use Rattle.search_choices.proofs.Covering.{OnlySo, only_found, only_passed, only_next, none_of}
 use Rattle.search_choices.proofs.offers.only_act.Goals.{then-is_open+else-is_some, else-is_open}
