@@ -463,12 +463,74 @@ def log_in_pieces(seed, defect):
     return device.run(), device.is_planted
 
 
+# ---- the log that a device with one fault would have written, by the words of the reasons
+
+
+def reading(op):
+    """A read of the bytes of an AtomicOp."""
+    return Op("read", op.address, op.size, 15, 15 if op.size > 4 else 0)
+
+
+def altered(op, words):
+    """The operation as a device does it of which the words are true."""
+    if words == "had had no effect":
+        return Op("read", op.address, 4, 0, 0) if op.kind == "write" else reading(op)
+    if words == "had swapped whatever it found" and op.kind == "cas":
+        return Op("swap", op.address, op.size, data=op.data)
+    if words == "had written all bytes of its first DW" and op.kind == "write":
+        return Op("write", op.address, op.size, 15, op.last, op.data)
+    if words == "had written all bytes of its last DW" and op.kind == "write":
+        return Op("write", op.address, op.size, op.first, 15, op.data)
+    return None
+
+
+def apart(records, place, before, by):
+    """The records, where the request at the place is the only one of that requester, submitted before that record."""
+    _, whose, which, op = records[place]
+    left = []
+    for at, (kind, requester, number, what) in enumerate(records):
+        if at == before:
+            left.append(("sub", by, 0, op))
+        if (requester, number) != (whose, which):
+            left.append((kind, requester, number - (requester == whose and number > which), what))
+        elif kind == "ans":
+            left.append((kind, by, 0, what))
+    return left
+
+
+def in_blocks(op):
+    """A write in parts that lie in a block each."""
+    ends = [end - op.address for end in range(op.address + 1, op.address + op.size) if end % BLOCK == 0] + [op.size]
+    return [piece_of(op, start, end) for start, end in zip([0] + ends, ends)]
+
+
+def with_fault(records, place, words):
+    """The records of a device of which the words are true of the request at the place; None where they say nothing."""
+    kind, requester, number, op = records[place]
+    by = 1 + max(r[1] for r in records)
+    if altered(op, words):
+        return records[:place] + [(kind, requester, number, altered(op, words))] + records[place + 1:]
+    if words == "had been carried out, though it isn't served" and op.kind == "write" and pieces_of(op, 4) == [op]:
+        return records[:place] + [("sub", by, at, part) for at, part in enumerate(in_blocks(op))] + records[place:]
+    if words == "had added twice" and op.kind == "add":
+        return records[:place + 1] + [("sub", by, 0, op)] + records[place + 1:]
+    if words == "had not kept the order of its requester" and op.kind == "write":
+        return apart(records, place, place, by)
+    if words == "had passed an earlier posted write of its requester" and op.kind == "read":
+        return apart(records, place, place, by)
+    earlier = re.fullmatch("had read what was there before line ([0-9]+)", words)
+    if earlier and op.kind == "read":
+        return apart(records, place, int(earlier.group(1)) - 3, by)
+    return None
+
+
 # ---- the program's answers
 
 
 class Judge:
     def __init__(self, program):
         self.program, self.failures, self.errors, self.expected, self.cores = program, 0, "", 0, 0
+        self.supposed = {}
 
     def run(self, words, text):
         done = subprocess.run([self.program] + words, input=text, capture_output=True, text=True, timeout=60)
@@ -537,6 +599,7 @@ class Judge:
             elif not self.is_expected(records[:count]):
                 self.tell(name, "the records have no history with the reply that is told", records, size)
             self.judge_core(name, records, size)
+            self.judge_supposed(name, records, count, size)
         return kind
 
     def judge_core(self, name, records, size):
@@ -558,6 +621,23 @@ class Judge:
             self.tell(name, "status %d and %r with --core" % (status, output), records, size)
         elif is_explainable(core):
             self.tell(name, "the short log has a history:\n" + output, records, size)
+
+    def judge_supposed(self, name, records, count, size):
+        """Whether the log has a history with each fault, and in pieces of the size, that is told."""
+        told = re.findall(r"^pciex: if line ([0-9]+) \((.*)\) (.*), (?:lines 3 to ([0-9]+)|the whole log) would have a history$", self.errors, re.M)
+        if size and (told or " --granularity " in self.errors):
+            self.tell(name, "a fault or a size is told of a log in pieces", records, size)
+        for line, shown_op, all_words, end in told:
+            place, seen = int(line) - 3, records[:int(end) - 2] if end else records
+            for words in all_words.split(", or "):
+                self.supposed[words.split(" line ")[0]] = self.supposed.get(words.split(" line ")[0], 0) + 1
+                log = with_fault(seen, place, words) if seen[place][0] == "sub" else None
+                if log is None or seen[place][3].text() != shown_op or end and int(end) != count + 2 or not is_explainable(log):
+                    self.tell(name, "the log has no history if line %s %s" % (line, words), records)
+        for bytes_, end in re.findall("^pciex: with --granularity ([0-9]+) lines 3 to ([0-9]+) have a history$", self.errors, re.M):
+            self.supposed["pieces"] = self.supposed.get("pieces", 0) + 1
+            if int(end) != count + 2 or not is_explainable(records[:count], int(bytes_)):
+                self.tell(name, "the log has no history in pieces of %s" % bytes_, records)
 
     def is_expected(self, records):
         """Whether the records have a history with the reply that is told in place of the last one, if one is told."""
@@ -623,14 +703,16 @@ def judge(program):
             judge.say("each log of a device where %s has a history" % DEFECTS.get(defect, FALLING))
     if judge.expected < SMALL_LOGS // 8:
         judge.say("only %d small logs are told a reply with which they have a history" % judge.expected)
+    if sum(judge.supposed.values()) < SMALL_LOGS // 25 or len(judge.supposed) < 5:
+        judge.say("only %s are told of small logs" % judge.supposed)
     if judge.cores < SMALL_LOGS // 8:
         judge.say("only %d short logs are printed in place of `none`" % judge.cores)
     torn = judge.judge_pieces()
     if torn == 0:
         judge.say("each log of a device that acts in pieces has a history of whole requests")
-    print("searches: %d small logs, %d with a history, %d with one of pieces of 4 bytes, %d with a flaw, %d short logs without one; of %d logs of a device that acts in "
+    print("searches: %d small logs, %d with a history, %d with one of pieces of 4 bytes, %d with a flaw, %d short logs without one, %d with one by a fault; of %d logs of a device that acts in "
           "pieces each has one of pieces, and %d have none of whole requests; defects, and logs until one has none: %s; %s" % (
-              SMALL_LOGS, kinds.count("found"), cut.count("found"), kinds.count("flaw"), judge.cores, DEVICE_LOGS, torn,
+              SMALL_LOGS, kinds.count("found"), cut.count("found"), kinds.count("flaw"), judge.cores, sum(judge.supposed.values()), DEVICE_LOGS, torn,
               ", ".join("%s %s" % c for c in counts.items()),
               "%d failures" % judge.failures if judge.failures else "each answer is right"))
     return judge.failures > 0

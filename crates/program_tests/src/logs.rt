@@ -21,7 +21,9 @@ pciex: record 4 is line 7: lines 3 to 7 have no history, lines 3 to 6 have one
 pciex: line 7: ans 2 0 data 00000000, against these answers:
 pciex: line 6: ans 1 0 data 00000000
 pciex: with data 00010000 in line 7, lines 3 to 7 have a history
-pciex: no order gives these answers
+pciex: if line 5 (write 40 1 0 00000000) had written all bytes of its first DW, the whole log would have a history
+pciex: if line 4 (add 40 00010000) had had no effect, the whole log would have a history
+pciex: if line 3 (add 40 00010000) had had no effect, the whole log would have a history
 ",
         status: 1,
     },

@@ -1,12 +1,16 @@
 //! Why a prefix of a log has no history.
-ghost use Rattle.std.specs.Prelude.{◌≡◌, ◌+◌, true, IfOk, IfSome};
+ghost use Rattle.std.specs.Prelude.{◌≡◌, ◌+◌, true, All, IfOk, IfSome};
 ghost use Rattle.history_words.specs.TraceView.{observed};
+ghost use Rattle.log_runs.specs.Explainable.{prefix as first};
+ghost use Rattle.log_pieces.specs.InPieces.{IsExplainableIn};
 ghost use Rattle.search_history.specs.Expected.{IsExpected};
 ghost use Rattle.search_history.specs.Prefixes.{IsExplainedBefore};
+ghost use Rattle.search_hypotheses.specs.Hypotheses.{IsHypothesis};
 ghost use Rattle.search_reasons.specs.Reasons.{AreAgainst, IsCause, IsTold};
 
 use crate::cases::Case;
 use crate::causes::{Cause, misreply_among};
+use crate::supposed::{Supposed, suppose};
 use log_events::form_of;
 use search_anomalies::{Link, Prefix, WordCause, cycle_through, words_cause};
 use search_history::{Before, Budget, contradict, contradiction, explained_before};
@@ -19,6 +23,8 @@ pub struct Reasons {
     /// none where that isn't known.
     pub before: Option<Before>,
     pub why: Why,
+    /// With what it would have one.
+    pub supposed: Supposed,
 }
 
 /// What the last record of the prefix is up against.
@@ -243,6 +249,7 @@ pub fn reasons_of(alloc: Global, case: Case<'_>, budget: &mut Budget) -> Result<
         return Ok(Reasons {
             before,
             why: Why::Form,
+            supposed: Supposed::nothing(),
         });
     }
     let found = answers_against(alloc, case.searched, budget)?;
@@ -260,5 +267,34 @@ pub fn reasons_of(alloc: Global, case: Case<'_>, budget: &mut Budget) -> Result<
         cause,
         cycle,
     };
-    Ok(Reasons { before, why })
+    Ok(Reasons {
+        before,
+        why,
+        supposed: Supposed::nothing(),
+    })
+}
+
+/// Why the prefix has no history, as [`reasons_of`] finds it out, and with what it would have one: single faults of a device,
+/// and pieces in which requests act.
+pub fn reasons_with_faults(
+    alloc: Global,
+    case: Case<'_>,
+    budget: &mut Budget,
+) -> Result<Reasons, AllocError>
+    ensures explained { IfOk result (λ r. IfSome r.before (λ b. IsExplainedBefore case.entry.searched.seen.now case.entry.searched.count b.count)) }
+    ensures next { IfOk result (λ r. IfSome r.before (λ b. b.count + 1 ≡ case.entry.searched.count)) }
+    ensures expected { IfOk result (λ r. IfSome r.before (λ b. IfSome b.expected (IsExpected case.entry.searched.seen.now b.count))) }
+    ensures answers { IfOk result (λ r. IsTold case.entry.searched.seen.now case.entry.searched.count
+        (observed case.entry.read.seen.now) case.entry.read.seen.now.records r.why) }
+    ensures faults { IfOk result (λ r. IfSome r.supposed.faults (λ t. All (IsHypothesis case.entry.read.seen.now case.entry.read.count) t.found.items)) }
+    ensures pieces { IfOk result (λ r. IfSome r.supposed.pieces (λ size. IsExplainableIn size (first case.entry.read.count case.entry.read.seen.now))) }
+{
+    let reasons = reasons_of(alloc, case, budget)?;
+    let supposed = suppose(alloc, case, &reasons.why, budget)?;
+    let Reasons { before, why, .. } = reasons;
+    Ok(Reasons {
+        before,
+        why,
+        supposed,
+    })
 }

@@ -7,7 +7,8 @@
 //! the lines of reasons for a picture of the log.
 //!
 //! Where no word of an answer tells why, a cycle of requests may (`search_anomalies`): each acts before the next one.
-//! Nothing promises that one is found, and nothing rests on it; each of its lines follows from the log.
+//! Nothing promises that one is found, and nothing rests on it; each of its lines follows from the log. Where there is none
+//! either, single faults of a device are told with which there would be a history (`search_hypotheses`).
 #![tactic(auto)]
 
 mod asked;
@@ -19,16 +20,19 @@ mod finding;
 mod flaws;
 mod given_up;
 mod misreplies;
+mod supposed;
+mod supposing;
 mod telling;
 mod wording;
 
 pub use cases::Case;
 pub use causes::Cause;
 pub use faults::tell_fault;
-pub use finding::{Reasons, Why, reasons_of};
+pub use finding::{Reasons, Why, reasons_of, reasons_with_faults};
 pub use flaws::tell_flaw;
 pub use given_up::{GivenUp, explained_of, tell_given_up};
 pub use misreplies::Misreply;
 pub use search_anomalies::{Bound, Edge, Kept, Link, Prefix, Sum, Word, WordCause, core_of};
+pub use supposed::Supposed;
 pub use telling::{lines_of, reason_lines, tell_none};
 pub use wording::word_text;

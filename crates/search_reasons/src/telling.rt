@@ -7,7 +7,8 @@ ghost use Rattle.search_reasons.specs.Lines.{lines_in, said_lines};
 use crate::cases::Case;
 use crate::causes::Cause;
 use crate::cycles::put_cycle;
-use crate::finding::{Reasons, Why, reasons_of, records_with};
+use crate::finding::{Reasons, Why, reasons_with_faults, records_with};
+use crate::supposing::{Page, put_faults, put_pieces};
 use crate::wording::{put_cause, put_line};
 use arrayvec::ArrayString;
 use hex_text::without_return;
@@ -15,7 +16,7 @@ use history_words::{RecordHeader, RecordRef};
 use line_loop::{EngineFault, write_out};
 use memchr::memchr;
 use operation_text::write_reply;
-use search_anomalies::{Bound, Prefix, Sum, WordCause, wide_request};
+use search_anomalies::{Bound, Prefix, Sum, WordCause};
 use search_history::Budget;
 use std::alloc::{AllocError, Global};
 use std::io::Write;
@@ -218,35 +219,6 @@ fn put_expected(
     )
 }
 
-/// The answers may have a history in which requests act in parts, by what is told of them. AtomicOps act as a whole
-/// there, too, and so does each DW.
-fn may_be_of_parts(cause: Cause) -> bool {
-    matches!(
-        cause,
-        Cause::Words(WordCause::Overwritten(..) | WordCause::NoOrder)
-    )
-}
-
-/// Adds which request may act in parts, if one of several DW has to do with the answers.
-fn put_wide(
-    alloc: Global,
-    out: &mut Vec<u8>,
-    lines: &TraceLines,
-    prefix: Prefix<'_>,
-    answers: &[usize],
-) -> Result<(), AllocError> {
-    let Some(submission) = wide_request(alloc, prefix, answers)? else {
-        return Ok(());
-    };
-    let line = lines.of_record(submission);
-    put_line(
-        out,
-        format_args!(
-            "line {line} has several DW, and acts as a whole: if the device acts on it in parts, give --granularity"
-        ),
-    )
-}
-
 /// The bound, by a record of the log that was read in place of one of those that were searched.
 fn bound_as_read(case: Case<'_>, bound: Bound) -> Bound {
     match bound {
@@ -323,12 +295,19 @@ pub fn reason_lines(
             let answers = answers_as_read(alloc, case, *last, others)?;
             put_answers(&mut out, &lines, seen, &answers)?;
             put_expected(&mut out, &lines, case, reasons)?;
-            if cycle.is_empty() {
-                put_cause(&mut out, &lines, seen, &cause_as_read(case, *cause))?;
+            let page = Page {
+                lines: &lines,
+                prefix: case.read,
+            };
+            match &reasons.supposed.faults {
+                Some(tried) => put_faults(alloc, &mut out, page, tried)?,
+                None if cycle.is_empty() => {
+                    put_cause(&mut out, &lines, seen, &cause_as_read(case, *cause))?;
+                }
+                None => put_cycle(&mut out, &lines, case, cycle)?,
             }
-            put_cycle(&mut out, &lines, case, cycle)?;
-            if case.ends.is_none() && may_be_of_parts(*cause) {
-                put_wide(alloc, &mut out, &lines, case.read, &answers)?;
+            if let Some(size) = reasons.supposed.pieces {
+                put_pieces(&mut out, page, size)?;
             }
         }
     }
@@ -336,7 +315,7 @@ pub fn reason_lines(
 }
 
 /// Tells why the prefix has no history: on which lines of the text it has none, and on which a shorter one has a
-/// history, as far as that is known; which answers contradict each other; and why. [`reasons_of`] says what is promised
+/// history, as far as that is known; which answers contradict each other; and why. [`reasons_with_faults`] says what is promised
 /// of that and what is done for it. Nothing is written if memory can't be allocated.
 pub fn tell_none<E: Write>(
     alloc: Global,
@@ -349,7 +328,7 @@ pub fn tell_none<E: Write>(
     ensures memory { IfErr result (λ f. f ≡ EngineFault.Memory → Keeps (E.contents errors.old) (E.contents errors.new)) }
     ensures part { OnErr result ((lines : List ℕ) × Appends (E.contents errors.old) (E.contents errors.new) lines) }
 {
-    let reasons = reasons_of(alloc, case, budget)?;
+    let reasons = reasons_with_faults(alloc, case, budget)?;
     let lines = reason_lines(alloc, text, case, &reasons)?;
     write_out(errors, &lines)
 }

@@ -67,7 +67,7 @@ fn put_served(out: &mut Vec<u8>, address: u64, bytes: usize) -> Result<(), Alloc
 }
 
 /// The operation that the record submits.
-fn op_text(seen: &RecordStore, place: usize) -> ArrayString<512> {
+pub(crate) fn op_text(seen: &RecordStore, place: usize) -> ArrayString<512> {
     let mut text = ArrayString::new();
     if let Some(RecordRef::Sub { op, .. }) = seen.get(place) {
         write_op(&op, &mut text);
