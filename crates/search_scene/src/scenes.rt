@@ -16,7 +16,7 @@ use log_events::Requests;
 use operation_text::write_decimal;
 use search_history::Budget;
 use search_picture::Scene;
-use search_reasons::{Case, Link, Reasons, Why, lines_of, reason_lines, reasons_of};
+use search_reasons::{Case, Link, Reasons, Why, lines_of, reason_lines, reasons_with_faults};
 use std::alloc::{AllocError, Global};
 use trace_diagnostics::TraceLines;
 
@@ -115,7 +115,7 @@ pub fn scene_of(
     ensures { IfOk result (Shows case.entry.read.seen.now (case.entry.read.count - 1) (lines_in text.now)) }
 {
     let mut own = budget.half(u64::MAX);
-    let reasons = reasons_of(alloc, case, &mut own)?;
+    let reasons = reasons_with_faults(alloc, case, &mut own)?;
     budget.end_half(own);
     scene_for(alloc, text, case, &reasons, budget)
 }
