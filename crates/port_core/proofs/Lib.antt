@@ -6,3 +6,4 @@ pub mod Held
 pub mod Sent
 pub mod Known
 pub mod Given
+pub mod GivenRuns

@@ -1,5 +1,5 @@
 -- Lists of calls of a port, and what they did since the link came up last.
-use Rattle.std.specs.Prelude.{ℕ, ◌≡◌, ◌+◌, ◌%◌, ◌<◌, ◌≤◌, Bool, true, false, if◌then◌else◌, List, [], ◌∷◌, ◌++◌, length, fold, slice_index, slice_get, remove, sum_by, Option, Some, None, Result, Ok, Err}
+use Rattle.std.specs.Prelude.{ℕ, ◌≡◌, ◌+◌, ◌-◌, ◌%◌, ◌<◌, ◌≤◌, Bool, true, false, if◌then◌else◌, List, [], ◌∷◌, ◌++◌, length, fold, slice_index, slice_get, remove, sum_by, Option, Some, None, Result, Ok, Err}
 use Rattle.dllp_core.specs.declared.packet.Class.{Class}
 use Rattle.dllp_core.specs.declared.packet.Dllp.{Dllp}
 use Rattle.dllp_core.specs.declared.packet.Dllp.TheVariants.{Ack, Nak, Update}
@@ -23,10 +23,12 @@ use Rattle.port_core.specs.declared.incoming.Received.{Received}
 use Rattle.port_core.specs.declared.incoming.Received.TheVariants as arrivals
 use Rattle.port_core.specs.declared.port.DllpReceived.{DllpReceived}
 use Rattle.port_core.specs.declared.port.DllpReceived.TheVariants.{Took, Gone}
+use Rattle.port_core.specs.declared.port.Choice.{Choice}
+use Rattle.port_core.specs.declared.port.Choice.TheVariants as choices
 use Rattle.port_core.specs.Init.{nothing_advertised, advertised_with, credits_of, first_of}
 use Rattle.port_core.specs.Dllps.{link_reading}
 use Rattle.port_core.specs.Incoming.{number_in, tlp_in}
-use Rattle.port_core.specs.Port.{PortView, new_port, risen, received, after_receive, dllp_answer, after_dllp_received, after_free, refusal_of, after_enter, after_next, refreshed, after_replay, after_retrained}
+use Rattle.port_core.specs.Port.{PortView, new_port, risen, received, after_receive, dllp_answer, after_dllp_received, after_free, refusal_of, after_enter, greater, choice_of, after_packet_sent, after_next, refreshed, after_replay, after_retrained}
 
 -- a call of a port; one that is refused for being out of memory changes nothing and is left out
 pub data Call : Type 0 where
@@ -262,3 +264,31 @@ IsOfFewUnits _ = Unit {0}
 abbrev pub AreOfFewUnits : List Call → Type 0
 AreOfFewUnits [] = Unit {0}
 AreOfFewUnits (call ∷ calls) = IsOfFewUnits call × AreOfFewUnits calls
+
+-- ---- what was given out
+
+-- how many of the packets that were entered stand before the place of the sender
+abbrev pub count_before : Story → ℕ → ℕ
+count_before s place = length s.entered - length s.port.sender.sending.kept + place
+
+-- how many of them were given out at least once, of which there were n before
+abbrev pub given_by : Choice → Story → ℕ → ℕ
+given_by choices.Nothing s n = n
+given_by choices.Answer s n = n
+given_by (choices.Init class) s n = n
+given_by (choices.Update class) s n = n
+given_by choices.Packet s n = greater n (count_before s (after_packet_sent s.port).sender.sending.place)
+
+abbrev pub given_after : Story → ℕ → Call → ℕ
+given_after s n Up = 0
+given_after s n Down = 0
+given_after s n Next = given_by (choice_of s.port) s n
+given_after s n _ = n
+
+abbrev pub given_calls : Story → ℕ → List Call → ℕ
+given_calls s n [] = n
+given_calls s n (call ∷ calls) = given_calls (after_call s call) (given_after s n call) calls
+
+-- since the link came up last
+abbrev pub given_in : LaneCredits → List Call → ℕ
+given_in ours calls = given_calls (story_of (new_port ours)) 0 calls

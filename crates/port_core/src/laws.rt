@@ -11,7 +11,7 @@ ghost use Rattle.link_replay.specs.Runs.{KeepsTheLast};
 ghost use Rattle.port_core.specs.declared.init.FirstCredits.{FirstCredits};
 ghost use Rattle.port_core.specs.Init.{is_up, fi1, first_of};
 ghost use Rattle.port_core.specs.Dllps.{link_reading, link_bytes};
-ghost use Rattle.port_core.specs.Runs.{Call, AreCalls, AreOfFewUnits, IsEntered, CoversHeaders, CoversUnits, advertised_in, story_in, headers_in, units_in, allocated_headers, allocated_units};
+ghost use Rattle.port_core.specs.Runs.{Call, AreCalls, AreOfFewUnits, IsEntered, CoversHeaders, CoversUnits, advertised_in, story_in, given_in, headers_in, units_in, allocated_headers, allocated_units};
 ghost use Rattle.port_core.specs.Port.{PortView, received, after_receive, dllp_answer, after_dllp_received, outgoing_of, outgoing_bytes, after_next};
 
 use crate::dllp::{InitStage, LinkDllp};
@@ -94,6 +94,14 @@ pub fn what_is_sent_was_entered()
     kept_are_the_last_accepted();
     transmitted_under_its_own_number();
 }
+
+/// Whatever calls come, and whatever bytes arrive: as many packets as were acknowledged, those that were entered and aren't kept,
+/// were given out by `next` at least once. An Ack of any other is refused.
+#[tactic(auto, using(crate::proofs::GivenRuns::was_given))]
+pub fn what_is_acknowledged_was_given_out()
+    ensures { (ours : LaneCredits) (calls : List Call) →
+        length (story_in ours calls).entered ≤ given_in ours calls + length (story_in ours calls).port.sender.sending.kept }
+{}
 
 /// Initialization comes first, whatever calls come: a port is in DL_Up, where it accepts packets, exactly when the peer's
 /// InitFCs of all three classes took effect. It sends packets in DL_Active alone, InitFC1s alone in FC_INIT1, and

@@ -24,7 +24,7 @@ pub use init::{Advertised, FirstCredits, LinkState};
 pub use laws::{
     a_refused_call_changes_nothing, an_initfc_is_read_back, initialization_comes_first,
     no_more_is_held_than_was_advertised, no_more_is_sent_than_the_peer_advertised,
-    what_is_sent_was_entered, whatever_arrives,
+    what_is_acknowledged_was_given_out, what_is_sent_was_entered, whatever_arrives,
 };
 pub use needs::need_at;
 pub use outgoing::{OutgoingEnd, PACKET_BYTES};
