@@ -1,11 +1,13 @@
 -- The registers are what writes and errors make of them.
 use Rattle.std.proofs.Common.{◌≡◌, ◌∙◌, ℕ, Bool, true, false, List, [], ◌∷◌, ◌++◌, Option, Some, None, cond, refl, ap, sym}
-use Rattle.std.specs.Prelude.{not}
+use Rattle.std.specs.Prelude.{not, is_some}
 use Rattle.std.proofs.lemmas.List.Sums.{fold-append}
 use Rattle.tlp_core.specs.Ops.{Op}
+use Rattle.tlp_core.specs.TlpView.{TlpView}
 use Rattle.tlp_core.specs.Operation.{op_of}
 use Rattle.config_core.specs.RegistersView.{RegistersView}
 use Rattle.config_core.specs.Registers.{after_poison}
+use Rattle.config_core.specs.declared.registers.Noted.{Noted}
 use Rattle.config_core.specs.declared.registers.Noted.TheVariants as noted
 use Rattle.config_core.specs.declared.request.CfgRequest.{CfgRequest}
 use Rattle.endpoint_core.specs.declared.received.Received.{Received}
@@ -14,8 +16,26 @@ use Rattle.endpoint_core.specs.Classes.{becomes, carries_poison}
 use Rattle.endpoint_core.specs.declared.waiting.Waiting.{Waiting}
 use Rattle.endpoint_core.specs.declared.waiting.Waiting.TheVariants as waits
 use Rattle.endpoint_core.specs.EndpointView.{DeviceView, EndpointView}
-use Rattle.endpoint_core.specs.Steps.{base_of_op, posted, posted_at, memory_acted, acted_at, configured, is_supported, acted_on, taken_as, with_poison}
-use Rattle.endpoint_core.specs.Runs.{Call, Take, Act, Reset, after_call, after_calls, RegisterEffect, after_effect, report_at, report_op, register_effects_as, configuration_effects, register_effects_by, register_effects, all_of, all_register_effects, registers_by, Poison, poison_effects}
+use Rattle.endpoint_core.specs.Steps.{base_of_op, is_claimed, posted, posted_at, memory_acted, acted_at, configured, is_supported, acted_on, taken_as, with_poison}
+use Rattle.endpoint_core.specs.Runs.{Call, Take, Act, Reset, after_call, after_calls, RegisterEffect, Report, after_effect, report_at, report_op, register_effects_as, configuration_effects, register_effects_by, register_effects, all_of, all_register_effects, registers_by, Poison, poison_effects}
+
+-- ---- a poisoned request that isn't claimed
+
+reports_at : (n : Noted) (o : Option ℕ) → is_some o ≡ false → Report n ∷ [] ≡ report_at n o
+reports_at n (Some base) e = absurd cc
+reports_at n None e = refl
+
+reports : (d : DeviceView) (n : Noted) (o : Option Op) → is_claimed d o ≡ false → Report n ∷ [] ≡ report_op d n o
+reports d n (Some op) e = reports_at n (base_of_op d op) e
+reports d n None e = absurd cc
+
+pub unclaimed_write : (d : DeviceView) (t : TlpView) → is_claimed d (op_of t) ≡ false → register_effects_as d (received.PoisonedPosted t) ≡ register_effects_as d (received.Posted t)
+unclaimed_write d t e = ap (λ (b : Bool). Report (cond b noted.Dropped noted.Unclaimed) ∷ []) e ∙ reports d noted.Unclaimed (op_of t) e
+
+pub unclaimed_atomic : (d : DeviceView) (t : TlpView) (ws : List Waiting) → is_claimed d (op_of t) ≡ false → register_effects_by d (waits.Poisoned t ∷ ws) ≡ register_effects_by d (waits.Memory t ∷ ws)
+unclaimed_atomic d t ws e = ap (λ (b : Bool). Report (cond b noted.Poisoned noted.Refused) ∷ []) e ∙ reports d noted.Refused (op_of t) e
+
+-- ---- each call
 
 posted_reports : (d : DeviceView) (op : Op) (o : Option ℕ) → (posted_at d op o).registers ≡ registers_by d.registers (report_at noted.Unclaimed o)
 posted_reports d op (Some base) = refl

@@ -13,6 +13,7 @@ ghost use Rattle.op_pieces.specs.Pieces as pieces;
 ghost use Rattle.endpoint_core.specs.Classes as classes;
 
 use crate::Descriptor;
+use crate::classes::descriptor_of;
 use crate::requests::in_front;
 use completer_core::answer_lent;
 use seq_memory::{LARGE_BLOCK, ReplyData};
@@ -239,12 +240,10 @@ pub(crate) fn refused<'r>(request: &TlpRef<'_>, completer: u16) -> Option<TlpRef
         (spec.refused_count request.now.kind request.now.body request.now.length)) }
 {
     let count = refused_count(request)?;
-    let header = request.header;
-    let descriptor = Descriptor {
-        tc: header.tc,
-        attr: header.attr,
-        requester: header.requester,
-        tag: header.tag,
-    };
-    Some(without_data(descriptor, completer, Status::Unsupported, count))
+    Some(without_data(
+        descriptor_of(request),
+        completer,
+        Status::Unsupported,
+        count,
+    ))
 }

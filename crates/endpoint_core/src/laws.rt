@@ -1,5 +1,5 @@
 //! Laws of any list of calls.
-ghost use Rattle.std.specs.Prelude.{ℕ, ◌≡◌, ◌+◌, ◌-◌, ◌%◌, ◌++◌, ◌∷◌, [], List, Some, None, IsSome, true};
+ghost use Rattle.std.specs.Prelude.{ℕ, ◌≡◌, ◌+◌, ◌-◌, ◌%◌, ◌++◌, ◌∷◌, [], List, Some, None, IsSome, false, true};
 ghost use Rattle.seq_memory.specs.declared.limits.TheConstants as limits;
 ghost use Rattle.tlp_core.specs.Ops.{Op};
 ghost use Rattle.tlp_core.specs.Operation.{address_of, count_of, op_fault, op_of};
@@ -12,10 +12,11 @@ ghost use Rattle.config_core.specs.SetupView.{SetupView};
 ghost use Rattle.endpoint_core.specs.declared.received.Received.TheVariants as received;
 ghost use Rattle.config_core.specs.declared.request.CfgRequest.{CfgRequest};
 ghost use Rattle.endpoint_core.specs.Classes.{becomes, descriptor_of, is_poisoned};
-ghost use Rattle.endpoint_core.specs.EndpointView.{EndpointView};
+ghost use Rattle.endpoint_core.specs.EndpointView.{DeviceView, EndpointView};
 ghost use Rattle.endpoint_core.specs.declared.waiting.Waiting.{Waiting};
-ghost use Rattle.endpoint_core.specs.Steps.{new_endpoint, taken, next_completion, first_block, dw_in_front, behind};
-ghost use Rattle.endpoint_core.specs.Runs.{Call, Take, after_calls, blocks_in, all_coming, all_leaving, effects_posted, all_effects, bytes_by, blocks_waiting, descriptor_in, descriptors_waiting, all_asked, all_finished, all_register_effects, registers_by};
+ghost use Rattle.endpoint_core.specs.declared.waiting.Waiting.TheVariants as waits;
+ghost use Rattle.endpoint_core.specs.Steps.{new_endpoint, is_claimed, taken, next_completion, first_block, dw_in_front, behind};
+ghost use Rattle.endpoint_core.specs.Runs.{Call, Take, after_calls, blocks_in, all_coming, all_leaving, effects_posted, all_effects, bytes_by, blocks_waiting, descriptor_in, descriptors_waiting, all_asked, all_finished, register_effects_as, register_effects_by, all_register_effects, registers_by};
 
 /// Whatever comes, and whenever requests act and resets happen: the block requests of all non-posted memory requests that
 /// came, in order, are those that left the queue, in order, and those that wait. So each leaves it once: it acts, its request
@@ -59,6 +60,15 @@ pub fn poisoned_data_is_not_used()
     ensures bytes { (e : EndpointView) (b : List ℕ) → is_poisoned b ≡ true → (taken e b).device.bytes ≡ e.device.bytes }
     ensures waits { (e : EndpointView) (b : List ℕ) → is_poisoned b ≡ true → blocks_waiting (taken e b) ≡ blocks_waiting e }
     ensures registers { (b : List ℕ) (r : CfgRequest) → is_poisoned b ≡ true → becomes b ≡ received.Configuration r → ⊥ }
+{}
+
+/// That a request isn't claimed goes before that it is poisoned (section 6.2.3.2.3): a poisoned write or AtomicOp that no BAR
+/// claims has the report of one that isn't poisoned.
+pub fn unsupported_goes_before_poisoned()
+    ensures posted { (d : DeviceView) (t : TlpView) → is_claimed d (op_of t) ≡ false →
+        register_effects_as d (received.PoisonedPosted t) ≡ register_effects_as d (received.Posted t) }
+    ensures waits { (d : DeviceView) (t : TlpView) (ws : List Waiting) → is_claimed d (op_of t) ≡ false →
+        register_effects_by d (waits.Poisoned t ∷ ws) ≡ register_effects_by d (waits.Memory t ∷ ws) }
 {}
 
 /// Non-posted requests are completed in the order in which they came, one after the other: those that came, in order, are
