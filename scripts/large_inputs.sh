@@ -1,8 +1,8 @@
 #!/bin/sh
 # Runs the program on inputs that are too large for a test's table: a memory of 1 MiB with a trace of 200,001
 # records, a fabric of 1 MiB, a lane with 2047 packets that no Ack has told of, a requester with 256 open tags, logs
-# that are long or hard, a chart of a long script, and requests whose history doesn't fit in the memory that there is. It
-# tells each run that ends otherwise than it should:
+# that are long or hard, or have a line of 100 MB or 80 MB of comments, a chart of a long script, and requests whose history
+# doesn't fit in the memory that there is. It tells each run that ends otherwise than it should:
 # large_inputs.sh [PROGRAM], that of program.sh if none is named. With a folder in its place the inputs are written there
 # and nothing is run.
 unset CDPATH
@@ -247,6 +247,17 @@ if [ -n "$folder" ]; then
     exit
 fi
 
+# A line of 100 MB, and 80 MB of comments before a read: what is skipped, or too long, isn't kept.
+{
+    echo "pciex-log 1"
+    head -c 100000000 /dev/zero | tr '\0' 0
+} > "$room/long_line_log"
+{
+    echo "pciex-log 1"
+    awk 'BEGIN { for (k = 0; k < 1000000; k++) printf "# %077d\n", k }'
+    printf '%s\n' "memory 0 4096 64" "sub 1 0 read 40 1 F 0" "ans 1 0 data 00000000" end
+} > "$room/comments_log"
+
 # within SECONDS MEGABYTES: bounds the runs that follow, in seconds of a processor. A program that doesn't start in so little
 # room, as one with checks at run time, has all memory that there is.
 within() {
@@ -338,6 +349,10 @@ echo settled > "$room/told"
 ends "step in 16 MiB on 168,000 requests that act" 0 "$room/served_script" step
 echo "forward out 0" > "$room/told"
 ends "generate in 16 MiB with 2,000,000 events" 0 /dev/null generate --seed 1 --events 2000000
+echo end > "$room/told"
+ends "search in 16 MiB behind 80 MB of comments" 0 "$room/comments_log" search
+echo "fault 2 Line" > "$room/told"
+ends "search in 16 MiB on a line of 100 MB" 1 "$room/long_line_log" search
 seconds=600
 kilobytes=unlimited
 echo "none 96667" > "$room/told"

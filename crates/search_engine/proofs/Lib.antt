@@ -1,4 +1,6 @@
 mod KnownLemmas
+mod KeepingLemmas
+mod KeptLemmas
 mod MemoryLemmas
 mod NoneLemmas
 mod SizeLemmas

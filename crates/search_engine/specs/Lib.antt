@@ -3,3 +3,4 @@ pub mod Search
 pub mod Flaws
 pub mod Findings
 pub mod Drawn
+pub mod Kept

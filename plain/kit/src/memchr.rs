@@ -21,6 +21,11 @@ pub fn memchr(byte: u8, bytes: &[u8]) -> Option<usize> {
     bytes[at..].iter().position(|b| *b == byte).map(|more| at + more)
 }
 
+/// Where the last such byte is.
+pub fn memrchr(byte: u8, bytes: &[u8]) -> Option<usize> {
+    bytes.iter().rposition(|b| *b == byte)
+}
+
 /// Looking for texts.
 pub mod memmem {
     /// Where the first such text begins.

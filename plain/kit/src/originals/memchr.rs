@@ -1,3 +1,3 @@
 //! The crate `memchr`.
 
-pub use ::memchr::{memchr, memmem};
+pub use ::memchr::{memchr, memmem, memrchr};

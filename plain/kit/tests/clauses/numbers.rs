@@ -115,15 +115,19 @@ fn decimal_digits_are_the_number() {
     });
 }
 
-/// Of memchr: memchr
+/// Of memchr: memchr memrchr
 #[test]
-fn the_first_place_of_a_byte_is_found() {
+fn the_first_and_the_last_place_of_a_byte_are_found() {
     rounds(|random| {
         let (size, kinds) = (random.below(80), 1 + random.below(40));
         let hay: Vec<u8> = (0..size).map(|_| random.below(kinds) as u8).collect();
         let needle = random.below(kinds) as u8;
         match kit::memchr::memchr(needle, &hay) {
             Some(place) => assert!(hay[place] == needle && !hay[..place].contains(&needle)),
+            None => assert!(!hay.contains(&needle)),
+        }
+        match kit::memchr::memrchr(needle, &hay) {
+            Some(place) => assert!(hay[place] == needle && !hay[place + 1..].contains(&needle)),
             None => assert!(!hay.contains(&needle)),
         }
     });
