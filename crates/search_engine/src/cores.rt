@@ -11,7 +11,7 @@ use history_words::RecordRef;
 use log_text::read_seen;
 use operation_text::{write_hexadecimal, write_op, write_reply};
 use search_history::{Budget, is_unexplained};
-use search_reasons::{Case, Kept, Why, core_of, reasons_of};
+use search_reasons::{Case, Kept, answers_named, core_of, reasons_of};
 use seq_memory::ReplyRef;
 use std::alloc::{AllocError, Global};
 use std::fmt::Display;
@@ -93,21 +93,28 @@ fn text_of_few(alloc: Global, case: Case<'_>, answers: &[usize]) -> Result<Vec<u
     Ok(out)
 }
 
+/// The answers that have no history, by the reasons, with those to the other requests that the reasons name.
+fn answers_of(
+    alloc: Global,
+    case: Case<'_>,
+    budget: &mut Budget,
+) -> Result<Vec<usize>, AllocError> {
+    let mut own = budget.half(u64::MAX);
+    let reasons = reasons_of(alloc, case, &mut own)?;
+    budget.end_half(own);
+    answers_named(alloc, case, &reasons)
+}
+
 /// The text of a log of few answers that may have no history.
 fn few_of(
     alloc: Global,
     case: Case<'_>,
     budget: &mut Budget,
 ) -> Result<Option<Vec<u8>>, AllocError> {
-    let mut own = budget.half(u64::MAX);
-    let reasons = reasons_of(alloc, case, &mut own)?;
-    budget.end_half(own);
-    let Why::Answers { last, others, .. } = &reasons.why else {
+    let answers = answers_of(alloc, case, budget)?;
+    if answers.is_empty() {
         return Ok(None);
-    };
-    let mut answers = Vec::new(alloc);
-    answers.extend_from_slice(others)?;
-    answers.push(*last)?;
+    }
     let text = text_of_few(alloc, case, &answers)?;
     Ok(Some(text))
 }

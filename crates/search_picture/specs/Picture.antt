@@ -45,16 +45,19 @@ ruled r words = Shape.Lined (r ∷ []) words
 abbrev pub fill_of : Role → Colour
 fill_of roles.Last = colours.White
 fill_of roles.Against = colours.SkyBlue
+fill_of roles.Named = colours.Yellow
 fill_of roles.Other = colours.White
 
 abbrev pub edge_of : Role → Colour
 edge_of roles.Last = colours.Red
 edge_of roles.Against = colours.Black
+edge_of roles.Named = colours.Black
 edge_of roles.Other = colours.Black
 
 abbrev pub thickness_of : Role → ℕ
 thickness_of roles.Last = 3
 thickness_of roles.Against = 1
+thickness_of roles.Named = 1
 thickness_of roles.Other = 1
 
 -- ---- the heading
@@ -90,12 +93,20 @@ arrow_sign left words = Shape.Written (label_at left 64 colours.Red) words ∷ [
 abbrev pub is_last : Role → Bool
 is_last roles.Last = true
 is_last roles.Against = false
+is_last roles.Named = false
 is_last roles.Other = false
 
 abbrev pub is_against : Role → Bool
 is_against roles.Last = false
 is_against roles.Against = true
+is_against roles.Named = false
 is_against roles.Other = false
+
+abbrev pub is_named : Role → Bool
+is_named roles.Last = false
+is_named roles.Against = false
+is_named roles.Named = true
+is_named roles.Other = false
 
 abbrev pub is_drawn : List Request → Arrow → Bool
 is_drawn rs a = is_some (slice_get rs a.from) && is_some (slice_get rs a.to)
@@ -105,6 +116,7 @@ abbrev pub marks_of : List Request → List Arrow → Marks
 marks_of rs ps = record {
   last = list_any (λ r. is_last r.role) rs;
   against = list_any (λ r. is_against r.role) rs;
+  named = list_any (λ r. is_named r.role) rs;
   opens = list_any (λ r. r.is_open) rs;
   places = list_any (λ r. is_some r.place) rs;
   arrows = list_any (is_drawn rs) ps;
@@ -115,6 +127,7 @@ abbrev pub with_request : Marks → Request → Marks
 with_request m r = record {
   last = m.last || is_last r.role;
   against = m.against || is_against r.role;
+  named = m.named || is_named r.role;
   opens = m.opens || r.is_open;
   places = m.places || is_some r.place;
   arrows = m.arrows;
@@ -135,10 +148,13 @@ abbrev pub third_of : Marks → ℕ
 third_of m = behind m.against 132 (second_of m)
 
 abbrev pub fourth_of : Marks → ℕ
-fourth_of m = behind m.opens 236 (third_of m)
+fourth_of m = behind m.named 140 (third_of m)
 
-abbrev pub fifth_of : Marks → ℕ → ℕ
-fifth_of m count = behind m.places (40 + 8 * count) (fourth_of m)
+abbrev pub fifth_of : Marks → ℕ
+fifth_of m = behind m.opens 236 (fourth_of m)
+
+abbrev pub sixth_of : Marks → ℕ → ℕ
+sixth_of m count = behind m.places (40 + 8 * count) (fifth_of m)
 
 abbrev pub last_signs : Marks → List Shape
 last_signs m = only_if m.last (sign 10 roles.Last false (codes "the last answer"))
@@ -146,11 +162,14 @@ last_signs m = only_if m.last (sign 10 roles.Last false (codes "the last answer"
 abbrev pub against_signs : Marks → List Shape
 against_signs m = only_if m.against (sign (second_of m) roles.Against false (codes "against it"))
 
+abbrev pub named_signs : Marks → List Shape
+named_signs m = only_if m.named (sign (third_of m) roles.Named false (codes "named below"))
+
 abbrev pub open_signs : Marks → List Shape
-open_signs m = only_if m.opens (sign (third_of m) roles.Other true (codes "posted, or not answered"))
+open_signs m = only_if m.opens (sign (fourth_of m) roles.Other true (codes "posted, or not answered"))
 
 abbrev pub places_signs : Marks → List ℕ → List Shape
-places_signs m words = only_if m.places (place_sign (fourth_of m) words)
+places_signs m words = only_if m.places (place_sign (fifth_of m) words)
 
 abbrev pub arrows_signs : Marks → ℕ → List Shape
 arrows_signs m left = only_if m.arrows (arrow_sign left (codes "an arrow leads to what acts later"))
@@ -158,11 +177,11 @@ arrows_signs m left = only_if m.arrows (arrow_sign left (codes "an arrow leads t
 -- what is there of the bars, the numbers on them and the arrows, in this order, and what it means
 abbrev pub signs : Marks → List ℕ → List Shape
 signs m words =
-    last_signs m ++ (against_signs m ++ (open_signs m ++ (places_signs m (take 80 words) ++ arrows_signs m (fifth_of m (length (take 80 words))))))
+    last_signs m ++ (against_signs m ++ (named_signs m ++ (open_signs m ++ (places_signs m (take 80 words) ++ arrows_signs m (sixth_of m (length (take 80 words)))))))
 
 -- how far they reach
 abbrev pub signs_end : Marks → ℕ → ℕ
-signs_end m count = fifth_of m count + (if m.arrows then 280 else 10)
+signs_end m count = sixth_of m count + (if m.arrows then 280 else 10)
 
 -- ---- the columns and the names of requesters
 

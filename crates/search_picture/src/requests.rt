@@ -15,6 +15,7 @@ pub(crate) fn fill_of(role: Role) -> Colour
 {
     match role {
         Role::Against => Colour::SkyBlue,
+        Role::Named => Colour::Yellow,
         Role::Last | Role::Other => Colour::White,
     }
 }
@@ -24,7 +25,7 @@ pub(crate) fn edge_of(role: Role) -> Colour
 {
     match role {
         Role::Last => Colour::Red,
-        Role::Against | Role::Other => Colour::Black,
+        Role::Against | Role::Named | Role::Other => Colour::Black,
     }
 }
 
@@ -33,7 +34,7 @@ pub(crate) fn thickness_of(role: Role) -> u64
 {
     match role {
         Role::Last => 3,
-        Role::Against | Role::Other => 1,
+        Role::Against | Role::Named | Role::Other => 1,
     }
 }
 

@@ -7,6 +7,8 @@ pub enum Role {
     Last,
     /// Its answer is one of those that have no history together with the last one.
     Against,
+    /// What is told of these answers names it.
+    Named,
     Other,
 }
 

@@ -15,6 +15,7 @@ use svg_text::{Block, Colour, put_block, put_label};
 pub(crate) struct Marks {
     last: bool,
     against: bool,
+    named: bool,
     opens: bool,
     places: bool,
     arrows: bool,
@@ -25,7 +26,7 @@ fn is_last(role: Role) -> bool
 {
     match role {
         Role::Last => true,
-        Role::Against | Role::Other => false,
+        Role::Against | Role::Named | Role::Other => false,
     }
 }
 
@@ -34,7 +35,16 @@ fn is_against(role: Role) -> bool
 {
     match role {
         Role::Against => true,
-        Role::Last | Role::Other => false,
+        Role::Last | Role::Named | Role::Other => false,
+    }
+}
+
+fn is_named(role: Role) -> bool
+    ensures { result ≡ spec.is_named role }
+{
+    match role {
+        Role::Named => true,
+        Role::Last | Role::Against | Role::Other => false,
     }
 }
 
@@ -69,6 +79,7 @@ fn with_request(marks: Marks, request: &Request) -> Marks
     Marks {
         last: either(marks.last, is_last(request.role)),
         against: either(marks.against, is_against(request.role)),
+        named: either(marks.named, is_named(request.role)),
         opens: either(marks.opens, request.is_open),
         places: either(marks.places, request.place.is_some()),
         arrows: marks.arrows,
@@ -82,6 +93,7 @@ pub(crate) fn marks_of(requests: &[Request], arrows: &[Arrow]) -> Marks
     let mut marks = Marks {
         last: false,
         against: false,
+        named: false,
         opens: false,
         places: false,
         arrows: any_arrow(requests, arrows),
@@ -118,17 +130,24 @@ impl Marks {
 
     fn fourth(&self) -> u64
         ensures at { result ≡ spec.fourth_of self.now }
-        ensures range { result ≤ 550 }
+        ensures range { result ≤ 454 }
     {
-        behind(self.opens, 236, self.third())
+        behind(self.named, 140, self.third())
     }
 
-    fn fifth(&self, count: u64) -> u64
-        requires { count ≤ 80 }
-        ensures at { result ≡ spec.fifth_of self.now count }
-        ensures range { result ≤ 1230 }
+    fn fifth(&self) -> u64
+        ensures at { result ≡ spec.fifth_of self.now }
+        ensures range { result ≤ 690 }
     {
-        behind(self.places, 40 + 8 * count, self.fourth())
+        behind(self.opens, 236, self.fourth())
+    }
+
+    fn sixth(&self, count: u64) -> u64
+        requires { count ≤ 80 }
+        ensures at { result ≡ spec.sixth_of self.now count }
+        ensures range { result ≤ 1370 }
+    {
+        behind(self.places, 40 + 8 * count, self.fifth())
     }
 
     /// How far the signs reach.
@@ -136,7 +155,7 @@ impl Marks {
         requires { count ≤ 80 }
         ensures { result ≡ spec.signs_end self.now count }
     {
-        self.fifth(count) + if self.arrows { 280 } else { 10 }
+        self.sixth(count) + if self.arrows { 280 } else { 10 }
     }
 }
 
@@ -228,6 +247,16 @@ fn put_against(marks: &Marks, out: &mut Vec<u8>) -> Result<(), AllocError>
 }
 
 #[tactic(auto, unfolding(svg_text::specs::Shapes::shapes_text))]
+fn put_named(marks: &Marks, out: &mut Vec<u8>) -> Result<(), AllocError>
+    ensures { OnOk result (out.new.items ≡ out.old.items ++ shapes_text (spec.named_signs marks.now)) }
+{
+    if !marks.named {
+        return Ok(());
+    }
+    put_sign(marks.third(), Role::Named, false, b"named below", out)
+}
+
+#[tactic(auto, unfolding(svg_text::specs::Shapes::shapes_text))]
 fn put_open(marks: &Marks, out: &mut Vec<u8>) -> Result<(), AllocError>
     ensures { OnOk result (out.new.items ≡ out.old.items ++ shapes_text (spec.open_signs marks.now)) }
 {
@@ -235,7 +264,7 @@ fn put_open(marks: &Marks, out: &mut Vec<u8>) -> Result<(), AllocError>
         return Ok(());
     }
     put_sign(
-        marks.third(),
+        marks.fourth(),
         Role::Other,
         true,
         b"posted, or not answered",
@@ -250,7 +279,7 @@ fn put_places(marks: &Marks, words: &[u8], out: &mut Vec<u8>) -> Result<(), Allo
     if !marks.places {
         return Ok(());
     }
-    put_place_sign(marks.fourth(), words, out)
+    put_place_sign(marks.fifth(), words, out)
 }
 
 #[tactic(auto, unfolding(svg_text::specs::Shapes::shapes_text))]
@@ -270,8 +299,9 @@ pub(crate) fn put_signs(marks: &Marks, words: &[u8], out: &mut Vec<u8>) -> Resul
     let words = shown(80, words);
     put_last(marks, out)?;
     put_against(marks, out)?;
+    put_named(marks, out)?;
     put_open(marks, out)?;
     put_places(marks, words, out)?;
-    put_arrow(marks, marks.fifth(words.len() as u64), out)?;
+    put_arrow(marks, marks.sixth(words.len() as u64), out)?;
     Ok(())
 }

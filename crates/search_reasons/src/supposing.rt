@@ -25,12 +25,10 @@ pub(crate) struct Page<'a> {
 fn is_read(seen: &RecordStore, place: usize) -> bool {
     matches!(
         seen.get(place),
-        Some(
-            RecordRef::Sub {
-                op: OpRef::Read { .. },
-                ..
-            }
-        )
+        Some(RecordRef::Sub {
+            op: OpRef::Read { .. },
+            ..
+        })
     )
 }
 
@@ -68,14 +66,42 @@ fn are_together(one: &Hypothesis, other: &Hypothesis) -> bool {
 }
 
 /// Which are told first: those with which the whole log would have a history; and of these the requests that change something.
-fn rank(page: Page<'_>, told: &Hypothesis) -> u8 {
+fn rank(prefix: Prefix<'_>, told: &Hypothesis) -> u8 {
     let part = if told.is_whole { 0 } else { 2 };
-    let read = if is_read(page.prefix.seen, told.fault.place) {
+    let read = if is_read(prefix.seen, told.fault.place) {
         1
     } else {
         0
     };
     part + read
+}
+
+/// All that was found, as it is told.
+fn in_order(
+    alloc: Global,
+    prefix: Prefix<'_>,
+    tried: &Tried,
+) -> Result<Vec<Hypothesis>, AllocError> {
+    let mut all = Vec::new(alloc);
+    all.extend_from_slice(&tried.found)?;
+    all.sort_by_key(|told| rank(prefix, told))?;
+    Ok(all)
+}
+
+/// The first one of each line that is told.
+pub(crate) fn told_first(
+    alloc: Global,
+    prefix: Prefix<'_>,
+    tried: &Tried,
+) -> Result<Vec<Hypothesis>, AllocError> {
+    let all = in_order(alloc, prefix, tried)?;
+    let mut first = Vec::new(alloc);
+    for at in 0..all.len() {
+        if first.len() < MOST && !is_told(&all, at) {
+            first.push(all[at])?;
+        }
+    }
+    Ok(first)
 }
 
 /// Adds the line of these, which are of one request; how many they are.
@@ -112,9 +138,7 @@ fn put_request(
     );
     put_line(
         out,
-        format_args!(
-            "if line {line} ({shown}) {words}, lines {from} to {to} would have a history"
-        ),
+        format_args!("if line {line} ({shown}) {words}, lines {from} to {to} would have a history"),
     )?;
     Ok(count)
 }
@@ -162,16 +186,10 @@ pub(crate) fn put_faults(
             ),
         );
     }
-    let mut all = Vec::new(alloc);
-    all.extend_from_slice(&tried.found)?;
-    all.sort_by_key(|told| rank(page, told))?;
-    let mut lines = 0usize;
+    let all = in_order(alloc, page.prefix, tried)?;
     let mut count = 0usize;
-    for at in 0..all.len() {
-        if lines < MOST && !is_told(&all, at) {
-            count = count.saturating_add(put_request(out, page, &all, &all[at])?);
-            lines += 1;
-        }
+    for first in told_first(alloc, page.prefix, tried)?.as_slice() {
+        count = count.saturating_add(put_request(out, page, &all, first)?);
     }
     put_others(out, all.len().saturating_sub(count))
 }

@@ -33,9 +33,16 @@ briefly replies.Done = reply_text replies.Done
 briefly replies.Unsupported = reply_text replies.Unsupported
 briefly replies.Aborted = reply_text replies.Aborted
 
+-- and of one of which is known that the request was done, and no more
+abbrev pub told_of : Reply → List ℕ
+told_of (replies.Data bytes) = reply_text (replies.Data bytes)
+told_of replies.Done = codes "done, reply not known"
+told_of replies.Unsupported = reply_text replies.Unsupported
+told_of replies.Aborted = reply_text replies.Aborted
+
 abbrev pub answered : Reply → Option Reply → List ℕ
-answered reply None = reply_text reply
-answered reply (Some other) = reply_text reply ++ codes ", expected " ++ briefly other
+answered reply None = told_of reply
+answered reply (Some other) = told_of reply ++ codes ", expected " ++ briefly other
 
 -- what the places in a history are: it explains the records before that one
 abbrev pub places_of : TraceLinesView → ℕ → List ℕ

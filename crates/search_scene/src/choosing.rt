@@ -3,7 +3,7 @@ ghost use Rattle.std.specs.Prelude.{◌≤◌, IfOk, length};
 
 use log_events::{Request, Requests};
 use search_picture::Role;
-use search_reasons::{Bound, Case, Cause, Edge, Link, Reasons, Why, WordCause};
+use search_reasons::Named;
 use std::alloc::{AllocError, Global};
 
 /// The most requests that are shown.
@@ -11,90 +11,6 @@ const MOST: usize = 20;
 
 /// How many are shown if there are as many, whatever the reasons name.
 const ENOUGH: usize = 10;
-
-/// What the reasons name, as places of records that were read.
-#[derive(Drop)]
-pub(crate) struct Named {
-    /// The last answer, and those against it.
-    pub(crate) answers: Vec<usize>,
-    /// All of them, and the other records.
-    pub(crate) places: Vec<usize>,
-}
-
-impl Named {
-    /// Adds a record that has what was searched at the place.
-    fn add(&mut self, case: Case<'_>, place: usize) -> Result<(), AllocError> {
-        let record = case.record_with(place);
-        if !self.places.contains(&record) {
-            self.places.push(record)?;
-        }
-        Ok(())
-    }
-
-    /// Adds an answer.
-    fn add_answer(&mut self, case: Case<'_>, place: usize) -> Result<(), AllocError> {
-        self.answers.push(case.record_with(place))?;
-        self.add(case, place)
-    }
-
-    /// Adds the records of a cause.
-    fn add_cause(&mut self, case: Case<'_>, cause: Cause) -> Result<(), AllocError> {
-        let Cause::Words(words) = cause else {
-            return Ok(());
-        };
-        match words {
-            WordCause::NothingPuts(_, place) => self.add(case, place),
-            WordCause::Twice(_, first, second) | WordCause::Overwritten(_, first, second) => {
-                self.add(case, first)?;
-                self.add(case, second)
-            }
-            WordCause::Sum(sum) => match sum.bound {
-                Bound::Most(_, place) | Bound::Least(_, place) => self.add(case, place),
-            },
-            WordCause::NoOrder => Ok(()),
-        }
-    }
-
-    /// Adds the records of a request on a cycle.
-    fn add_link(&mut self, case: Case<'_>, link: &Link) -> Result<(), AllocError> {
-        self.add(case, link.submission)?;
-        if let Edge::Overwritten(_, Some(by)) = link.edge {
-            self.add(case, by)?;
-        }
-        Ok(())
-    }
-}
-
-/// What the reasons name: the last answer, the requests of the cycle and the cause, and the other answers.
-pub(crate) fn named_by(
-    alloc: Global,
-    case: Case<'_>,
-    reasons: &Reasons,
-) -> Result<Named, AllocError> {
-    let mut named = Named {
-        answers: Vec::new(alloc),
-        places: Vec::new(alloc),
-    };
-    let Why::Answers {
-        last,
-        others,
-        cause,
-        cycle,
-        ..
-    } = &reasons.why
-    else {
-        return Ok(named);
-    };
-    named.add_answer(case, *last)?;
-    for link in cycle {
-        named.add_link(case, link)?;
-    }
-    named.add_cause(case, *cause)?;
-    for other in others {
-        named.add_answer(case, *other)?;
-    }
-    Ok(named)
-}
 
 /// A request that is shown.
 #[derive(Clone, Copy)]
@@ -104,20 +20,25 @@ pub(crate) struct Chosen {
     pub(crate) role: Role,
 }
 
+/// One of the records is the request's submission or its answer.
+fn has_one(records: &[usize], request: Request) -> bool {
+    records.contains(&request.submission)
+        || request
+            .answer
+            .is_some_and(|answer| records.contains(&answer))
+}
+
 /// What a request is to the last answer.
 fn role_of(named: &Named, request: Request) -> Role {
-    let Some(answer) = request.answer else {
-        return Role::Other;
-    };
-    match named
-        .answers
-        .as_slice()
-        .iter()
-        .position(|other| *other == answer)
-    {
-        Some(0) => Role::Last,
-        Some(_) => Role::Against,
-        None => Role::Other,
+    let answers = named.answers.as_slice();
+    if has_one(&answers[..answers.len().min(1)], request) {
+        Role::Last
+    } else if has_one(answers, request) {
+        Role::Against
+    } else if has_one(&named.others, request) {
+        Role::Named
+    } else {
+        Role::Other
     }
 }
 
@@ -144,6 +65,21 @@ fn add(
     Ok(())
 }
 
+/// Adds the requests of these records.
+fn add_all(
+    chosen: &mut Vec<Chosen>,
+    requests: &Requests<'_>,
+    named: &Named,
+    records: &[usize],
+) -> Result<(), AllocError> {
+    for place in records {
+        if let Some(request) = requests.at(*place) {
+            add(chosen, requests, named, request)?;
+        }
+    }
+    Ok(())
+}
+
 /// The first ones, as many as may be shown.
 fn first_chosen(mut chosen: Vec<Chosen>) -> Vec<Chosen>
     ensures { length result.items ≤ 20 }
@@ -159,11 +95,11 @@ fn all_chosen(
     named: &Named,
 ) -> Result<Vec<Chosen>, AllocError> {
     let mut chosen = Vec::new(alloc);
-    for place in named.places.as_slice() {
-        if let Some(request) = requests.at(*place) {
-            add(&mut chosen, requests, named, request)?;
-        }
-    }
+    let answers = named.answers.as_slice();
+    let cut = answers.len().min(1);
+    add_all(&mut chosen, requests, named, &answers[..cut])?;
+    add_all(&mut chosen, requests, named, &named.others)?;
+    add_all(&mut chosen, requests, named, &answers[cut..])?;
     for request in requests.all.as_slice() {
         if chosen.len() < ENOUGH {
             add(&mut chosen, requests, named, *request)?;

@@ -6,7 +6,7 @@ ghost use Rattle.history_words.specs.Flaws.{at_place};
 ghost use Rattle.history_words.specs.Trace.{answers_to};
 ghost use Rattle.operation_text.specs.Texts.{reply_text};
 ghost use Rattle.search_history.specs.Expected.{IsExpected};
-ghost use Rattle.search_scene.specs.Scenes.{IsAnswered, answered, briefly, unanswered, unanswered_by};
+ghost use Rattle.search_scene.specs.Scenes.{IsAnswered, answered, briefly, told_of, unanswered, unanswered_by};
 
 use crate::columns::column_of;
 use crate::page::Page;
@@ -56,6 +56,16 @@ fn put_brief(reply: &ReplyRef<'_>, out: &mut Vec<u8>) -> Result<(), AllocError>
     }
 }
 
+/// Adds what is said of a reply.
+fn put_told(reply: &ReplyRef<'_>, out: &mut Vec<u8>) -> Result<(), AllocError>
+    ensures { OnOk result (out.new.items ≡ out.old.items ++ told_of reply.now) }
+{
+    match reply {
+        ReplyRef::Done => out.extend_from_slice(b"done, reply not known"),
+        ReplyRef::Data(_) | ReplyRef::Unsupported | ReplyRef::Aborted => put_reply(reply, out),
+    }
+}
+
 /// What is said of an answer.
 fn said_of(
     alloc: Global,
@@ -65,7 +75,7 @@ fn said_of(
     ensures { IfOk result (λ v. v.items ≡ answered reply.now (option_map (λ r. r.now) expected.entry)) }
 {
     let mut said = Vec::new(alloc);
-    put_reply(reply, &mut said)?;
+    put_told(reply, &mut said)?;
     if let Some(other) = expected {
         said.extend_from_slice(b", expected ")?;
         put_brief(other, &mut said)?;

@@ -6,7 +6,7 @@ ghost use Rattle.search_scene.specs.Scenes.{IsHistoryOf, Shows, places_of, title
 
 use crate::arrows::arrows_of;
 use crate::bars::bars_of;
-use crate::choosing::{Chosen, chosen_of, named_by};
+use crate::choosing::{Chosen, chosen_of};
 use crate::columns::columns_of;
 use crate::known::known_of;
 use crate::notes::notes_of;
@@ -16,7 +16,7 @@ use log_events::Requests;
 use operation_text::write_decimal;
 use search_history::Budget;
 use search_picture::Scene;
-use search_reasons::{Case, Link, Reasons, Why, lines_of, reason_lines, reasons_with_faults};
+use search_reasons::{Case, Link, Reasons, Why, lines_of, named_by, reason_lines, reasons_with_faults};
 use std::alloc::{AllocError, Global};
 use trace_diagnostics::TraceLines;
 
