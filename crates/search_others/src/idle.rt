@@ -38,6 +38,12 @@ fn is_undue(log: &Log, others: &Others, b: usize) -> bool
     is_unanswered(log, b)
 }
 
+/// Notes so many looks, and takes them of those that may be made to see who is idle; false, if there are fewer.
+fn may_look(place: &Place, others: &Others, count: u64) -> bool {
+    place.note_looks(count);
+    others.take_looks(count)
+}
+
 /// Request `q` has acted or is the request itself, or what that leaves is nothing to it; or no answer to it comes, and it
 /// changes nothing then.
 fn passes(place: &Place, log: &Log, others: &Others, idler: Idler, q: usize) -> bool
@@ -47,7 +53,9 @@ fn passes(place: &Place, log: &Log, others: &Others, idler: Idler, q: usize) -> 
     if q == idler.b || place.has_acted(q) {
         return true;
     }
-    place.note_looks(LOOKS);
+    if !may_look(place, others, LOOKS) {
+        return false;
+    }
     if is_undue(log, others, q) && rests_behind(log, q, idler.made) {
         return true;
     }
@@ -59,7 +67,9 @@ fn list_passes(place: &Place, log: &Log, others: &Others, idler: Idler, list: &[
     requires { AreOthers log.now others.now }
     ensures { IsTrue result → (b : ℕ) → InList list.now b → Passes log.now place.now.state idler.entry b }
 {
-    place.note_looks(list.len() as u64 / QUICK);
+    if !may_look(place, others, list.len() as u64 / QUICK) {
+        return false;
+    }
     for b in list {
         if !passes(place, log, others, idler, *b) {
             return false;

@@ -7,7 +7,11 @@ use crate::due::{held_until, place_of, places};
 use log_runs::Log;
 use search_words::{Words, words_of};
 use std::alloc::{AllocError, Global};
+use std::cell::Cell;
 use std::marker::Model;
+
+/// How many looks a search makes to see who is idle.
+const IDLE_LOOKS: u64 = 20_000_000;
 
 /// What is known of a log's requests.
 #[derive(Drop)]
@@ -15,6 +19,8 @@ pub struct Others {
     /// The place of each request's answer, or one before it, if it has more than 32 bits.
     due: Vec<u32>,
     pub(crate) words: Words,
+    /// How many looks may still be made to see who is idle. Nothing rests on it.
+    looks: Cell<u64>,
 }
 
 impl Model for Others {
@@ -33,7 +39,18 @@ impl Others {
         Ok(Others {
             due: places(alloc, log)?,
             words: words_of(alloc, log)?,
+            looks: Cell::new(IDLE_LOOKS),
         })
+    }
+
+    /// Takes so many of the looks that may be made to see who is idle; false, if there are fewer.
+    pub(crate) fn take_looks(&self, count: u64) -> bool {
+        let looks = self.looks.get();
+        if looks < count {
+            return false;
+        }
+        self.looks.set(looks - count);
+        true
     }
 
     /// What the requests need of each word, and leave there.
