@@ -1,9 +1,9 @@
 #!/bin/sh
-# Runs `pciex search` on 500 small random logs, and tells each whose answer is not that of all histories, or
-# whose place is not the least; then on the logs of a device with delays, which have a history, and of the same device
-# with each of eight defects, until one of them has none. What is right is known by searches.py alone: searches.sh
-# [PROGRAM], that of program.sh if none is named. With a folder in its place the logs are written there and nothing
-# is run.
+# Runs `pciex search` on 500 small random logs, and tells each whose answer is not that of all histories, whose place is
+# not the least, or that has no history with a fault that is told; then on the logs of a device with delays, which have a
+# history, and of the same device with each of eight defects, until one of them has none. What is right is known by
+# searches.py alone: searches.sh [PROGRAM], that of program.sh if none is named. With a folder in its place the logs are
+# written there and nothing is run.
 unset CDPATH
 folder=
 if [ -d "${1:-}" ]; then
