@@ -1,5 +1,5 @@
 -- Requesters of which no record is, record by record.
-use Rattle.std.proofs.Common.{◌≡◌, ℕ, zero, suc, ◌+◌, ◌<◌, List, [], ◌∷◌, take, length, Some, refl, sym, subst, arith}
+use Rattle.std.proofs.Common.{◌≡◌, ℕ, zero, suc, ◌+◌, ◌<◌, List, [], ◌∷◌, take, length, sym, subst, arith}
 use Rattle.std.specs.Prelude.{slice_get, IfSome, All}
 use Rattle.std.proofs.lemmas.List.Elements.{All-append}
 use Rattle.log_runs.proofs.Lists.{take_more_at, some_at}

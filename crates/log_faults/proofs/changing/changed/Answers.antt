@@ -1,4 +1,4 @@
-use Rattle.std.proofs.Common.{◌≡◌, ◌∙◌, ◌++◌, List, sym, ap, arith}
+use Rattle.std.proofs.Common.{◌∙◌, ◌++◌, List, sym, ap, arith}
 use Rattle.std.proofs.lemmas.List.{take_all}
 use Rattle.tlp_core.specs.Ops.{Op}
 use Rattle.history_words.specs.Records.{Record}
