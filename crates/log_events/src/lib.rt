@@ -22,4 +22,4 @@ pub use form::{Form, form_of};
 pub use partners::Partners;
 pub use prefix::Prefix;
 pub use replies::reply_at;
-pub use requests::{Request, Requests};
+pub use requests::{LogRequest, Requests};

@@ -14,7 +14,7 @@ use trace_store::Records;
 
 /// A request, by the places of its records.
 #[derive(Clone, Copy)]
-pub struct Request {
+pub struct LogRequest {
     pub submission: usize,
     pub answer: Option<usize>,
     /// The answer before which it acted: its own, or, of a posted write, the first one to a later request
@@ -54,7 +54,7 @@ fn request_of(
     place: usize,
     answer: Option<usize>,
     firsts: &mut Firsts,
-) -> Option<Request> {
+) -> Option<LogRequest> {
     let RecordRef::Sub { requester, op, .. } = record else {
         return None;
     };
@@ -64,7 +64,7 @@ fn request_of(
         answer
     };
     firsts.note(*requester, answer);
-    Some(Request {
+    Some(LogRequest {
         submission: place,
         answer,
         due,
@@ -78,11 +78,11 @@ pub struct Requests<'a> {
     /// All records of the log.
     pub records: Records<'a>,
     /// The last one first.
-    pub all: Vec<Request>,
+    pub all: Vec<LogRequest>,
 }
 
 /// The requests of the records, the last one first.
-fn requests_of(alloc: Global, records: &Records<'_>) -> Result<Vec<Request>, AllocError> {
+fn requests_of(alloc: Global, records: &Records<'_>) -> Result<Vec<LogRequest>, AllocError> {
     let form = form_of(alloc, records)?;
     let mut requests = Vec::new(alloc);
     let mut firsts = Firsts {
@@ -148,7 +148,7 @@ impl<'a> Requests<'a> {
     }
 
     /// The request that the record at the place answers, or that it submits.
-    pub fn at(&self, place: usize) -> Option<Request> {
+    pub fn at(&self, place: usize) -> Option<LogRequest> {
         for request in self.all.as_slice() {
             if request.answer == Some(place) || request.submission == place {
                 return Some(*request);
@@ -158,7 +158,7 @@ impl<'a> Requests<'a> {
     }
 
     /// The operation of the request, as its submission has it.
-    pub fn op(&self, request: &Request) -> Option<OpRef<'a>>
+    pub fn op(&self, request: &LogRequest) -> Option<OpRef<'a>>
         ensures { IfSome result (λ op. IsSubmitted self.now.records request.now.submission op) }
     {
         match self.records.get(request.submission) {
@@ -168,7 +168,7 @@ impl<'a> Requests<'a> {
     }
 
     /// The requester of the request, as its submission has it.
-    pub fn requester(&self, request: &Request) -> Option<u8>
+    pub fn requester(&self, request: &LogRequest) -> Option<u8>
         ensures { IfSome result (IsOf self.now.records request.now.submission) }
     {
         match self.records.get(request.submission) {
@@ -178,7 +178,7 @@ impl<'a> Requests<'a> {
     }
 
     /// The reply to the request, as its answer has it; none if that has only that the request was done.
-    pub fn reply(&self, request: &Request) -> Option<ReplyRef<'a>>
+    pub fn reply(&self, request: &LogRequest) -> Option<ReplyRef<'a>>
         ensures { IfSome result (λ reply. (a : ℕ) × (request.now.answer ≡ Some a) × IsAnswered self.now.records a reply) }
     {
         let answer = request.answer?;

@@ -2,7 +2,7 @@
 //!
 //! Requests are left out that change nothing which an answer shows: reads that aren't answered there, and what is on other
 //! DW. What an AtomicOp leaves depends on all that it reads, so its DW count, too. Nothing rests on this choice.
-use log_events::{Prefix, Request, Requests};
+use log_events::{LogRequest, Prefix, Requests};
 use std::alloc::{AllocError, Global};
 use tlp_core::OpRef;
 
@@ -47,7 +47,7 @@ impl<'a> Core<'a> {
     }
 
     /// The request's answer is kept.
-    fn is_answered(&self, request: &Request) -> bool {
+    fn is_answered(&self, request: &LogRequest) -> bool {
         match request.answer {
             Some(answer) => self.answers.contains(&answer),
             None => false,
@@ -78,7 +78,7 @@ impl<'a> Core<'a> {
     }
 
     /// The request is kept.
-    fn keeps(&self, request: &Request) -> bool {
+    fn keeps(&self, request: &LogRequest) -> bool {
         if self.is_answered(request) {
             return true;
         }
@@ -89,7 +89,7 @@ impl<'a> Core<'a> {
     }
 
     /// The DW of a request count that is answered or an AtomicOp, if it is kept; whether one didn't.
-    fn follow(&mut self, request: &Request) -> Result<bool, AllocError> {
+    fn follow(&mut self, request: &LogRequest) -> Result<bool, AllocError> {
         let Some(op) = self.requests.op(request) else {
             return Ok(false);
         };

@@ -6,7 +6,7 @@ use crate::doubles::LOOKS;
 use crate::effects::{Effect, effect_by, shows};
 use crate::links::Edge;
 use crate::words::{Sight, Word};
-use log_events::{Request, Requests};
+use log_events::{LogRequest, Requests};
 use search_effects::{is_needed, left};
 use seq_memory::ReplyRef;
 use std::alloc::{AllocError, Global};
@@ -79,7 +79,7 @@ impl<'a> Reach<'a> {
     }
 
     /// The request at that place among all.
-    fn at(&self, place: usize) -> Option<Request> {
+    fn at(&self, place: usize) -> Option<LogRequest> {
         self.requests.all.get(place).copied()
     }
 
@@ -112,7 +112,7 @@ impl<'a> Reach<'a> {
     }
 
     /// What becomes of the word by a request.
-    fn effect(&self, sight: &Sight, request: &Request) -> Effect {
+    fn effect(&self, sight: &Sight, request: &LogRequest) -> Effect {
         let extent = self.requests.extent;
         match self.requests.op(request) {
             Some(op) => effect_by(extent, sight, &op, self.requests.reply(request).as_ref()),
@@ -144,7 +144,7 @@ impl<'a> Reach<'a> {
     }
 
     /// What put the word there acted before the request.
-    fn is_behind(&self, origin: Origin, request: &Request) -> bool {
+    fn is_behind(&self, origin: Origin, request: &LogRequest) -> bool {
         match origin {
             Origin::Start => true,
             Origin::Unknown => false,
@@ -157,13 +157,13 @@ impl<'a> Reach<'a> {
 
     /// The first request acted before the second: it was due before that was submitted, or is a posted write of its
     /// requester before it.
-    fn is_ordered(&self, one: &Request, other: &Request) -> bool {
+    fn is_ordered(&self, one: &LogRequest, other: &LogRequest) -> bool {
         let was_due = one.due.is_some_and(|due| due < other.submission);
         was_due || self.is_posted_before(one, other)
     }
 
     /// The first request is a posted write of the second one's requester, and submitted before it.
-    fn is_posted_before(&self, one: &Request, other: &Request) -> bool {
+    fn is_posted_before(&self, one: &LogRequest, other: &LogRequest) -> bool {
         let Some(op) = self.requests.op(one) else {
             return false;
         };
@@ -228,7 +228,7 @@ impl<'a> Reach<'a> {
     }
 
     /// Goes on by each DW that the request's answer shows.
-    fn follow_answer(&mut self, place: usize, request: &Request) -> Result<(), AllocError> {
+    fn follow_answer(&mut self, place: usize, request: &LogRequest) -> Result<(), AllocError> {
         let requests = self.requests;
         let Some(op) = requests.op(request) else {
             return Ok(());
@@ -247,7 +247,7 @@ impl<'a> Reach<'a> {
     }
 
     /// Goes on by each DW that the request puts.
-    fn follow_puts(&mut self, place: usize, request: &Request) -> Result<(), AllocError> {
+    fn follow_puts(&mut self, place: usize, request: &LogRequest) -> Result<(), AllocError> {
         let requests = self.requests;
         let Some(op) = requests.op(request) else {
             return Ok(());
@@ -267,7 +267,7 @@ impl<'a> Reach<'a> {
     }
 
     /// Goes on to the requests of its requester behind a posted write.
-    fn follow_posted(&mut self, place: usize, request: &Request) -> Result<(), AllocError> {
+    fn follow_posted(&mut self, place: usize, request: &LogRequest) -> Result<(), AllocError> {
         let mut left = BEHIND;
         for other in (0..place).rev() {
             if left == 0 {
@@ -290,7 +290,7 @@ impl<'a> Reach<'a> {
     }
 
     /// Goes back to the first request, if that was submitted after the request's answer.
-    fn follow_time(&mut self, place: usize, request: &Request) -> Result<(), AllocError> {
+    fn follow_time(&mut self, place: usize, request: &LogRequest) -> Result<(), AllocError> {
         let Some(first) = self.at(self.first) else {
             return Ok(());
         };

@@ -2,7 +2,7 @@
 use crate::causes::WordCause;
 use crate::tallies::Question;
 use crate::words::Word;
-use log_events::{Request, Requests};
+use log_events::{LogRequest, Requests};
 use seq_memory::ReplyRef;
 use std::alloc::{AllocError, Global};
 use tlp_core::OpRef;
@@ -22,7 +22,7 @@ fn number_of(bytes: &[u8; 4]) -> u32 {
 }
 
 /// What the request was answered, if it is an AtomicOp.
-fn taken_by(requests: &Requests<'_>, request: &Request) -> Option<Taken> {
+fn taken_by(requests: &Requests<'_>, request: &LogRequest) -> Option<Taken> {
     let op = requests.op(request)?;
     if matches!(op, OpRef::Read { .. } | OpRef::Write { .. }) {
         return None;

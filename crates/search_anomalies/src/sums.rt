@@ -1,6 +1,6 @@
 //! What additions make of the zeros at the start.
 use crate::tallies::Question;
-use log_events::Request;
+use log_events::LogRequest;
 use search_effects::{are_apart, is_needed, is_quiet};
 use seq_memory::{ReplyRef, refusal_lent};
 use tlp_core::{OpRef, Width};
@@ -106,7 +106,7 @@ struct Sums {
 
 impl<'a> Question<'a> {
     /// The request may change bytes that the read reads.
-    fn may_change(&self, read: &OpRef<'_>, request: &Request, op: &OpRef<'_>) -> bool {
+    fn may_change(&self, read: &OpRef<'_>, request: &LogRequest, op: &OpRef<'_>) -> bool {
         let extent = self.requests.extent;
         if are_apart(op, read)
             || is_quiet(extent.block(), op, self.requests.reply(request).as_ref())
@@ -117,7 +117,7 @@ impl<'a> Question<'a> {
     }
 
     /// Takes a request into account; false if it may change the bytes otherwise than by an addition to them.
-    fn add(&self, cell: &Cell, read: &OpRef<'_>, request: &Request, sums: &mut Sums) -> bool {
+    fn add(&self, cell: &Cell, read: &OpRef<'_>, request: &LogRequest, sums: &mut Sums) -> bool {
         let Some(op) = self.requests.op(request) else {
             return false;
         };

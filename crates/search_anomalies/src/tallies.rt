@@ -1,7 +1,7 @@
 //! What a log has to say of a word that an answer shows.
 use crate::effects::{Effect, effect_by, shows};
 use crate::words::{Sight, Word};
-use log_events::{Request, Requests};
+use log_events::{LogRequest, Requests};
 use seq_memory::ReplyRef;
 use tlp_core::OpRef;
 
@@ -82,7 +82,7 @@ impl Tally {
 #[derive(Drop)]
 pub(crate) struct Question<'a> {
     pub(crate) requests: &'a Requests<'a>,
-    pub(crate) asked: Request,
+    pub(crate) asked: LogRequest,
     pub(crate) op: OpRef<'a>,
     pub(crate) reply: ReplyRef<'a>,
 }
@@ -106,21 +106,21 @@ impl<'a> Question<'a> {
 
     /// The request acted before the one that is asked for, as all requests do that were due before it was
     /// submitted, and all posted writes of its requester before it.
-    pub(crate) fn is_before(&self, request: &Request, is_posted: bool) -> bool {
+    pub(crate) fn is_before(&self, request: &LogRequest, is_posted: bool) -> bool {
         let was_due = request.due.is_some_and(|due| due < self.asked.submission);
         let is_own = self.requests.requester(request) == self.requests.requester(&self.asked);
         was_due || is_posted && is_own && request.submission < self.asked.submission
     }
 
     /// The request was submitted before the answer that is asked for.
-    pub(crate) fn is_submitted(&self, request: &Request) -> bool {
+    pub(crate) fn is_submitted(&self, request: &LogRequest) -> bool {
         self.asked
             .answer
             .is_some_and(|answer| request.submission < answer)
     }
 
     /// The request's answer, if it isn't behind the one that is asked for.
-    fn answer_of(&self, request: &Request) -> Option<usize> {
+    fn answer_of(&self, request: &LogRequest) -> Option<usize> {
         let answer = request.answer?;
         if answer <= self.asked.answer? {
             Some(answer)
@@ -130,7 +130,7 @@ impl<'a> Question<'a> {
     }
 
     /// Takes a request into account.
-    fn count(&self, sight: &Sight, request: &Request, tally: &mut Tally) {
+    fn count(&self, sight: &Sight, request: &LogRequest, tally: &mut Tally) {
         let Some(op) = self.requests.op(request) else {
             return;
         };

@@ -3,7 +3,7 @@
 //! First come the reads that the answers show: each is the requester's only one that didn't wait for its earlier writes, or it
 //! was submitted earlier. Then come the requests that have bytes of the last answer, the last one first; and, if none of these
 //! does, all others.
-use log_events::{Prefix, Request, Requests};
+use log_events::{LogRequest, Prefix, Requests};
 use log_faults::{Fault, FaultKind, free_requester};
 use seq_memory::{Extent, refusal_lent};
 use std::alloc::{AllocError, Global};
@@ -173,7 +173,7 @@ enum Part {
 fn push_requests(
     guesses: &mut Guesses,
     requests: &Requests<'_>,
-    last: &Request,
+    last: &LogRequest,
     part: Part,
 ) -> Result<(), AllocError> {
     let Some(asked) = requests.op(last) else {

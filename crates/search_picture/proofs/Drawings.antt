@@ -2,7 +2,7 @@
 use Rattle.std.proofs.Common.{◌≡◌, ◌∙◌, ◌+◌, ◌∷◌, ◌++◌, List, ℕ, [], zero, suc, Some, ap, sym, refl, subst, append_assoc, arith}
 use Rattle.std.specs.Prelude.{slice_get}
 use Rattle.svg_text.specs.Shapes.{Shape}
-use Rattle.search_picture.specs.declared.scene.Request.{Request}
+use Rattle.search_picture.specs.declared.scene.PictureRequest.{PictureRequest}
 use Rattle.search_picture.specs.Laws.{Has, EachRequestHasItsBar}
 use Rattle.search_picture.specs.Picture.{arrows_of, bottom_of, columns_of, ground, lines_of, marks_of, request_shapes, requests_of, rows, signs, titles, told, whys}
 
@@ -26,11 +26,11 @@ has_before all rest part s = record {
 of_some : {X : Type 0} (x y : X) → Some x ≡ Some y → x ≡ y
 of_some x y e = cc
 
-in_rows : (row : ℕ) (rs : List Request) (k : ℕ) (r : Request) → slice_get rs k ≡ Some r → Has (rows row rs) (request_shapes (row + k) r)
+in_rows : (row : ℕ) (rs : List PictureRequest) (k : ℕ) (r : PictureRequest) → slice_get rs k ≡ Some r → Has (rows row rs) (request_shapes (row + k) r)
 in_rows row [] k r e = absurd cc
 in_rows row (x ∷ xs) zero r e =
     let here : row ≡ row + 0 = omega arith in
-    subst (λ (y : Request). Has (rows row (x ∷ xs)) (request_shapes (row + 0) y)) (of_some x r e)
+    subst (λ (y : PictureRequest). Has (rows row (x ∷ xs)) (request_shapes (row + 0) y)) (of_some x r e)
     (subst (λ (n : ℕ). Has (rows row (x ∷ xs)) (request_shapes n x)) here (at_first (request_shapes row x) (rows (row + 1) xs)))
 in_rows row (x ∷ xs) (suc k) r e =
     let next : row + 1 + k ≡ row + suc k = omega arith in

@@ -5,7 +5,7 @@ use Rattle.std.specs.List.{list_any}
 use Rattle.std.proofs.lemmas.Grind.{flat_map-append}
 use Rattle.std.proofs.lemmas.List.{append-nil}
 use Rattle.svg_text.specs.Shapes.{Shape, shape_text, shapes_text}
-use Rattle.search_picture.specs.declared.scene.Request.{Request}
+use Rattle.search_picture.specs.declared.scene.PictureRequest.{PictureRequest}
 use Rattle.search_picture.specs.declared.scene.Arrow.{Arrow}
 use Rattle.search_picture.specs.declared.scene.Line.{Line}
 use Rattle.search_picture.specs.Picture.{column_shapes, columns, frame_behind, frames, request_shapes, rows, arrow_shapes, arrows, why_shapes, whys, line_shapes, told}
@@ -51,24 +51,24 @@ columns-next bottom at line all i o p lt is e =
     part o p (column_shapes at line bottom) (columns bottom (at + 1) (drop (i + 1) all)) e
     ∙ ap (λ (ls : List ℕ). o ++ shapes_text (columns bottom at ls)) (sym (cut_number all i line lt is))
 
-pub frames-next : (width : ℕ) (before : Option ℕ) (row : ℕ) (r : Request) (all : List Request) (i : ℕ) (o p : List ℕ) → i < length all → r ≡ get_or all i r
+pub frames-next : (width : ℕ) (before : Option ℕ) (row : ℕ) (r : PictureRequest) (all : List PictureRequest) (i : ℕ) (o p : List ℕ) → i < length all → r ≡ get_or all i r
     → p ≡ o ++ shapes_text (frame_behind width before row r.requester)
     → p ++ shapes_text (frames width (Some r.requester) (row + 1) (drop (i + 1) all)) ≡ o ++ shapes_text (frames width before row (drop i all))
 frames-next width before row r all i o p lt is e =
     part o p (frame_behind width before row r.requester) (frames width (Some r.requester) (row + 1) (drop (i + 1) all)) e
-    ∙ ap (λ (rs : List Request). o ++ shapes_text (frames width before row rs)) (sym (cut all i r lt is))
+    ∙ ap (λ (rs : List PictureRequest). o ++ shapes_text (frames width before row rs)) (sym (cut all i r lt is))
 
-pub rows-next : (row : ℕ) (r : Request) (all : List Request) (i : ℕ) (o p : List ℕ) → i < length all → r ≡ get_or all i r → p ≡ o ++ shapes_text (request_shapes row r)
+pub rows-next : (row : ℕ) (r : PictureRequest) (all : List PictureRequest) (i : ℕ) (o p : List ℕ) → i < length all → r ≡ get_or all i r → p ≡ o ++ shapes_text (request_shapes row r)
     → p ++ shapes_text (rows (row + 1) (drop (i + 1) all)) ≡ o ++ shapes_text (rows row (drop i all))
 rows-next row r all i o p lt is e =
-    part o p (request_shapes row r) (rows (row + 1) (drop (i + 1) all)) e ∙ ap (λ (rs : List Request). o ++ shapes_text (rows row rs)) (sym (cut all i r lt is))
+    part o p (request_shapes row r) (rows (row + 1) (drop (i + 1) all)) e ∙ ap (λ (rs : List PictureRequest). o ++ shapes_text (rows row rs)) (sym (cut all i r lt is))
 
-pub arrows-next : (rs : List Request) (a : Arrow) (all : List Arrow) (i : ℕ) (o p : List ℕ) → i < length all → a ≡ get_or all i a → p ≡ o ++ shapes_text (arrow_shapes rs a)
+pub arrows-next : (rs : List PictureRequest) (a : Arrow) (all : List Arrow) (i : ℕ) (o p : List ℕ) → i < length all → a ≡ get_or all i a → p ≡ o ++ shapes_text (arrow_shapes rs a)
     → p ++ shapes_text (arrows rs (drop (i + 1) all)) ≡ o ++ shapes_text (arrows rs (drop i all))
 arrows-next rs a all i o p lt is e =
     part o p (arrow_shapes rs a) (arrows rs (drop (i + 1) all)) e ∙ ap (λ (more : List Arrow). o ++ shapes_text (arrows rs more)) (sym (cut all i a lt is))
 
-pub whys-next : (rs : List Request) (a : Arrow) (all : List Arrow) (i : ℕ) (o p : List ℕ) → i < length all → a ≡ get_or all i a → p ≡ o ++ shapes_text (why_shapes rs a)
+pub whys-next : (rs : List PictureRequest) (a : Arrow) (all : List Arrow) (i : ℕ) (o p : List ℕ) → i < length all → a ≡ get_or all i a → p ≡ o ++ shapes_text (why_shapes rs a)
     → p ++ shapes_text (whys rs (drop (i + 1) all)) ≡ o ++ shapes_text (whys rs (drop i all))
 whys-next rs a all i o p lt is e =
     part o p (why_shapes rs a) (whys rs (drop (i + 1) all)) e ∙ ap (λ (more : List Arrow). o ++ shapes_text (whys rs more)) (sym (cut all i a lt is))
@@ -86,17 +86,17 @@ ended o p ss none e = sym (text-none p) ∙ ap (λ (l : List Shape). p ++ shapes
 pub columns-past : (bottom at : ℕ) (all : List ℕ) (i : ℕ) (o p : List ℕ) → length all ≤ i → p ++ shapes_text (columns bottom at (drop i all)) ≡ o → p ≡ o
 columns-past bottom at all i o p le e = ended o p (columns bottom at (drop i all)) (ap (columns bottom at) (past all i le)) e
 
-pub frames-past : (width : ℕ) (before : Option ℕ) (row : ℕ) (all : List Request) (i : ℕ) (o p : List ℕ) → length all ≤ i
+pub frames-past : (width : ℕ) (before : Option ℕ) (row : ℕ) (all : List PictureRequest) (i : ℕ) (o p : List ℕ) → length all ≤ i
     → p ++ shapes_text (frames width before row (drop i all)) ≡ o → p ≡ o
 frames-past width before row all i o p le e = ended o p (frames width before row (drop i all)) (ap (frames width before row) (past all i le)) e
 
-pub rows-past : (row : ℕ) (all : List Request) (i : ℕ) (o p : List ℕ) → length all ≤ i → p ++ shapes_text (rows row (drop i all)) ≡ o → p ≡ o
+pub rows-past : (row : ℕ) (all : List PictureRequest) (i : ℕ) (o p : List ℕ) → length all ≤ i → p ++ shapes_text (rows row (drop i all)) ≡ o → p ≡ o
 rows-past row all i o p le e = ended o p (rows row (drop i all)) (ap (rows row) (past all i le)) e
 
-pub arrows-past : (rs : List Request) (all : List Arrow) (i : ℕ) (o p : List ℕ) → length all ≤ i → p ++ shapes_text (arrows rs (drop i all)) ≡ o → p ≡ o
+pub arrows-past : (rs : List PictureRequest) (all : List Arrow) (i : ℕ) (o p : List ℕ) → length all ≤ i → p ++ shapes_text (arrows rs (drop i all)) ≡ o → p ≡ o
 arrows-past rs all i o p le e = ended o p (arrows rs (drop i all)) (ap (arrows rs) (past all i le)) e
 
-pub whys-past : (rs : List Request) (all : List Arrow) (i : ℕ) (o p : List ℕ) → length all ≤ i → p ++ shapes_text (whys rs (drop i all)) ≡ o → p ≡ o
+pub whys-past : (rs : List PictureRequest) (all : List Arrow) (i : ℕ) (o p : List ℕ) → length all ≤ i → p ++ shapes_text (whys rs (drop i all)) ≡ o → p ≡ o
 whys-past rs all i o p le e = ended o p (whys rs (drop i all)) (ap (whys rs) (past all i le)) e
 
 pub told-past : (y : ℕ) (all : List Line) (i : ℕ) (o p : List ℕ) → length all ≤ i → p ++ shapes_text (told y (drop i all)) ≡ o → p ≡ o

@@ -10,7 +10,7 @@ use Rattle.svg_text.specs.declared.shapes.Label.{Label}
 use Rattle.svg_text.specs.Shapes.{Shape, page_text}
 use Rattle.search_picture.specs.declared.scene.Role.{Role}
 use Rattle.search_picture.specs.declared.scene.Role.TheVariants as roles
-use Rattle.search_picture.specs.declared.scene.Request.{Request}
+use Rattle.search_picture.specs.declared.scene.PictureRequest.{PictureRequest}
 use Rattle.search_picture.specs.declared.scene.Arrow.{Arrow}
 use Rattle.search_picture.specs.declared.scene.Line.{Line}
 use Rattle.search_picture.specs.declared.scene.Scene.{Scene}
@@ -108,11 +108,11 @@ is_named roles.Against = false
 is_named roles.Named = true
 is_named roles.Other = false
 
-abbrev pub is_drawn : List Request → Arrow → Bool
+abbrev pub is_drawn : List PictureRequest → Arrow → Bool
 is_drawn rs a = is_some (slice_get rs a.from) && is_some (slice_get rs a.to)
 
 -- what occurs among the requests and the arrows that are shown
-abbrev pub marks_of : List Request → List Arrow → Marks
+abbrev pub marks_of : List PictureRequest → List Arrow → Marks
 marks_of rs ps = record {
   last = list_any (λ r. is_last r.role) rs;
   against = list_any (λ r. is_against r.role) rs;
@@ -123,7 +123,7 @@ marks_of rs ps = record {
 }
 
 -- with a request more
-abbrev pub with_request : Marks → Request → Marks
+abbrev pub with_request : Marks → PictureRequest → Marks
 with_request m r = record {
   last = m.last || is_last r.role;
   against = m.against || is_against r.role;
@@ -212,13 +212,13 @@ is_same (Some other) requester = other == requester
 abbrev pub frame_behind : ℕ → Option ℕ → ℕ → ℕ → List Shape
 frame_behind width before row requester = if is_same before requester then [] else frame width row requester
 
-abbrev pub frames : ℕ → Option ℕ → ℕ → List Request → List Shape
+abbrev pub frames : ℕ → Option ℕ → ℕ → List PictureRequest → List Shape
 frames width before row [] = []
 frames width before row (r ∷ rs) = frame_behind width before row r.requester ++ frames width (Some r.requester) (row + 1) rs
 
 -- ---- the bars
 
-abbrev pub bar_block : ℕ → Request → Block
+abbrev pub bar_block : ℕ → PictureRequest → Block
 bar_block top r = record {
   left = x_at r.from + 1;
   top = top + 16;
@@ -231,22 +231,22 @@ bar_block top r = record {
 }
 
 -- how many characters the longer one of its texts has, as far as it is shown
-abbrev pub count_of : Request → ℕ
+abbrev pub count_of : PictureRequest → ℕ
 count_of r = max (length (take 48 r.asked.items)) (length (take 48 r.answered.items))
 
 -- where its texts stand: in the bar, if there is room for them, and else to its right
-abbrev pub text_x : Request → ℕ
+abbrev pub text_x : PictureRequest → ℕ
 text_x r = if nat_le (x_at r.from + 36 + 8 * count_of r) (x_at r.to) then x_at r.from + 32 else x_at r.to + 8
 
 -- a bar, above white where its texts stand
-abbrev pub bar_shapes : ℕ → Request → List Shape
+abbrev pub bar_shapes : ℕ → PictureRequest → List Shape
 bar_shapes top r =
     Shape.Filled (backing (text_x r) (top + 16) (top + 52) (count_of r)) []
     ∷ Shape.Filled (bar_block top r) r.title.items
     ∷ []
 
 -- what was asked and answered
-abbrev pub text_shapes : ℕ → Request → List Shape
+abbrev pub text_shapes : ℕ → PictureRequest → List Shape
 text_shapes top r =
     Shape.Written (label_at (text_x r) (top + 31) colours.Black) (take 48 r.asked.items)
     ∷ Shape.Written (label_at (text_x r) (top + 46) (edge_of r.role)) (take 48 r.answered.items)
@@ -261,11 +261,11 @@ place_shapes None x top = []
 place_shapes (Some place) x top =
     Shape.Filled (place_block x top) (decimal place) ∷ Shape.Written (middle_at (x + 16) (top + 38) colours.Black) (decimal place) ∷ []
 
-abbrev pub request_shapes : ℕ → Request → List Shape
+abbrev pub request_shapes : ℕ → PictureRequest → List Shape
 request_shapes row r = bar_shapes (top_of row) r ++ (text_shapes (top_of row) r ++ place_shapes r.place (x_at r.from) (top_of row))
 
 -- requests, each in a row
-abbrev pub rows : ℕ → List Request → List Shape
+abbrev pub rows : ℕ → List PictureRequest → List Shape
 rows row [] = []
 rows row (r ∷ rs) = request_shapes row r ++ rows (row + 1) rs
 
@@ -274,7 +274,7 @@ rows row (r ∷ rs) = request_shapes row r ++ rows (row + 1) rs
 abbrev pub leg : ℕ × ℕ → ℕ × ℕ → Rule
 leg from to = record { left = from.0; top = from.1; right = to.0; bottom = to.1; colour = colours.Red; thickness = 2; dash = 0 }
 
-abbrev pub end_at : ℕ → Request → End
+abbrev pub end_at : ℕ → PictureRequest → End
 end_at row r = record { x = x_at r.from; top = top_of row }
 
 -- from the lower edge of a bar to the upper edge of one below it
@@ -303,16 +303,16 @@ up from to why =
     ) why
     ∷ []
 
-abbrev pub between : ℕ → Option Request → ℕ → Option Request → List ℕ → List Shape
+abbrev pub between : ℕ → Option PictureRequest → ℕ → Option PictureRequest → List ℕ → List Shape
 between i (Some r) j (Some s) why = if nat_lt i j then down (end_at i r) (end_at j s) why else up (end_at i r) (end_at j s) why
 between i (Some r) j None why = []
 between i None j s why = []
 
 -- an arrow, if both of its requests are shown
-abbrev pub arrow_shapes : List Request → Arrow → List Shape
+abbrev pub arrow_shapes : List PictureRequest → Arrow → List Shape
 arrow_shapes rs a = between a.from (slice_get rs a.from) a.to (slice_get rs a.to) a.why.items
 
-abbrev pub arrows : List Request → List Arrow → List Shape
+abbrev pub arrows : List PictureRequest → List Arrow → List Shape
 arrows rs [] = []
 arrows rs (a ∷ more) = arrow_shapes rs a ++ arrows rs more
 
@@ -323,14 +323,14 @@ why_at e why =
     ∷ Shape.Written (label_at (e.x + 30) (e.top + 12) colours.Red) (take 44 why)
     ∷ []
 
-abbrev pub why_for : ℕ → Option Request → List ℕ → List Shape
+abbrev pub why_for : ℕ → Option PictureRequest → List ℕ → List Shape
 why_for j None why = []
 why_for j (Some r) why = why_at (end_at j r) why
 
-abbrev pub why_shapes : List Request → Arrow → List Shape
+abbrev pub why_shapes : List PictureRequest → Arrow → List Shape
 why_shapes rs a = why_for a.to (slice_get rs a.to) a.why.items
 
-abbrev pub whys : List Request → List Arrow → List Shape
+abbrev pub whys : List PictureRequest → List Arrow → List Shape
 whys rs [] = []
 whys rs (a ∷ more) = why_shapes rs a ++ whys rs more
 
@@ -348,7 +348,7 @@ told y (line ∷ lines) = line_shapes y line ++ told (y + 16) lines
 abbrev pub columns_of : Scene → List ℕ
 columns_of s = take 40 s.columns.items
 
-abbrev pub requests_of : Scene → List Request
+abbrev pub requests_of : Scene → List PictureRequest
 requests_of s = take 20 s.requests.items
 
 abbrev pub arrows_of : Scene → List Arrow
@@ -364,21 +364,21 @@ width_of lines = max (x_at (length lines) + 400) 840
 abbrev pub page_width : List ℕ → Marks → ℕ → ℕ
 page_width lines m count = max (width_of lines) (signs_end m count)
 
-abbrev pub bottom_of : List Request → ℕ
+abbrev pub bottom_of : List PictureRequest → ℕ
 bottom_of rs = top_of (length rs)
 
 -- what lies below the bars
-abbrev pub ground : List ℕ → List Request → List Arrow → List Shape
+abbrev pub ground : List ℕ → List PictureRequest → List Arrow → List Shape
 ground cs rs ps = columns (bottom_of rs) 0 cs ++ (frames (width_of cs) None 0 rs ++ arrows rs ps)
 
 -- the bars, and what stands beside and below them
-abbrev pub bars : List Request → List Arrow → List Line → List Shape
+abbrev pub bars : List PictureRequest → List Arrow → List Line → List Shape
 bars rs ps ls = rows 0 rs ++ (whys rs ps ++ told (bottom_of rs + 24) ls)
 
-abbrev pub shapes_of : List ℕ → List ℕ → List ℕ → List ℕ → List Request → List Arrow → List Line → List Shape
+abbrev pub shapes_of : List ℕ → List ℕ → List ℕ → List ℕ → List PictureRequest → List Arrow → List Line → List Shape
 shapes_of title note places cs rs ps ls = titles title note ++ (signs (marks_of rs ps) places ++ (ground cs rs ps ++ bars rs ps ls))
 
-abbrev pub height_of : List Request → List Line → ℕ
+abbrev pub height_of : List PictureRequest → List Line → ℕ
 height_of rs ls = bottom_of rs + 16 * length ls + 30
 
 -- all shapes of a scene

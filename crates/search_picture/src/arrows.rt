@@ -4,7 +4,7 @@ ghost use Rattle.svg_text.specs.Shapes.{shapes_text};
 ghost use Rattle.search_picture.specs.Picture as spec;
 
 use crate::parts::{backing, label_at, shown, top_of, x_at};
-use crate::scene::{Arrow, Request};
+use crate::scene::{Arrow, PictureRequest};
 use std::alloc::AllocError;
 use svg_text::{Colour, Rule, put_block, put_label, put_lines};
 
@@ -77,7 +77,7 @@ fn put_up(from: End, to: End, why: &[u8], out: &mut Vec<u8>) -> Result<(), Alloc
 }
 
 /// The end of an arrow at the request of a row.
-fn end_at(row: usize, request: &Request) -> End
+fn end_at(row: usize, request: &PictureRequest) -> End
     requires { row < 20 }
     ensures end { result ≡ spec.end_at row request.now }
     ensures x { result.x ≤ 400000000000 }
@@ -92,7 +92,11 @@ fn end_at(row: usize, request: &Request) -> End
 
 /// Adds an arrow, if both of its requests are shown.
 #[tactic(auto, unfolding(svg_text::specs::Shapes::shapes_text))]
-fn put_arrow(requests: &[Request], arrow: &Arrow, out: &mut Vec<u8>) -> Result<(), AllocError>
+fn put_arrow(
+    requests: &[PictureRequest],
+    arrow: &Arrow,
+    out: &mut Vec<u8>,
+) -> Result<(), AllocError>
     requires { length requests.now ≤ 20 }
     ensures { OnOk result (out.new.items ≡ out.old.items ++ shapes_text (spec.arrow_shapes requests.now arrow.now)) }
 {
@@ -111,7 +115,7 @@ fn put_arrow(requests: &[Request], arrow: &Arrow, out: &mut Vec<u8>) -> Result<(
 
 /// Adds arrows.
 pub(crate) fn put_arrows(
-    requests: &[Request],
+    requests: &[PictureRequest],
     arrows: &[Arrow],
     out: &mut Vec<u8>,
 ) -> Result<(), AllocError>
@@ -126,7 +130,7 @@ pub(crate) fn put_arrows(
 
 /// Adds why an arrow is there, above the bar that it leads to, if that is shown.
 #[tactic(auto, unfolding(svg_text::specs::Shapes::shapes_text))]
-fn put_why(requests: &[Request], arrow: &Arrow, out: &mut Vec<u8>) -> Result<(), AllocError>
+fn put_why(requests: &[PictureRequest], arrow: &Arrow, out: &mut Vec<u8>) -> Result<(), AllocError>
     requires { length requests.now ≤ 20 }
     ensures { OnOk result (out.new.items ≡ out.old.items ++ shapes_text (spec.why_shapes requests.now arrow.now)) }
 {
@@ -141,7 +145,7 @@ fn put_why(requests: &[Request], arrow: &Arrow, out: &mut Vec<u8>) -> Result<(),
 
 /// Adds why arrows are there.
 pub(crate) fn put_whys(
-    requests: &[Request],
+    requests: &[PictureRequest],
     arrows: &[Arrow],
     out: &mut Vec<u8>,
 ) -> Result<(), AllocError>

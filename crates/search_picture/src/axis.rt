@@ -4,7 +4,7 @@ ghost use Rattle.svg_text.specs.Shapes.{shapes_text};
 ghost use Rattle.search_picture.specs.Picture as spec;
 
 use crate::parts::{grey_line, label_at, middle_at, top_of, x_at};
-use crate::scene::Request;
+use crate::scene::PictureRequest;
 use arrayvec::ArrayString;
 use operation_text::write_decimal;
 use std::alloc::AllocError;
@@ -91,7 +91,7 @@ fn put_frame_behind(
 /// Adds the names of the requesters.
 pub(crate) fn put_frames(
     width: u64,
-    requests: &[Request],
+    requests: &[PictureRequest],
     out: &mut Vec<u8>,
 ) -> Result<(), AllocError>
     requires { length requests.now ≤ 20 }

@@ -19,4 +19,4 @@ mod scene;
 mod signs;
 
 pub use picture::put_scene;
-pub use scene::{Arrow, Line, Request, Role, Scene};
+pub use scene::{Arrow, Line, PictureRequest, Role, Scene};

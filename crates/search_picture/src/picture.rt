@@ -8,7 +8,7 @@ use crate::axis::{put_columns, put_frames};
 use crate::heading::put_titles;
 use crate::parts::{label_at, shown, top_of, x_at};
 use crate::requests::put_requests;
-use crate::scene::{Arrow, Line, Request, Scene};
+use crate::scene::{Arrow, Line, PictureRequest, Scene};
 use crate::signs::{Marks, marks_of, put_signs};
 use std::alloc::{AllocError, Global};
 use svg_text::{Colour, put_label, put_page};
@@ -17,7 +17,7 @@ use svg_text::{Colour, put_label, put_page};
 #[derive(Clone, Copy)]
 pub(crate) struct Shown<'a> {
     pub(crate) columns: &'a [u64],
-    pub(crate) requests: &'a [Request],
+    pub(crate) requests: &'a [PictureRequest],
     pub(crate) arrows: &'a [Arrow],
     pub(crate) lines: &'a [Line],
 }
@@ -58,7 +58,7 @@ fn page_width(columns: &[u64], marks: &Marks, places: &[u8]) -> u64
 }
 
 /// Where the rows of requests end.
-fn bottom_of(requests: &[Request]) -> u64
+fn bottom_of(requests: &[PictureRequest]) -> u64
     requires { length requests.now ≤ 20 }
     ensures bottom { result ≡ spec.bottom_of requests.now }
     ensures range { result ≤ 6500 }
@@ -136,7 +136,7 @@ fn put_shapes(
 }
 
 /// How high the picture is.
-fn height_of(requests: &[Request], lines: &[Line]) -> u64
+fn height_of(requests: &[PictureRequest], lines: &[Line]) -> u64
     requires few { length requests.now ≤ 20 }
     requires short { length lines.now ≤ 40 }
     ensures { result ≡ spec.height_of requests.now lines.now }

@@ -4,7 +4,7 @@ ghost use Rattle.svg_text.specs.Shapes.{shapes_text};
 ghost use Rattle.search_picture.specs.Picture as spec;
 
 use crate::parts::{backing, label_at, middle_at, shown, top_of, x_at};
-use crate::scene::{Request, Role};
+use crate::scene::{PictureRequest, Role};
 use arrayvec::ArrayString;
 use operation_text::write_decimal;
 use std::alloc::AllocError;
@@ -39,7 +39,7 @@ pub(crate) fn thickness_of(role: Role) -> u64
 }
 
 /// The block of a bar in the row that begins so many pixels from the top.
-fn bar_block(top: u64, request: &Request) -> Block
+fn bar_block(top: u64, request: &PictureRequest) -> Block
     requires { top ≤ 6500 }
     ensures { result ≡ spec.bar_block top request.now }
 {
@@ -56,7 +56,7 @@ fn bar_block(top: u64, request: &Request) -> Block
 }
 
 /// How many characters the longer one of a request's texts has, as far as it is shown.
-fn count_of(request: &Request) -> usize
+fn count_of(request: &PictureRequest) -> usize
     ensures count { result ≡ spec.count_of request.now }
     ensures range { result ≤ 48 }
 {
@@ -66,7 +66,7 @@ fn count_of(request: &Request) -> usize
 }
 
 /// Where the texts of a bar stand: in it, if there is room for them, and else to its right.
-fn text_x(request: &Request) -> u64
+fn text_x(request: &PictureRequest) -> u64
     ensures at { result ≡ spec.text_x request.now }
     ensures range { result ≤ 500000000000 }
 {
@@ -80,7 +80,7 @@ fn text_x(request: &Request) -> u64
 
 /// Adds a bar, above white where its texts stand.
 #[tactic(auto, unfolding(svg_text::specs::Shapes::shapes_text))]
-fn put_bar(top: u64, request: &Request, out: &mut Vec<u8>) -> Result<(), AllocError>
+fn put_bar(top: u64, request: &PictureRequest, out: &mut Vec<u8>) -> Result<(), AllocError>
     requires { top ≤ 6500 }
     ensures { OnOk result (out.new.items ≡ out.old.items ++ shapes_text (spec.bar_shapes top request.now)) }
 {
@@ -91,7 +91,7 @@ fn put_bar(top: u64, request: &Request, out: &mut Vec<u8>) -> Result<(), AllocEr
 
 /// Adds what was asked and answered.
 #[tactic(auto, unfolding(svg_text::specs::Shapes::shapes_text))]
-fn put_texts(top: u64, request: &Request, out: &mut Vec<u8>) -> Result<(), AllocError>
+fn put_texts(top: u64, request: &PictureRequest, out: &mut Vec<u8>) -> Result<(), AllocError>
     requires { top ≤ 6500 }
     ensures { OnOk result (out.new.items ≡ out.old.items ++ shapes_text (spec.text_shapes top request.now)) }
 {
@@ -141,7 +141,7 @@ fn put_place(place: Option<u32>, x: u64, top: u64, out: &mut Vec<u8>) -> Result<
 }
 
 /// Adds a request.
-fn put_request(row: u64, request: &Request, out: &mut Vec<u8>) -> Result<(), AllocError>
+fn put_request(row: u64, request: &PictureRequest, out: &mut Vec<u8>) -> Result<(), AllocError>
     requires { row ≤ 100 }
     ensures { OnOk result (out.new.items ≡ out.old.items ++ shapes_text (spec.request_shapes row request.now)) }
 {
@@ -153,7 +153,7 @@ fn put_request(row: u64, request: &Request, out: &mut Vec<u8>) -> Result<(), All
 }
 
 /// Adds requests, each in a row.
-pub(crate) fn put_requests(requests: &[Request], out: &mut Vec<u8>) -> Result<(), AllocError>
+pub(crate) fn put_requests(requests: &[PictureRequest], out: &mut Vec<u8>) -> Result<(), AllocError>
     requires { length requests.now ≤ 20 }
     ensures { OnOk result (out.new.items ≡ out.old.items ++ shapes_text (spec.rows 0 requests.now)) }
 {

@@ -14,7 +14,7 @@ pub enum Role {
 
 /// A request. Columns are counted from 0.
 #[derive(Drop)]
-pub struct Request {
+pub struct PictureRequest {
     pub requester: u8,
     /// The column of its submission.
     pub from: u32,
@@ -56,7 +56,7 @@ pub struct Scene {
     /// The line of the log that each column is.
     pub columns: Vec<u64>,
     /// Those of a requester one after the other.
-    pub requests: Vec<Request>,
+    pub requests: Vec<PictureRequest>,
     pub arrows: Vec<Arrow>,
     /// What stands below the rows.
     pub lines: Vec<Line>,

@@ -6,7 +6,7 @@ ghost use Rattle.search_picture.specs.Picture as spec;
 
 use crate::parts::{label_at, middle_at, shown};
 use crate::requests::{edge_of, fill_of, thickness_of};
-use crate::scene::{Arrow, Request, Role};
+use crate::scene::{Arrow, PictureRequest, Role};
 use std::alloc::AllocError;
 use svg_text::{Block, Colour, put_block, put_label};
 
@@ -49,7 +49,7 @@ fn is_named(role: Role) -> bool
 }
 
 /// Both requests of the arrow are shown.
-fn is_drawn(requests: &[Request], arrow: &Arrow) -> bool
+fn is_drawn(requests: &[PictureRequest], arrow: &Arrow) -> bool
     ensures { result ≡ spec.is_drawn requests.now arrow.now }
 {
     requests.get(arrow.from).is_some() && requests.get(arrow.to).is_some()
@@ -62,7 +62,7 @@ fn either(first: bool, second: bool) -> bool
 }
 
 /// An arrow is drawn.
-fn any_arrow(requests: &[Request], arrows: &[Arrow]) -> bool
+fn any_arrow(requests: &[PictureRequest], arrows: &[Arrow]) -> bool
     ensures { result ≡ list_any (spec.is_drawn requests.now) arrows.now }
 {
     let mut any = false;
@@ -73,7 +73,7 @@ fn any_arrow(requests: &[Request], arrows: &[Arrow]) -> bool
 }
 
 /// What occurs, with a request more.
-fn with_request(marks: Marks, request: &Request) -> Marks
+fn with_request(marks: Marks, request: &PictureRequest) -> Marks
     ensures { result ≡ spec.with_request marks request.now }
 {
     Marks {
@@ -87,7 +87,7 @@ fn with_request(marks: Marks, request: &Request) -> Marks
 }
 
 /// What occurs among these.
-pub(crate) fn marks_of(requests: &[Request], arrows: &[Arrow]) -> Marks
+pub(crate) fn marks_of(requests: &[PictureRequest], arrows: &[Arrow]) -> Marks
     ensures { result ≡ spec.marks_of requests.now arrows.now }
 {
     let mut marks = Marks {

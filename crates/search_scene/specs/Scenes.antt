@@ -17,7 +17,7 @@ use Rattle.search_history.specs.Expected.{IsExpected}
 use Rattle.operation_text.specs.Texts.{op_text, reply_text}
 use Rattle.trace_diagnostics.specs.Told.{TraceLinesView, record_line}
 use Rattle.search_picture.specs.declared.scene.Arrow.{Arrow}
-use Rattle.search_picture.specs.declared.scene.Request.{Request}
+use Rattle.search_picture.specs.declared.scene.PictureRequest.{PictureRequest}
 use Rattle.search_picture.specs.declared.scene.Scene.{Scene}
 
 -- ---- words
@@ -88,10 +88,10 @@ pub record IsAnswered (page : Page) (requester number column : ℕ) (said : List
   pub says : said ≡ answered reply expected
 
 -- the bar ends at an answer to the request, or is open behind the last column
-abbrev pub IsClosed : Page → Request → ℕ → Type 0
+abbrev pub IsClosed : Page → PictureRequest → ℕ → Type 0
 IsClosed page bar number = (bar.is_open ≡ false) × IsAnswered page bar.requester number bar.to bar.answered.items
 
-abbrev pub IsOpen : Page → Request → ℕ → Op → Type 0
+abbrev pub IsOpen : Page → PictureRequest → ℕ → Op → Type 0
 IsOpen page bar number op =
     (bar.is_open ≡ true) × (bar.to ≡ length page.columns) × (bar.answered.items ≡ unanswered page bar.requester number op)
 
@@ -100,7 +100,7 @@ abbrev pub IsPlaced : List Entry → ℕ → ℕ → ℕ → Type 0
 IsPlaced history requester number place = (op : Op) × (slice_get history place ≡ Some (record { requester = requester; number = number; op = op }))
 
 -- the bar is one of a request that a record submits: it begins at the record's column and says what is asked
-pub record IsBar (page : Page) (bar : Request) : Type 0 where
+pub record IsBar (page : Page) (bar : PictureRequest) : Type 0 where
   pub place : ℕ
   pub number : ℕ
   pub op : Op

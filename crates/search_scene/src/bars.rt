@@ -16,7 +16,7 @@ use arrayvec::ArrayString;
 use history_words::{AsClaim, RecordRef};
 use operation_text::write_op;
 use search_history::Before;
-use search_picture::{Request, Role};
+use search_picture::{PictureRequest, Role};
 use std::alloc::{AllocError, Global};
 use tlp_core::OpRef;
 use trace_store::{Records, TraceStore};
@@ -145,13 +145,13 @@ fn bar_with(
     asked: &Asked<'_>,
     role: Role,
     span: Span,
-) -> Result<Request, AllocError>
+) -> Result<PictureRequest, AllocError>
     ensures { (place : ℕ) → IsSpan page.now asked.now.name.requester asked.now.name.number asked.now.op place span → IfOk result (IsBar page.now) }
 {
     let Span { from, is_open, end } = span;
     let words = words_of(alloc, &asked.op)?;
     let title = title_of(alloc, &words, &end.said)?;
-    Ok(Request {
+    Ok(PictureRequest {
         requester: asked.name.requester,
         from,
         to: end.to,
@@ -170,7 +170,7 @@ fn bar_of(
     page: &Page<'_>,
     before: &Option<Before>,
     item: Chosen,
-) -> Result<Option<Request>, AllocError>
+) -> Result<Option<PictureRequest>, AllocError>
     requires expected { IfSome before.now (λ b. IfSome b.expected (IsExpected page.now.trace b.count)) }
     requires few { length page.now.columns ≤ 40 }
     ensures { IfOk result (λ o. IfSome o (IsBar page.now)) }
@@ -188,13 +188,13 @@ fn bar_of(
 /// The bars of requests, and where each was submitted.
 #[derive(Drop)]
 pub(crate) struct Bars {
-    pub(crate) all: Vec<Request>,
+    pub(crate) all: Vec<PictureRequest>,
     pub(crate) submissions: Vec<usize>,
 }
 
 impl Bars {
     /// Adds a bar, if there is one, of a request that is submitted at the place.
-    fn add(&mut self, bar: Option<Request>, submission: usize) -> Result<(), AllocError>
+    fn add(&mut self, bar: Option<PictureRequest>, submission: usize) -> Result<(), AllocError>
         ensures bars { (page : spec.Page) → All (IsBar page) self.old.all.items → IfSome bar (IsBar page) → OnOk result (All (IsBar page) self.new.all.items) }
         ensures few { OnOk result (length self.new.all.items ≤ length self.old.all.items + 1) }
         ensures each { length self.old.submissions.items ≡ length self.old.all.items →

@@ -1,7 +1,7 @@
 //! Which requests are shown.
 ghost use Rattle.std.specs.Prelude.{◌≤◌, IfOk, length};
 
-use log_events::{Request, Requests};
+use log_events::{LogRequest, Requests};
 use search_picture::Role;
 use search_reasons::Named;
 use std::alloc::{AllocError, Global};
@@ -15,13 +15,13 @@ const ENOUGH: usize = 10;
 /// A request that is shown.
 #[derive(Clone, Copy)]
 pub(crate) struct Chosen {
-    pub(crate) request: Request,
+    pub(crate) request: LogRequest,
     pub(crate) requester: u8,
     pub(crate) role: Role,
 }
 
 /// One of the records is the request's submission or its answer.
-fn has_one(records: &[usize], request: Request) -> bool {
+fn has_one(records: &[usize], request: LogRequest) -> bool {
     records.contains(&request.submission)
         || request
             .answer
@@ -29,7 +29,7 @@ fn has_one(records: &[usize], request: Request) -> bool {
 }
 
 /// What a request is to the last answer.
-fn role_of(named: &Named, request: Request) -> Role {
+fn role_of(named: &Named, request: LogRequest) -> Role {
     let answers = named.answers.as_slice();
     if has_one(&answers[..answers.len().min(1)], request) {
         Role::Last
@@ -47,7 +47,7 @@ fn add(
     chosen: &mut Vec<Chosen>,
     requests: &Requests<'_>,
     named: &Named,
-    request: Request,
+    request: LogRequest,
 ) -> Result<(), AllocError> {
     let Some(requester) = requests.requester(&request) else {
         return Ok(());
