@@ -13,7 +13,6 @@ ghost use Rattle.generate_engine.specs.Script.{IsScriptOf};
 ghost use Rattle.sweep_engine.specs.declared.options.Sweep.{Sweep};
 ghost use Rattle.sweep_engine.specs.Sweep.{IsWhole, last_line, seeds_in};
 
-use fabric_core::laws::a_configuration_has_one_answer;
 use script_text::laws::{own_line_spells_event, own_line_spells_fabric};
 use step_engine::laws::a_traced_script_is_explained;
 use step_laws::what_is_traced_is_ok;
@@ -43,7 +42,6 @@ pub fn nothing_generated_is_refused()
     ensures clocked_status { (c : Config) (count : ℕ) (text : List ℕ) (f : Fabric) → IsScriptOf c count text f →
         (out_check_clocked (out_step true text).text).status ≡ 0 }
 {
-    a_configuration_has_one_answer();
     a_generated_script_is_read();
     a_traced_script_is_explained();
     what_is_traced_is_ok();

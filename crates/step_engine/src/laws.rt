@@ -61,13 +61,13 @@ pub fn what_a_script_does_is_ok()
     an_explained_trace_is_ok();
 }
 
-/// Where all events of a script happen to a new fabric of its configuration, its run with `--trace` writes the trace of
-/// those events with the fabric's history, and ends with status 0; and the history explains that trace.
+/// Where all events of a script happen to a new fabric of its configuration, its run ends with status 0, and with
+/// `--trace` it writes the trace of those events with the fabric's history; and the history explains that trace.
 pub fn a_traced_script_is_explained()
     ensures text { (input : List ℕ) (c : Config) (f f' : Fabric) (events : List Event) (rs : List Record) →
         IsScript input c events → IsNewWith c f → Runs f events rs f' → (out_step true input).text ≡ trace_text (claim_with f' rs) }
-    ensures status { (input : List ℕ) (c : Config) (f f' : Fabric) (events : List Event) (rs : List Record) →
-        IsScript input c events → IsNewWith c f → Runs f events rs f' → (out_step true input).status ≡ 0 }
+    ensures status { (traced : Bool) (input : List ℕ) (c : Config) (f f' : Fabric) (events : List Event) (rs : List Record) →
+        IsScript input c events → IsNewWith c f → Runs f events rs f' → (out_step traced input).status ≡ 0 }
     ensures explained { (c : Config) (f f' : Fabric) (events : List Event) (rs : List Record) →
         IsNewWith c f → Runs f events rs f' → Explains (claim_with f' rs) }
 {
