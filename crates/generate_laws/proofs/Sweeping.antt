@@ -1,10 +1,9 @@
 -- A sweep, in which no seed fails.
-use Rattle.std.proofs.Common.{◌≡◌, ◌∙◌, ℕ, suc, ◌+◌, ◌-◌, ◌^◌, ◌≤◌, Bool, true, false, List, [], ◌∷◌, length, inl, inr, Option, refl, sym, ap, subst, arith, min}
+use Rattle.std.proofs.Common.{◌≡◌, ◌∙◌, ℕ, suc, ◌+◌, ◌-◌, ◌^◌, ◌≤◌, Bool, true, false, List, [], ◌∷◌, length, inl, inr, Option, refl, ap, arith, min}
 use Rattle.std.specs.Prelude.{◌⊎◌, ◌&&◌, nat_eq, fold, if◌then◌else◌}
 use Rattle.std.proofs.lemmas.Bool.Decides.{nat_tests}
 use Rattle.fabric_steps.specs.Fabric.{Fabric}
 use Rattle.fabric_core.specs.declared.config.Config.{Config}
-use Rattle.parameters.specs.declared.storm.Storm.{Storm}
 use Rattle.trace_engine.specs.Check.{out_check, out_check_clocked, out_check_with}
 use Rattle.step_engine.specs.Step.{out_step}
 use Rattle.generate_engine.specs.Script.{IsScriptOf, config_of}

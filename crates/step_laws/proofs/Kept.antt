@@ -1,9 +1,9 @@
 -- What holds of the fabric of a script and of its records, whatever happens.
-use Rattle.std.proofs.Common.{◌≡◌, ◌∙◌, ℕ, zero, suc, ◌-◌, ◌^◌, ◌<◌, ◌≤◌, false, List, [], ◌∷◌, ◌++◌, length, Some, All, refl, sym, ap, subst, arith}
+use Rattle.std.proofs.Common.{◌≡◌, ℕ, zero, suc, ◌<◌, ◌≤◌, false, List, [], ◌∷◌, ◌++◌, length, Some, All, sym, ap, subst, arith}
 use Rattle.std.specs.Prelude.{◌==◌, fold, slice_get, Option, None, Result, Ok}
 use Rattle.std.proofs.lemmas.Bool.Decides.{nat_tests}
 use Rattle.std.proofs.lemmas.List.Elements.{All-nil, All-cons, All-append}
-use Rattle.std.proofs.lemmas.Option.{same_Some, slice_get_within}
+use Rattle.std.proofs.lemmas.Option.{slice_get_within}
 use Rattle.history_words.specs.Records.{Record}
 use Rattle.history_words.specs.declared.record.RecordOf.TheVariants as records
 use Rattle.fabric_steps.specs.Fabric.{Fabric, whole_of}
@@ -13,7 +13,6 @@ use Rattle.fabric_steps.specs.Trace.{submitted_by, submission_count}
 use Rattle.requester_core.specs.RequesterView.{RequesterView, IsSound}
 use Rattle.fabric_steps.specs.Event.{Event, Seen}
 use Rattle.fabric_steps.specs.declared.event.EventOf.TheVariants as events
-use Rattle.fabric_steps.specs.declared.event.SeenOf.TheVariants as seen
 use Rattle.fabric_core.specs.declared.config.Config.{Config}
 use Rattle.fabric_steps.specs.declared.fault.Refusal.{Refusal}
 use Rattle.fabric_steps.specs.declared.fault.Refusal.TheVariants as refusals

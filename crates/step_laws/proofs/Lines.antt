@@ -1,5 +1,5 @@
 -- What a line of a script submits, words spell.
-use Rattle.std.proofs.Common.{◌≡◌, ℕ, Bool, true, false, if◌then◌else◌, List, [], ◌∷◌, Option, Some, None, refl, subst}
+use Rattle.std.proofs.Common.{◌≡◌, ℕ, List, [], ◌∷◌, Option, Some, None, refl, subst}
 use Rattle.std.specs.Prelude.{IfSome, option_map, bytes_eq, codes}
 use Rattle.tlp_core.specs.Ops.{Op}
 use Rattle.fabric_steps.specs.Event.{Event}

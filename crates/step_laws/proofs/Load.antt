@@ -10,7 +10,7 @@ use Rattle.fabric_steps.specs.Fabric.{Fabric, items, whole_of}
 use Rattle.fabric_steps.specs.Packets.{marked_packet}
 use Rattle.fabric_steps.specs.Whole.{MarkedPacket, RequesterView, Whole, up_of, requester_of, unused, entry_of, marked_request}
 use Rattle.fabric_steps.specs.Steps.{IsTaken, Step, submits, forwards, serves, returns, collects, links}
-use Rattle.fabric_steps.specs.Trace.{Belongs, submitted_by, submission_count}
+use Rattle.fabric_steps.specs.Trace.{submitted_by, submission_count}
 use Rattle.fabric_core.specs.Quiet.{IsQuiet}
 
 abbrev on_the_way : Whole → ℕ

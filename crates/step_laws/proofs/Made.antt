@@ -1,6 +1,6 @@
 -- A configuration without a fault has its new fabric.
-use Rattle.std.proofs.Common.{◌≡◌, ◌∙◌, ℕ, zero, suc, ◌+◌, ◌%◌, ◌^◌, ◌≤◌, Bool, true, false, if◌then◌else◌, List, [], ◌∷◌, length, replicate, Option, Some, None, refl, sym, ap, subst, inl, inr, arith}
-use Rattle.std.specs.Prelude.{not, ◌&&◌, ◌||◌, ◌==◌, nat_le, slice_get}
+use Rattle.std.proofs.Common.{◌≡◌, ◌∙◌, ℕ, zero, suc, ◌+◌, Bool, true, false, if◌then◌else◌, length, replicate, Option, Some, None, refl, sym, ap, arith}
+use Rattle.std.specs.Prelude.{not, ◌&&◌, slice_get}
 use Rattle.std.proofs.lemmas.Bool.Decides.{nat_tests}
 use Rattle.std.proofs.lemmas.List.{length-replicate}
 use Rattle.std.proofs.lemmas.Option.{same_Some}
@@ -11,7 +11,7 @@ use Rattle.lane_core.specs.Steps.{LaneEndsView, new_lane}
 use Rattle.fabric_core.specs.declared.config.Config.{Config}
 use Rattle.fabric_core.specs.declared.config.ConfigFault.{ConfigFault}
 use Rattle.fabric_core.specs.declared.config.ConfigFault.TheVariants as faults
-use Rattle.fabric_core.specs.Config.{IsBetween, AreCredits, IsConfig, AreNewLanes, AreNewRequesters, IsNewWith, down_credits}
+use Rattle.fabric_core.specs.Config.{IsBetween, AreCredits, IsConfig, IsNewWith, down_credits}
 use Rattle.fabric_core.specs.New.{fresh_from, new_fabric, config_fault, is_between, are_header_credits, are_data_credits, are_credits}
 
 -- ---- the tests

@@ -1,6 +1,6 @@
 -- The requesters of a fabric are what calls make of new ones.
 use Rattle.std.proofs.Common.{◌≡◌, ◌∙◌, ℕ, zero, suc, ◌≤◌, List, [], ◌∷◌, ◌++◌, length, refl, sym, ap, subst, arith}
-use Rattle.std.specs.Prelude.{slice_set, slice_get, Option, Some, None, Result, Ok, Err}
+use Rattle.std.specs.Prelude.{slice_set, slice_get, Some, Result, Ok}
 use Rattle.std.proofs.lemmas.Option.{same_Some, slice_get_within}
 use Rattle.tlp_core.specs.Ops.{Op}
 use Rattle.tlp_core.specs.TlpView.{TlpView}

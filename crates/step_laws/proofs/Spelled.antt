@@ -1,5 +1,5 @@
 -- What the words of an operation say of its fields.
-use Rattle.std.proofs.Common.{◌≡◌, ℕ, ◌^◌, ◌<◌, ◌≤◌, Bool, true, false, if◌then◌else◌, List, [], ◌∷◌, length, Option, Some, None, refl, subst, sym, arith}
+use Rattle.std.proofs.Common.{◌≡◌, ℕ, ◌^◌, ◌<◌, ◌≤◌, Bool, true, false, if◌then◌else◌, List, [], ◌∷◌, length, Option, Some, None, refl, subst, arith}
 use Rattle.std.specs.Prelude.{IfSome, ◌==◌, ◌||◌, nat_lt, bytes_eq, codes, Result, Ok, Err}
 use Rattle.std.proofs.lemmas.Option.{same_Some}
 use Rattle.std.proofs.lemmas.Bool.Decides.{nat_tests}
@@ -8,11 +8,10 @@ use Rattle.hex.specs.declared.error.FromHexError.{FromHexError}
 use Rattle.hex.proofs.HexLemmas.{decode_of-ok}
 use Rattle.tlp_core.specs.Ops.{Op}
 use Rattle.tlp_core.specs.declared.operation.OpOf.TheVariants as ops
-use Rattle.tlp_core.specs.declared.operation.Width.{Width}
 use Rattle.tlp_core.specs.Operation.{size_of, address_of}
-use Rattle.operation_text.specs.Words.{then_with, first_field, field, ended, has_ended}
+use Rattle.operation_text.specs.Words.{then_with, field, ended}
 use Rattle.operation_text.specs.Numbers.{numeral, byte_string, decoded}
-use Rattle.operation_text.specs.Operations.{address, count, enables, operand, read_of, write_of, add_of, swap_of, cas_by, cas_of, op_by, op_spelled, IsSpelledOp}
+use Rattle.operation_text.specs.Operations.{address, count, enables, operand, read_of, write_of, add_of, swap_of, cas_of, op_spelled, IsSpelledOp}
 
 -- a number is at most what its digits may say
 abbrev pub Range : Type 0

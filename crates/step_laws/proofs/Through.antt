@@ -1,5 +1,5 @@
 -- A script whose run ends with status 0 runs through.
-use Rattle.std.proofs.Common.{◌≡◌, ℕ, ◌+◌, inl, inr, Bool, true, false, if◌then◌else◌, List, [], ◌∷◌, ◌++◌, length, refl, sym, ap, subst, Option, Some, None}
+use Rattle.std.proofs.Common.{◌≡◌, ℕ, ◌+◌, inl, inr, Bool, true, false, if◌then◌else◌, List, [], ◌∷◌, ◌++◌, length, refl, Option, Some, None}
 use Rattle.std.specs.Prelude.{◌⊎◌, ◌-◌, ◌^◌, min, fold, nat_lt, Result, Ok, Err}
 use Rattle.history_words.specs.Records.{Record}
 use Rattle.fabric_steps.specs.Fabric.{Fabric}

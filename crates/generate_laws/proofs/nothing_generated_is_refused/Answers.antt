@@ -1,4 +1,4 @@
-use Rattle.std.proofs.Common.{◌≡◌, ◌≢◌, ◌∙◌, ℕ, Bool, true, false, List, [], sym}
+use Rattle.std.proofs.Common.{◌≢◌, ℕ, Bool, true, false, List, []}
 use Rattle.fabric_steps.specs.Fabric.{Fabric}
 use Rattle.fabric_core.specs.declared.config.Config.{Config}
 use Rattle.fabric_steps.specs.Event.{Event}

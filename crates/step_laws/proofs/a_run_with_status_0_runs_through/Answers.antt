@@ -1,15 +1,10 @@
-use Rattle.std.proofs.Common.{◌≡◌, ◌≤◌, Bool, ℕ, List, [], arith}
-use Rattle.std.specs.Prelude.{slice_get, Some}
+use Rattle.std.proofs.Common.{Bool, ℕ, List, [], arith}
 use Rattle.seq_memory.specs.History.{extent_of}
 use Rattle.seq_memory.specs.Limits.{IsWithinLimits}
-use Rattle.requester_core.specs.RequesterView.{RequesterView}
 use Rattle.history_words.specs.Records.{Record}
 use Rattle.fabric_steps.specs.Fabric.{Fabric}
-use Rattle.hex_text.specs.Lines.{lines_of}
 use Rattle.trace_text.specs.Tellable.{IsTellable}
-use Rattle.step_engine.specs.Options.{traced}
-use Rattle.step_engine.specs.Script.{Progress, RunsThrough, script_of}
-use Rattle.step_engine.specs.Step.{claim_with, out_step_with}
+use Rattle.step_engine.specs.Step.{claim_with}
 use Rattle.step_laws.proofs.Kept.{Laws, IsGood, requester-sound}
 use Rattle.step_laws.proofs.Load.{few-entries}
 use Rattle.step_laws.proofs.Through.{RunsWell, through}
