@@ -3,3 +3,5 @@
 mod errors;
 mod rows;
 mod session;
+
+pub(crate) use session::CREDITS;

@@ -1,24 +1,14 @@
 //! A device beside the digits of its link.
+use crate::port::CREDITS;
 use arrayvec::ArrayVec;
 use config_core::Setup;
 use endpoint_core::Room;
 use endpoint_log::Recording;
-use flow_control::LaneCredits;
 use hex_text::HexLine;
 use link_crc::Check;
 use linked_endpoint::{Arrived, LinkedEndpoint};
 use port_core::DllpReceived;
 use std::alloc::{AllocError, Global};
-
-/// Completions are infinite.
-const CREDITS: LaneCredits = LaneCredits {
-    ph: 16,
-    pd: 64,
-    nph: 16,
-    npd: 16,
-    cplh: 0,
-    cpld: 0,
-};
 
 /// A device of 4096 bytes.
 pub fn device(alloc: Global) -> Result<LinkedEndpoint, AllocError> {
