@@ -2,3 +2,5 @@
 
 mod counts;
 mod rows;
+
+pub(crate) use rows::LEAST_CREDITS;

@@ -1,4 +1,5 @@
 //! Worked scripts, step by step; the numbers of refusals, and configurations.
+use crate::settle::LEAST_CREDITS;
 use crate::trials::{Trial, all_right, on_new};
 use fabric_core::{Config, ConfigFault, Fabric, Refusal};
 use fabric_rows::drive::{SMALL, Step, quiet, steps_so};
@@ -13,14 +14,7 @@ use tlp_core::TlpFault;
 
 /// One requester, 4096 bytes and the least credits.
 const LEAST: Config = Config {
-    credits: LaneCredits {
-        ph: 1,
-        pd: 8,
-        nph: 1,
-        npd: 2,
-        cplh: 1,
-        cpld: 8,
-    },
+    credits: LEAST_CREDITS,
     ..SMALL
 };
 

@@ -7,7 +7,7 @@ use std::alloc::Global;
 use tlp_core::{Op, Width};
 
 /// The least credits.
-pub(super) const LEAST: LaneCredits = LaneCredits {
+pub(crate) const LEAST_CREDITS: LaneCredits = LaneCredits {
     ph: 1,
     pd: 8,
     nph: 1,
@@ -39,7 +39,7 @@ const ROWS: [Row; 3] = [
     // Four hops, each in a round of its own.
     Row {
         requesters: 1,
-        credits: LEAST,
+        credits: LEAST_CREDITS,
         writes: 0,
         adds: 1,
         rounds: 5,
