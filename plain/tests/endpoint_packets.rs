@@ -9,6 +9,8 @@ fn name(bytes: &[u8]) -> u8 {
     match receive(bytes, &mut room) {
         Received::Posted(_) => b'P',
         Received::NonPosted(_) => b'N',
+        Received::PoisonedPosted(_) => b'p',
+        Received::PoisonedNonPosted(_) => b'n',
         Received::Configuration(_) => b'C',
         Received::Refused(_, Noted::Refused) => b'R',
         Received::Refused(_, _) => b'r',
@@ -89,6 +91,6 @@ fn a_digest_is_taken_off() {
     write[2] = 0;
     right &= name(&write) == b'L';
     write[2] = 0xC0;
-    right &= name(&write) == b'u';
+    right &= name(&write) == b'p';
     assert!(right);
 }

@@ -8,18 +8,22 @@ use search_engine::{
 use std::cell::Cell;
 use std::time::Duration;
 
-/// A log of 8 records that takes 7 choices.
+/// A log of 12 records that takes 6 choices.
 const HARD: &str = "\
-pciex-log 1
+pciex-log 2
 memory 0 4096 64
 sub 1 0 add 40 01000000
 sub 2 0 add 40 02000000
-sub 3 0 swap 44 01000000
-sub 4 0 swap 44 02000000
-sub 5 0 read 40 2 F F
-ans 5 0 data 0200000002000000
-sub 5 1 read 40 2 F F
-ans 5 1 data 0300000001000000
+sub 3 0 add 40 04000000
+sub 4 0 swap 44 01000000
+sub 7 0 read 40 2 F F
+ans 7 0 data 0600000000000000
+sub 7 1 read 40 2 F F
+ans 7 1 data 0700000001000000
+ans 1 0 done
+ans 2 0 done
+ans 3 0 done
+ans 4 0 done
 end
 ";
 
@@ -58,7 +62,7 @@ fn text(bytes: &[u8]) -> String {
 /// The lines that say after how many choices, of so many.
 fn choices(counts: &[u64], limit: u64) -> String {
     let lines = counts.iter().map(|count| format!("{count} of {limit} choices\n"));
-    format!("8 records\n{}", lines.collect::<String>())
+    format!("12 records\n{}", lines.collect::<String>())
 }
 
 #[test]
@@ -95,7 +99,7 @@ fn answers_end_at_their_bounds() {
     for (limit, work, status, answer, reasons) in [
         (1000, u64::MAX, 0, "pciex-trace 2\n", ""),
         (1000, 1, 3, "work 1\n", ""),
-        (1000, 600, 3, "work 600\n", farther),
+        (1000, 800, 3, "work 800\n", farther),
         (1, 1000, 3, "limit 1\n", told),
         (0, 1, 3, "limit 0\n", ""),
     ] {
