@@ -113,7 +113,7 @@ end
     },
     Row {
         name: "a search that is given up",
-        words: &["pciex", "search", "--limit", "4"],
+        words: &["pciex", "search", "--limit", "2"],
         input: "\
 pciex-log 1
 memory 0 4096 64
@@ -127,7 +127,7 @@ sub 5 1 read 40 2 F F
 ans 5 1 data 0300000001000000
 end
 ",
-        written: Written::Text("limit 4\n"),
+        written: Written::Text("limit 2\n"),
         told: "pciex: given up at line 8 (open requests: 3); --progress shows how far it is\npciex: lines 3 to 7 have a history\n",
         status: 3,
     },
