@@ -28,11 +28,11 @@ pub record Monitor : Type 0 where
   pub waiting : List Entry
 
 abbrev pub IsMonitor : Monitor → Type 0
-IsMonitor m = length m.requesters ≡ 8
+IsMonitor m = length m.requesters ≡ most_requesters + 1
 
 -- a monitor that has seen nothing
 abbrev pub new : Bool → Monitor
-new is_trace = record { is_trace = is_trace; acted = 0; requesters = replicate 8 fresh; waiting = [] }
+new is_trace = record { is_trace = is_trace; acted = 0; requesters = replicate (most_requesters + 1) fresh; waiting = [] }
 
 abbrev pub watched : Monitor → ℕ → Watched
 watched m i = get_or m.requesters i fresh

@@ -1,5 +1,5 @@
 //! The monitor.
-ghost use Rattle.std.specs.Prelude.{◌≡◌, ◌<◌, ◌≤◌, ◌∷◌, ◌++◌, [], true, length, replicate, position, Some, Err, IfOk, OnOk, IfErr, OnErr, IsOk};
+ghost use Rattle.std.specs.Prelude.{◌≡◌, ◌<◌, ◌≤◌, ◌+◌, ◌∷◌, ◌++◌, [], true, length, replicate, position, Some, Err, IfOk, OnOk, IfErr, OnErr, IsOk};
 ghost use Rattle.tlp_core.specs.Limits.{most_requesters};
 ghost use Rattle.history_words.specs.Trace.{is_request};
 ghost use Rattle.monitor_ports.specs.declared.fault.MonitorFault.TheVariants as faults;
@@ -13,10 +13,10 @@ use history_words::Record;
 use seq_memory::Entry;
 use std::alloc::{AllocError, Global};
 use std::marker::Model;
-use tlp_core::{OpRef, TlpRef, op_lent};
+use tlp_core::{OpRef, REQUESTERS, TlpRef, op_lent};
 
-/// The requesters, 1 to 7, and a place for 0.
-const PLACES: u8 = 8;
+/// A place for each requester, and one for 0.
+const PLACES: u8 = REQUESTERS + 1;
 
 /// A monitor of the ports of a memory. It writes the lines of a log or, with n's and a history, of a
 /// trace. It holds the open requests of each requester, in a trace also those that haven't acted.
@@ -43,7 +43,7 @@ impl Model for Monitor {
 
 /// The requesters of requesters that have sent nothing.
 fn new_requesters(alloc: Global) -> Result<Vec<Watched>, AllocError>
-    ensures { IfOk result (λ v. v.items ≡ replicate 8 fresh) }
+    ensures { IfOk result (λ v. v.items ≡ replicate (most_requesters + 1) fresh) }
 {
     let mut requesters = Vec::new(alloc);
     for _place in 0..PLACES {
