@@ -246,7 +246,9 @@ fn put(
         FaultKind::Last => put_changed(log, fault, item),
         FaultKind::Twice(by) => put_twice(log, by, place, &asked.what, item),
         FaultKind::Apart(by) => put_apart(log, by, &asked.what, &item.what),
-        FaultKind::Early(by, before) => { put_early(log, by, Move { place, before }, &asked.what, item) }
+        FaultKind::Early(by, before) => {
+            put_early(log, by, Move { place, before }, &asked.what, item)
+        }
         FaultKind::Refused(by) => put_refused(log, by, place, asked, item),
     }
 }

@@ -16,7 +16,9 @@ use log_events::Requests;
 use operation_text::write_decimal;
 use search_history::Budget;
 use search_picture::Scene;
-use search_reasons::{Case, Link, Reasons, Why, lines_of, named_by, reason_lines, reasons_with_faults};
+use search_reasons::{
+    Case, Link, Reasons, Why, lines_of, named_by, reason_lines, reasons_with_faults,
+};
 use std::alloc::{AllocError, Global};
 use trace_diagnostics::TraceLines;
 
