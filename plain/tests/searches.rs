@@ -99,7 +99,7 @@ fn answers_end_at_their_bounds() {
     for (limit, work, status, answer, reasons) in [
         (1000, u64::MAX, 0, "pciex-trace 2\n", ""),
         (1000, 1, 3, "work 1\n", ""),
-        (1000, 800, 3, "work 800\n", farther),
+        (1000, 1000, 3, "work 1000\n", farther),
         (1, 1000, 3, "limit 1\n", told),
         (0, 1, 3, "limit 0\n", ""),
     ] {

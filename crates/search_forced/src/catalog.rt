@@ -17,6 +17,8 @@ pub enum Way<'a> {
     Part,
     /// Through a whole log. These say when requests act in runs through its parts.
     Whole(&'a [Turn]),
+    /// The same, where requests that are idle are tried, too.
+    Open(&'a [Turn]),
 }
 
 /// What is known of a log's requests, and which way it is searched.
@@ -38,6 +40,9 @@ pub fn catalog_of<'a>(alloc: Global, log: &Log, way: Way<'a>) -> Result<Catalog<
 {
     let others = Others::of(alloc, log)?;
     let mut sketches = sketches_of(alloc, log)?;
+    if matches!(way, Way::Open(_)) {
+        others.end_looks();
+    }
     let calm = matches!(way, Way::Part);
     if calm {
         note_calm(&mut sketches, log, others.words());
@@ -73,7 +78,7 @@ impl Catalog<'_> {
     pub fn hints(&self) -> Hints<'_> {
         let turns: &[Turn] = match self.way {
             Way::Part => &[],
-            Way::Whole(turns) => turns,
+            Way::Whole(turns) | Way::Open(turns) => turns,
         };
         Hints {
             turns,

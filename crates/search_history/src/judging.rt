@@ -7,7 +7,7 @@ ghost use Rattle.log_runs.specs.Tasks.{AreAllEvents, IsWellFormed};
 ghost use Rattle.search_history.specs.Prepared.{IsLogOf};
 ghost use Rattle.search_history.specs.Runs.{IsOutcomeOf};
 ghost use Rattle.search_run.specs.Outcomes.{IsRight};
-ghost use Rattle.search_run.specs.Watched.{Saw};
+ghost use Rattle.search_run.specs.Watched.{Is, Saw};
 ghost use Rattle.search_history.specs.Looks.{IsPartOf};
 
 use crate::alone::{Field, explored_on, parts_of};
@@ -18,8 +18,9 @@ use log_runs::laws::{
     a_run_is_a_history, explainable_has_a_run, explainable_is_well_formed, prefix_is_explainable,
 };
 use log_runs::{Log, Step};
+use search_choices::Turn;
 use search_rules::first_unanswerable;
-use search_run::{Bound, Bounds, Outcome, Unwatched, Watch, Way, explore_watched};
+use search_run::{Bound, Bounds, Exploration, Outcome, Unwatched, Watch, Way, explore_watched};
 use search_words::first_overdrawn;
 use std::alloc::{AllocError, Global};
 use trace_store::RecordStore;
@@ -111,6 +112,43 @@ fn work_for_all(all: u64, half: u64, left: u64) -> u64
     (all - half).saturating_add(left)
 }
 
+/// Looks for a run through the log, first where requests that are idle are tried, too, with a quarter of the bounds: a run is
+/// found soon there, if many lead to the end. These turns are a guide.
+fn explored_whole<W: Watch>(
+    alloc: Global,
+    log: &Log<'_>,
+    turns: &[Turn],
+    bounds: Bounds,
+    watch: &mut W,
+) -> Result<Exploration, AllocError>
+    ensures right { IfOk result (λ r. IsRight log.now r.outcome) }
+    ensures states { IfOk result (λ r. r.states ≤ bounds.choices) }
+    ensures limit { IfOk result (λ r. r.outcome ≡ Outcome.Limit Bound.Choices → r.states ≡ bounds.choices) }
+    ensures work { IfOk result (λ r. r.outcome ≡ Outcome.Limit Bound.Work → bounds.work < 18446744073709551615) }
+    ensures less { IfOk result (λ r. r.outcome ≡ Outcome.Limit Bound.Work → r.states < bounds.choices) }
+    ensures spent { IfOk result (λ r. r.outcome ≡ Outcome.Limit Bound.Work → r.work ≡ 0) }
+    ensures saw { IfOk result (λ r. Saw W.sees (Is log.now) r.states watch.old watch.new) }
+{
+    let few = Bounds {
+        choices: bounds.choices / 4,
+        work: bounds.work / 4,
+    };
+    let first = explore_watched(alloc, log, Way::Open(turns), few, watch)?;
+    let work = work_for_all(bounds.work, few.work, first.work);
+    if !matches!(first.outcome, Outcome::Limit(_)) {
+        return Ok(Exploration { work, ..first });
+    }
+    let rest = Bounds {
+        choices: bounds.choices - first.states,
+        work,
+    };
+    let found = explore_watched(alloc, log, Way::Whole(turns), rest, watch)?;
+    Ok(Exploration {
+        states: first.states + found.states,
+        ..found
+    })
+}
+
 /// Looks for a run through the log, first through its part on each cell of the memory, with a tenth of
 /// the choices and half of the work. The runs through its parts are a guide to the whole.
 fn explored_parts<W: Watch>(
@@ -140,7 +178,7 @@ fn explored_parts<W: Watch>(
         choices: bounds.choices - parts.states,
         work,
     };
-    let found = explore_watched(alloc, log, Way::Whole(&parts.turns), rest, watch)?;
+    let found = explored_whole(alloc, log, &parts.turns, rest, watch)?;
     let clue = Clue {
         range: None,
         reach: found.reach,

@@ -136,7 +136,7 @@ pub fn is_idle(place: &Place, log: &Log, others: &Others, b: usize) -> bool
     requires others { AreOthers log.now others.now }
     ensures { IsTrue result → IsIdle log.now place.now.state b }
 {
-    if !is_undue(log, others, b) {
+    if !others.has_looks() || !is_undue(log, others, b) {
         return false;
     }
     let Some(Event::Sub { op, .. }) = log.event(b) else {

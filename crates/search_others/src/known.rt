@@ -43,6 +43,16 @@ impl Others {
         })
     }
 
+    /// Nobody is seen to be idle from here on.
+    pub fn end_looks(&self) {
+        self.looks.set(0);
+    }
+
+    /// Looks may still be made to see who is idle.
+    pub(crate) fn has_looks(&self) -> bool {
+        self.looks.get() > 0
+    }
+
     /// Takes so many of the looks that may be made to see who is idle; false, if there are fewer.
     pub(crate) fn take_looks(&self, count: u64) -> bool {
         let looks = self.looks.get();
